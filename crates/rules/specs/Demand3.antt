@@ -1,0 +1,64 @@
+-- Demand 3: "Any accepted script, translated and run on a zeroed frame of exactly the reported size, prints what the script means ..;
+-- no load or store falls outside the frame", stated for every placement. Assumes nothing.
+use mathlib.Core.Path.{_≡_}
+use mathlib.Core.Bool.{Bool, true, false}
+use mathlib.Core.Option.{Option, none, some}
+use mathlib.Core.List.{List, [], _∷_}
+use Prim.Native.Nat.{ℕ, zero, suc, _+_, _*_, _≤_, _<_}
+use lib.ListN.{length, drop}
+use Rattle.rules.specs.Sizes.{Room}
+use Rattle.rules.specs.Slots.{Slots, Placed, Placement, freshSlots, remove}
+use Rattle.rules.specs.Frames.{State, start, Frame, Line, accepted, steps}
+use Rattle.rules.specs.Meaning.{Ran, obey, high, meaning}
+use Rattle.rules.specs.Text.{split, Script, frames, unread, scriptFrom, listText, listed, listFrom}
+use Rattle.rules.specs.Entries.{translated, RunOutcome, ran, ranOn}
+
+-- ---- fair placements
+
+-- the n slots from `p .address` on were clear and are occupied, and no other slot changed
+pub record Gives (n : ℕ) (s : Slots) (p : Placed) : Type 0 where
+  pub clear : (i : ℕ) → i < n → s .occupied (p .address + i) ≡ false
+  pub taken : (i : ℕ) → i < n → p .next .occupied (p .address + i) ≡ true
+  pub kept : (b : ℕ) → s .occupied b ≡ true → p .next .occupied b ≡ true
+  pub only : (b : ℕ) → p .next .occupied b ≡ true → s .occupied b ≡ false → (p .address ≤ b) × (b < p .address + n)
+
+-- "any placement that only gives clear slots, those of a run consecutive", all below the room; InOrder is what it needs of the slots,
+-- which hold it from the fresh ones on.
+pub record Fair (room : Room) (place : Placement) (InOrder : Slots → Type 0) : Type 0 where
+  pub at-first : InOrder freshSlots
+  pub removed : (a : ℕ) (s : Slots) → InOrder s → InOrder (remove a s)
+  pub placed : (n : ℕ) (s : Slots) (p : Placed) → place n s ≡ some p → InOrder s
+      → InOrder (p .next) × Gives n s p × (p .address + n ≤ 128 * room .segments)
+
+-- ---- on decoded lists
+
+-- On cells, as many as the size at least, the list loads what the script means, and every address is below the size.
+pub record Holds (room : Room) (place : Placement) (fs : List Frame) (ls : List Line) (size : ℕ) : Type 0 where
+  pub prints : (cells : List ℕ) → size ≤ length cells → obey cells ls .loaded ≡ meaning room place start (λ h. 0) fs
+  pub inside : high size 0 ls ≡ none
+
+unfoldable pub Demand3 : Room → Placement → Type 0
+Demand3 room place = (fs : List Frame) (ls : List Line) (size : ℕ) → steps room place 0 start fs ≡ accepted ls size → Holds room place fs ls size
+
+-- ---- on bytes
+
+unfoldable pub scriptMeaning : Room → Placement → List ℕ → List ℕ
+scriptMeaning room place script =
+    elim (scriptFrom room 0 (split script)) [ frames fs ↦ meaning room place start (λ h. 0) fs | unread n i ↦ [] ]
+
+-- The frame machine accepts the list's bytes on these cells and loads these values; the cells from `size` on stay.
+pub record Runs (room : Room) (size : ℕ) (cells list values : List ℕ) : Type 0 where
+  pub last : List ℕ
+  pub runs : ranOn room cells list ≡ ran (record { cells = last; loaded = values })
+  pub above : drop size last ≡ drop size cells
+
+unfoldable pub Demand3Bytes : Room → Placement → Type 0
+Demand3Bytes room place =
+    (script : List ℕ) (ls : List Line) (size : ℕ) → translated room place script ≡ accepted ls size
+    → (cells : List ℕ) → size ≤ length cells → Runs room size cells (listText ls size) (scriptMeaning room place script)
+
+-- a list that we wrote reads back as the same lines and size
+unfoldable pub RoundTrip : Room → Placement → Type 0
+RoundTrip room place =
+    (script : List ℕ) (ls : List Line) (size : ℕ) → translated room place script ≡ accepted ls size
+    → listFrom room 0 (split (listText ls size)) ≡ listed ls size

@@ -1,0 +1,13 @@
+pub mod Notation
+pub mod Sizes
+pub mod Slots
+pub mod AddressSets
+pub mod Scopes
+pub mod Needs
+pub mod Frames
+pub mod Sound
+pub mod Meaning
+pub mod Text
+pub mod Entries
+pub mod Demand3
+pub mod Sessions

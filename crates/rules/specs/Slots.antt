@@ -1,0 +1,121 @@
+-- Document 01, "Slots". `n` is the most segments there may be. Assumes nothing.
+use mathlib.Core.Bool.{Bool, true, false, not, _&&_}
+use mathlib.Core.Option.{Option, none, some}
+use mathlib.Core.List.{List, [], _∷_}
+use Prim.Native.Nat.{ℕ, zero, suc, _+_, _*_, _-_, _/_, _%_, min}
+use lib.Dec.{eqb, ltb}
+use Rattle.rules.specs.Notation.{isSome, orElse, put, first, pastLast}
+
+-- "State: the occupied slots, segment count L, head segment H."
+pub record Slots : Type 0 where
+  pub occupied : ℕ → Bool
+  pub segments : ℕ
+  pub head : ℕ
+
+-- "Fresh: none, 0, 0."
+unfoldable pub freshSlots : Slots
+freshSlots = record { occupied = λ a. false; segments = 0; head = 0 }
+
+-- an address that is given, and the slots afterwards; where there is none, the call is refused by 7
+pub record Placed : Type 0 where
+  pub address : ℕ
+  pub next : Slots
+
+abbrev pub placed : ℕ → Slots → Option Placed
+placed a s = some (record { address = a; next = s })
+
+-- ---- insert
+
+-- the lowest clear slot of segment g, if it has one
+unfoldable pub clearIn : (ℕ → Bool) → ℕ → Option ℕ
+clearIn occupied g = first (λ a. not (occupied a)) (128 * g) 128
+
+abbrev pub hasClear : (ℕ → Bool) → ℕ → Bool
+hasClear occupied g = isSome (clearIn occupied g)
+
+abbrev pub lowestClear : (ℕ → Bool) → ℕ → ℕ
+lowestClear occupied g = orElse (clearIn occupied g) (128 * g)
+
+-- "start at segment min(H, L)"
+abbrev pub startOf : Slots → ℕ
+startOf s = min (s .head) (s .segments)
+
+-- "The first segment from there, below L, with a clear slot"
+unfoldable pub firstWithClear : Slots → Option ℕ
+firstWithClear s = first (hasClear (s .occupied)) (startOf s) (s .segments - startOf s)
+
+-- ".. gives its lowest clear slot; H becomes that segment."
+unfoldable pub insertInto : ℕ → Slots → Option Placed
+insertInto g s =
+    placed (lowestClear (s .occupied) g)
+    (record { occupied = put (s .occupied) (lowestClear (s .occupied) g) true; segments = s .segments; head = g })
+
+-- "If there is none, the address is 128·L, H becomes L, then L grows by one; refused (7) exactly if L is 8."
+unfoldable pub insertNew : ℕ → Slots → Option Placed
+insertNew n s =
+    elim (eqb (s .segments) n) [
+      | true ↦ none
+      | false ↦ placed (128 * s .segments) (record { occupied = put (s .occupied) (128 * s .segments) true; segments = s .segments + 1; head = s .segments })
+    ]
+
+unfoldable pub insert : ℕ → Slots → Option Placed
+insert n s = elim (firstWithClear s) [ some g ↦ insertInto g s | none ↦ insertNew n s ]
+
+-- ---- push
+
+-- "g is one past the greatest occupied slot, 0 if none"
+unfoldable pub pastGreatest : ℕ → Slots → ℕ
+pastGreatest n s = pastLast (s .occupied) (128 * n)
+
+-- "g becomes occupied. If g is a multiple of 128, L becomes g/128 + 1, which may shrink it; otherwise L stays. H stays."
+unfoldable pub pushAt : ℕ → Slots → Slots
+pushAt g s = record { occupied = put (s .occupied) g true; segments = elim (eqb (g % 128) 0) [ true ↦ g / 128 + 1 | false ↦ s .segments ]; head = s .head }
+
+-- "refused (7) exactly if g is 1,024"
+unfoldable pub push : ℕ → Slots → Option Placed
+push n s =
+    elim (eqb (pastGreatest n s) (128 * n)) [
+      | true ↦ none
+      | false ↦ placed (pastGreatest n s) (pushAt (pastGreatest n s) s)
+    ]
+
+-- ---- remove
+
+-- "at segment L or above it answers no. Removing a slot that is clear answers no and changes nothing."
+unfoldable pub removes : ℕ → Slots → Bool
+removes a s = ltb (a / 128) (s .segments) && s .occupied a
+
+-- "Otherwise the slot is cleared and H becomes its segment."
+unfoldable pub remove : ℕ → Slots → Slots
+remove a s =
+    elim (removes a s) [
+      | true ↦ record { occupied = put (s .occupied) a false; segments = s .segments; head = a / 128 }
+      | false ↦ s
+    ]
+
+unfoldable pub removeAll : List ℕ → Slots → Slots
+removeAll [] s = s
+removeAll (a ∷ more) s = removeAll more (remove a s)
+
+-- ---- where the slots of an allocation go
+
+-- A placement gives the n slots (n ≥ 1) of an allocation, by the first address; the others follow it.
+abbrev pub Placement : Type 0
+Placement = ℕ → Slots → Option Placed
+
+-- n pushes, of which the first gives g
+unfoldable pub pushes : ℕ → ℕ → Slots → Slots
+pushes g zero s = s
+pushes g (suc n) s = pushes (suc g) n (pushAt g s)
+
+-- "pushes n times, refused (7) exactly if g + n > 1,024"
+unfoldable pub pushRun : ℕ → Placement
+pushRun m n s =
+    elim (ltb (128 * m) (pastGreatest m s + n)) [
+      | true ↦ none
+      | false ↦ placed (pastGreatest m s) (pushes (pastGreatest m s) n s)
+    ]
+
+-- Edition 1: one slot by insert, a run of two or more by pushes.
+unfoldable pub edition1 : ℕ → Placement
+edition1 m n s = elim (eqb n 1) [ true ↦ insert m s | false ↦ pushRun m n s ]
