@@ -1,1 +1,4 @@
+pub mod Chains
+pub mod Tables
+pub mod Sets
 pub mod Sessions

@@ -1,0 +1,37 @@
+-- What holds of whatever an answer gives. A chain of refusals is gone through from the goal: one lemma for each line of a `do`.
+-- Assumes nothing.
+use mathlib.Core.Path.{_≡_, refl, sym, ap, subst}
+use mathlib.Core.Bool.{Bool, true, false}
+use mathlib.Core.Option.{Option, none, some}
+use Prim.Native.Nat.{ℕ}
+use native.Mathlib.Omega.{arith}
+use Rattle.rules.specs.Notation.{Answer, given, refused, _>>=_, refuse_when_, refuse_unless_, if_then_else_}
+
+pub record All {A : Type 0} (P : A → Type 0) (m : Answer A) : Type 0 where
+  pub at : (a : A) → m ≡ given a → P a
+
+pub all-given : {A : Type 0} {P : A → Type 0} {a : A} → P a → All P (given a)
+all-given {P = P} h = record { at = λ b e. subst P (cc) h }
+
+pub all-then : {A B : Type 0} {P : B → Type 0} {m : Answer A} {f : A → Answer B} → ((a : A) → m ≡ given a → All P (f a)) → All P (m >>= f)
+unfolding _>>=_
+all-then {m = given a} h = h a refl
+all-then {m = refused n} h = record { at = λ b e. absurd (let z : _≡_ {A = ℕ} 0 1 = cc in omega arith) }
+
+pub all-when : {B : Type 0} {P : B → Type 0} (n : ℕ) {b : Bool} (f : Unit {0} → Answer B) → (b ≡ false → All P (f tt)) → All P ((refuse n when b) >>= f)
+unfolding _>>=_ refuse_when_
+all-when n {b = true} f h = record { at = λ b e. absurd (let z : _≡_ {A = ℕ} 0 1 = cc in omega arith) }
+all-when n {b = false} f h = h refl
+
+pub all-unless : {A B : Type 0} {P : B → Type 0} (n : ℕ) {o : Option A} {f : A → Answer B} → ((a : A) → o ≡ some a → All P (f a)) → All P ((refuse n unless o) >>= f)
+unfolding _>>=_ refuse_unless_
+all-unless n {o = none} h = record { at = λ b e. absurd (let z : _≡_ {A = ℕ} 0 1 = cc in omega arith) }
+all-unless n {o = some a} h = h a refl
+
+pub all-if : {B : Type 0} {P : B → Type 0} {b : Bool} {m n : Answer B} → (b ≡ true → All P m) → (b ≡ false → All P n) → All P (if b then m else n)
+unfolding if_then_else_
+all-if {b = true} x y = x refl
+all-if {b = false} x y = y refl
+
+pub none-some {ℓ} : {A : Type 0} {X : Type ℓ} {a : A} → none ≡ some a → X
+none-some e = absurd (let z : _≡_ {A = ℕ} 0 1 = cc in omega arith)
