@@ -3,4 +3,6 @@ pub mod Tables
 pub mod Sets
 pub mod Searches
 pub mod Placing
+pub mod Editions
+pub mod Core
 pub mod Sessions
