@@ -5,4 +5,6 @@ pub mod Searches
 pub mod Placing
 pub mod Editions
 pub mod Core
+pub mod Effects
+pub mod Demand3
 pub mod Sessions
