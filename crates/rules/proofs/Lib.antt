@@ -7,4 +7,6 @@ pub mod Editions
 pub mod Core
 pub mod Effects
 pub mod Demand3
+pub mod Digits
+pub mod Lists
 pub mod Sessions
