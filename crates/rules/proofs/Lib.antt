@@ -2,3 +2,4 @@ pub mod Chains
 pub mod Tables
 pub mod Sets
 pub mod Sessions
+pub mod Sound
