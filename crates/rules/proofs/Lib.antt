@@ -3,3 +3,8 @@ pub mod Tables
 pub mod Sets
 pub mod Sessions
 pub mod Sound
+pub mod Tells
+pub mod Counts
+pub mod Climb
+pub mod Tests
+pub mod HandleTests
