@@ -10,3 +10,9 @@ pub mod Demand3
 pub mod Digits
 pub mod Lists
 pub mod Sessions
+pub mod Sound
+pub mod Tells
+pub mod Counts
+pub mod Climb
+pub mod Tests
+pub mod HandleTests
