@@ -10,13 +10,13 @@ use borrow.Author.Tests.{eqb-true, ltb-true, lt-ltb}
 use Rattle.rules.specs.Notation.{allBelow}
 use Rattle.rules.specs.Text.{digit, value, word, words, hex2, hex4, hexes, both, Raw, raw}
 use Rattle.rules.proofs.Chains.{none-some}
-use Rattle.rules.proofs.Searches.{all-below}
+use Rattle.rules.proofs.Tells.{tells-true, tells-below}
 
 -- ---- written
 
 value-digit : (n : ℕ) → n < 16 → value (digit n) ≡ n
 unfolding value digit allBelow
-value-digit n h = eqb-true (value (digit n)) n (all-below (λ k. eqb (value (digit k)) k) 16 refl n h)
+value-digit n h = eqb-true (value (digit n)) n (tells-below {f = λ k. eqb (value (digit k)) k} 16 (λ k _. tells-true _) .holds refl n h)
 
 word-digits : (n : ℕ) → n < 65536 → word (digit (n / 4096)) (digit (n / 256 % 16)) (digit (n / 16 % 16)) (digit (n % 16)) ≡ some n
 unfolding word

@@ -1,59 +1,37 @@
--- Edition 1 is a fair placement, on slots that are in order: those that the test of soundness passes. Assumes nothing.
+-- Edition 1 is a fair placement: on slots that are in order, and so on those that are sound. Assumes nothing.
 use mathlib.Core.Path.{_≡_, refl, sym, ap, subst, _∙_}
 use mathlib.Core.Bool.{Bool, true, false, not, _&&_, true≢false}
 use mathlib.Core.Option.{Option, none, some}
 use Prim.Native.Nat.{ℕ, zero, suc, _+_, _*_, _-_, _/_, _%_, _≤_, _<_}
 use native.Mathlib.Omega.{arith}
 use lib.Dec.{eqb, leb, ltb}
-use borrow.Author.Tests.{eqb-true, eqb-false, ltb-true, ltb-false, lt-ltb, le-leb, leb-true, not-true}
-use Rattle.rules.specs.Notation.{put, pastLast, implies, allBelow}
+use borrow.Author.Tests.{eqb-true, eqb-false, ltb-true, ltb-false, not-true}
+use Rattle.rules.specs.Notation.{put, pastLast}
 use Rattle.rules.specs.Sizes.{Room}
 use Rattle.rules.specs.Slots.{Slots, Placed, Placement, freshSlots, startOf, insert, insertNew, pastGreatest, pushAt, pushes, pushRun, remove, removes, edition1}
 use Rattle.rules.specs.Sound.{soundSlots}
 use Rattle.rules.specs.Demand3.{Gives, Fair}
 use Rattle.rules.proofs.Chains.{none-some}
 use Rattle.rules.proofs.Tables.{by-eqb, put-same, put-other}
-use Rattle.rules.proofs.Searches.{is-false, first-found, past-within, past-above, past-last, all-below, below-all}
+use Rattle.rules.proofs.Tells.{is-false, tells-and, tells-true}
+use Rattle.rules.proofs.Sound.{SlotsSound}
+use Rattle.rules.proofs.Tests.{tells-slots}
+use Rattle.rules.proofs.Searches.{first-found, past-within, past-above, past-last}
 use Rattle.rules.proofs.Placing.{clear, leastClear, insertShort, insert-short}
 
 -- ---- slots in order
 
--- what the test says; where there is no room, H is below nothing
+-- what soundness says of slots; H only where there is room, as the fresh ones have none
 pub record InOrder (n : ℕ) (s : Slots) : Type 0 where
   pub segments : s .segments ≤ n
   pub head : 0 < n → s .head < n
   pub low : (a : ℕ) → a < 128 * n → s .occupied a ≡ true → a < 128 * s .segments
 
-both : (a b : Bool) → a && b ≡ true → (a ≡ true) × (b ≡ true)
-both true true e = (refl, refl)
-both true false e = absurd (true≢false (sym e))
-both false b e = absurd (true≢false (sym e))
+pub sound-in-order : (n : ℕ) (s : Slots) → SlotsSound n s → InOrder n s
+sound-in-order n s o = record { segments = o .segments; head = λ _. o .head; low = o .low }
 
-abbrev lowAt : Slots → ℕ → Bool
-lowAt s a = implies (s .occupied a) (ltb (a / 128) (s .segments))
-
-pub sound-in-order : (n : ℕ) (s : Slots) → soundSlots n s ≡ true → InOrder n s
-unfolding soundSlots
-sound-in-order n s e =
-    let x = both (leb (s .segments) n && ltb (s .head) n) (allBelow (lowAt s) (128 * n)) e in
-    let y = both (leb (s .segments) n) (ltb (s .head) n) (x .0) in
-    record {
-      segments = leb-true (s .segments) n (y .0);
-      head = λ pos. ltb-true (s .head) n (y .1);
-      low = λ a h o.
-          let t : ltb (a / 128) (s .segments) ≡ true = rw o at (all-below (lowAt s) (128 * n) (x .1) a h) in
-          omega (arith, ltb-true (a / 128) (s .segments) t);
-    }
-
-pub in-order-sound : (n : ℕ) (s : Slots) → 0 < n → InOrder n s → soundSlots n s ≡ true
-unfolding soundSlots
-in-order-sound n s pos o =
-    rw (le-leb (s .segments) n (o .segments), lt-ltb (s .head) n (o .head pos))
-    (below-all (lowAt s) (128 * n) (λ a h. test a h (s .occupied a) refl))
-  where
-    test : (a : ℕ) → a < 128 * n → (b : Bool) → s .occupied a ≡ b → lowAt s a ≡ true
-    test a h true e = rw e (lt-ltb (a / 128) (s .segments) (omega (arith, o .low a h e)))
-    test a h false e = rw e
+pub in-order-sound : (n : ℕ) (s : Slots) → 0 < n → InOrder n s → SlotsSound n s
+in-order-sound n s pos o = record { segments = o .segments; head = o .head pos; low = o .low }
 
 -- a slot of a table after `put`: the one put, or as it was
 put-true : (f : ℕ → Bool) (a b : ℕ) (x : Bool) → put f a x b ≡ true → (a ≡ b → ⊥) → f b ≡ true
@@ -76,7 +54,7 @@ module _ (n : ℕ) where
           rw (e, remove)
           (record {
             segments = o .segments;
-            head = λ pos. omega (arith, o .segments, ltb-true (a / 128) (s .segments) (both _ _ e .0));
+            head = λ pos. omega (arith, o .segments, ltb-true (a / 128) (s .segments) (tells-and (tells-true _) (tells-true _) .holds e .0));
             low = λ b h p. o .low b h (put-true (s .occupied) a b false p (λ q. true≢false (sym p ∙ subst (λ (c : ℕ). put (s .occupied) a false c ≡ false) q (put-same (s .occupied) a false))));
           })
       go false e = rw (e, remove) o
@@ -241,13 +219,19 @@ edition1-fair room =
       placed = λ m s p e o. edition1-given (room .segments) m s o p e;
     }
 
--- with the test itself, where there is room at all
-pub edition1-sound : (room : Room) → 0 < room .segments → Fair room (edition1 (room .segments)) (λ s. soundSlots (room .segments) s ≡ true)
-edition1-sound room pos =
-    let f = edition1-fair room in
-    let n = room .segments in
+-- a placement that is fair on some slots is fair on the same slots, said otherwise
+pub fair-as : {room : Room} {place : Placement} {P Q : Slots → Type 0} → ((s : Slots) → P s → Q s) → ((s : Slots) → Q s → P s) → Fair room place P → Fair room place Q
+fair-as there back f =
     record {
-      at-first = in-order-sound n freshSlots pos (f .at-first);
-      removed = λ a s o. in-order-sound n (remove a s) pos (f .removed a s (sound-in-order n s o));
-      placed = λ m s p e o. let g = f .placed m s p e (sound-in-order n s o) in (in-order-sound n (p .next) pos (g .0), g .1, g .2);
+      at-first = there freshSlots (f .at-first);
+      removed = λ a s o. there (remove a s) (f .removed a s (back s o));
+      placed = λ m s p e o. let g = f .placed m s p e (back s o) in (there (p .next) (g .0), g .1, g .2);
     }
+
+-- on sound slots, as a record and as the test, where there is room at all
+module _ (room : Room) (pos : 0 < room .segments) where
+  pub edition1-fair-sound : Fair room (edition1 (room .segments)) (SlotsSound (room .segments))
+  edition1-fair-sound = fair-as (λ s. in-order-sound (room .segments) s pos) (sound-in-order (room .segments)) (edition1-fair room)
+
+  pub edition1-fair-test : Fair room (edition1 (room .segments)) (λ s. soundSlots (room .segments) s ≡ true)
+  edition1-fair-test = fair-as (λ s. tells-slots (room .segments) s .shows) (λ s. tells-slots (room .segments) s .holds) edition1-fair-sound

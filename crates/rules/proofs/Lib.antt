@@ -1,6 +1,12 @@
 pub mod Chains
 pub mod Tables
 pub mod Sets
+pub mod Sound
+pub mod Tells
+pub mod Counts
+pub mod Climb
+pub mod Tests
+pub mod HandleTests
 pub mod Searches
 pub mod Placing
 pub mod Editions
@@ -10,9 +16,3 @@ pub mod Demand3
 pub mod Digits
 pub mod Lists
 pub mod Sessions
-pub mod Sound
-pub mod Tells
-pub mod Counts
-pub mod Climb
-pub mod Tests
-pub mod HandleTests

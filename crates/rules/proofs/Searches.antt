@@ -1,17 +1,12 @@
--- What `first`, `pastLast` and `allBelow` find, both ways. Assumes nothing.
+-- What `first` and `pastLast` find, both ways. Assumes nothing.
 use mathlib.Core.Path.{_≡_, refl, sym, ap, subst, _∙_}
 use mathlib.Core.Bool.{Bool, true, false, true≢false}
 use mathlib.Core.Option.{Option, none, some}
 use Prim.Native.Nat.{ℕ, zero, suc, _+_, _≤_, _<_}
 use native.Mathlib.Omega.{arith}
-use Rattle.rules.specs.Notation.{first, pastLast, allBelow}
+use Rattle.rules.specs.Notation.{first, pastLast}
 use Rattle.rules.proofs.Chains.{none-some}
 use Rattle.rules.proofs.Tables.{by-eqb}
-
--- what cannot pass fails
-pub is-false : (b : Bool) → (b ≡ true → ⊥) → b ≡ false
-is-false true never = absurd (never refl)
-is-false false never = refl
 
 module _ (f : ℕ → Bool) where
   -- a is the first place, among the n from i on, that passes
@@ -105,18 +100,3 @@ module _ (f : ℕ → Bool) where
       go : (x : Bool) → f n ≡ x → (pastLast f n ≡ suc m → f m ≡ true) → f m ≡ true
       go true q ih = let r : suc n ≡ suc m = rw (q, pastLast) at e in subst (λ (c : ℕ). f c ≡ true) (omega arith) q
       go false q ih = ih (rw (q, pastLast) at e)
-
-  -- a test that passes at every place below n
-  pub all-below : (n : ℕ) → allBelow f n ≡ true → (a : ℕ) → a < n → f a ≡ true
-  unfolding allBelow
-  all-below zero e a h = absurd (omega arith)
-  all-below (suc n) e a h = go (f n) refl (λ x l. all-below n x a l)
-    where
-      go : (x : Bool) → f n ≡ x → (allBelow f n ≡ true → a < n → f a ≡ true) → f a ≡ true
-      go true q ih = by-eqb n a (λ p. subst (λ (c : ℕ). f c ≡ true) p q) (λ ne. ih (rw (q, allBelow) at e) (omega (arith, ne)))
-      go false q ih = absurd (true≢false (sym (rw (q, allBelow) at e)))
-
-  pub below-all : (n : ℕ) → ((a : ℕ) → a < n → f a ≡ true) → allBelow f n ≡ true
-  unfolding allBelow
-  below-all zero h = refl
-  below-all (suc n) h = rw (h n (omega arith), allBelow) (below-all n (λ a l. h a (omega arith)))
