@@ -15,4 +15,5 @@ pub mod Effects
 pub mod Demand3
 pub mod Digits
 pub mod Lists
+pub mod Small
 pub mod Sessions
