@@ -28,12 +28,12 @@ record Same (c d : Scopes) : Type 0 where
   slots : d .slots ≡ c .slots
   size : d .size ≡ c .size
 
-record Allocated (place : Placement) (n : ℕ) (c : Scopes) (r : ℕ × Scopes) : Type 0 where
-  placed : Placed
-  from : place n (c .slots) ≡ some placed
-  address : r .0 ≡ placed .address
-  slots : r .1 .slots ≡ placed .next
-  size : r .1 .size ≡ max (c .size) (placed .address + n)
+pub record Allocated (place : Placement) (n : ℕ) (c : Scopes) (r : ℕ × Scopes) : Type 0 where
+  pub placed : Placed
+  pub from : place n (c .slots) ≡ some placed
+  pub address : r .0 ≡ placed .address
+  pub slots : r .1 .slots ≡ placed .next
+  pub size : r .1 .size ≡ max (c .size) (placed .address + n)
 
 record Returned (a : ℕ) (c d : Scopes) : Type 0 where
   slots : d .slots ≡ remove a (c .slots)
@@ -60,7 +60,7 @@ module _ (room : Room) (c : Scopes) where
   unfolding takeName
   take-same name = all-then λ b _. all-given (record { slots = refl; size = refl })
 
-  allocated : (place : Placement) (k : Found) (n : ℕ) → All (Allocated place n c) (allocate place k n c)
+  pub allocated : (place : Placement) (k : Found) (n : ℕ) → All (Allocated place n c) (allocate place k n c)
   unfolding allocate setScope
   allocated place k n = all-unless 7 λ p e. all-given (record { placed = p; from = e; address = refl; slots = refl; size = refl })
 

@@ -16,4 +16,5 @@ pub mod Demand3
 pub mod Digits
 pub mod Lists
 pub mod Small
+pub mod Fits
 pub mod Sessions

@@ -113,7 +113,7 @@ module _ {P : Binding → Type 0} where
       go none q ih = none-some (rw (q, lookup) at e)
       go (some k) q ih = in-scope k q (ih k) (boundIn i name (c .bindings)) refl
 
-  every-got : (room : Room) (c : Scopes) (name : ℕ) → Every P (c .bindings) → All P (getName room name c)
+  pub every-got : (room : Room) (c : Scopes) (name : ℕ) → Every P (c .bindings) → All P (getName room name c)
   unfolding getName
   every-got room c name r = all-unless 3 λ _ _. all-unless 10 λ b e. all-when 11 _ λ _. all-given (every-lookup (room .scopes) c name (c .top) r b e)
 
