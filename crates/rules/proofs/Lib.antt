@@ -17,4 +17,6 @@ pub mod Digits
 pub mod Lists
 pub mod Small
 pub mod Fits
+pub mod Scripts
+pub mod Bytes
 pub mod Sessions
