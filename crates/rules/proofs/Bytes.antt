@@ -23,7 +23,7 @@ use Rattle.rules.proofs.Lists.{FitLines, no-lines, reads-back}
 use Rattle.rules.proofs.Small.{Small, small-step, small-start}
 use Rattle.rules.proofs.Fits.{Wide, base-wide, OneFit, fit-on, one-length, fits-step}
 use Rattle.rules.proofs.Scripts.{FitFrames, no-frames, frames-on, read-well}
-use Rattle.rules.proofs.Demand3.{tail, demand3}
+use Rattle.rules.proofs.Demand3.{tail, next-frame, no-frame, demand3}
 use Rattle.rules.proofs.Editions.{InOrder, edition1-fair}
 
 -- ---- the frame machine
@@ -72,13 +72,14 @@ module _ (room : Room) (place : Placement) (Ord : Slots → Type 0) (fair : Fair
 
   written : {fs : List Frame} → FitFrames fs → (i : ℕ) (s : State) (ls : List Line) (size : ℕ) → i + length fs ≤ room .lines → Small (128 * room .segments) Ord i s
       → steps room place i s fs ≡ accepted ls size → Written fs ls size
-  unfolding steps onward
+  unfolding onward
   written no-frames i s ls size h small e =
+      let end = no-frame room place i s in
       let el : [] ≡ ls = cc in
       let es : s .scopes .size ≡ size = cc in
       record { fits = subst FitLines el no-lines; lengths = ap length (sym el); within = omega (arith, small .scopes .size, wide .slots) }
   written (frames-on {f = f} {fs = fs} ff more) i s ls size h small e =
-      go (step room place s f) refl e (λ t rest k x. written more (suc i) t rest size (omega arith) k x)
+      go (step room place s f) refl (sym (next-frame room place i s f fs) ∙ e) (λ t rest k x. written more (suc i) t rest size (omega arith) k x)
     where
       go : (a : Step) → step room place s f ≡ a → onward i a (λ t. steps room place (suc i) t fs) ≡ accepted ls size
           → ((t : State) (rest : List Line) → Small (128 * room .segments) Ord (suc i) t → steps room place (suc i) t fs ≡ accepted rest size → Written fs rest size)

@@ -39,6 +39,16 @@ at-start cells =
       same = λ h p q. absurd (true≢false (sym p));
     }
 
+-- frame by frame: each is judged in the state that the one before it left; at the end stands that state's size
+module _ (room : Room) (place : Placement) (i : ℕ) (s : State) where
+  pub next-frame : (f : Frame) (fs : List Frame) → steps room place i s (f ∷ fs) ≡ onward i (step room place s f) (λ t. steps room place (suc i) t fs)
+  unfolding steps
+  next-frame f fs = refl
+
+  pub no-frame : steps room place i s [] ≡ accepted [] (s .scopes .size)
+  unfolding steps
+  no-frame = refl
+
 module _ (room : Room) (place : Placement) (Ord : Slots → Type 0) (fair : Fair room place Ord) where
   -- an accepted script as a trace, whose deeds tell what the script means
   record Traced (fs : List Frame) (s : State) (ls : List Line) (size : ℕ) : Type 0 where
@@ -64,12 +74,13 @@ module _ (room : Room) (place : Placement) (Ord : Slots → Type 0) (fair : Fair
       }
 
   traced : (fs : List Frame) (i : ℕ) (s : State) (ls : List Line) (size : ℕ) → Ord (s .scopes .slots) → steps room place i s fs ≡ accepted ls size → Traced fs s ls size
-  unfolding steps meaning
+  unfolding meaning
   traced [] i s ls size o e =
+      let end = no-frame room place i s in
       let el : [] ≡ ls = cc in
       let es : s .scopes .size ≡ size = cc in
       record { deeds = []; trace = subst (λ (n : ℕ). Trace (view s) [] ls n) es (subst (λ (y : List Line). Trace (view s) [] y (s .scopes .size)) el ends); means = λ boxes. refl }
-  traced (f ∷ fs) i s ls size o e = one-more f fs i s ls size o (step room place s f) refl e (λ t rest k q. traced fs (suc i) t rest size k q)
+  traced (f ∷ fs) i s ls size o e = one-more f fs i s ls size o (step room place s f) refl (sym (next-frame room place i s f fs) ∙ e) (λ t rest k q. traced fs (suc i) t rest size k q)
 
   start-in-order : Ord (start .scopes .slots)
   unfolding start freshScopes

@@ -8,7 +8,7 @@ use lib.Dec.{eqb, leb, ltb}
 use borrow.Author.Tests.{eqb-true, eqb-false, ltb-true, ltb-false, not-true}
 use Rattle.rules.specs.Notation.{put, pastLast}
 use Rattle.rules.specs.Sizes.{Room}
-use Rattle.rules.specs.Slots.{Slots, Placed, Placement, freshSlots, startOf, insert, insertNew, pastGreatest, pushAt, pushes, pushRun, remove, removes, edition1}
+use Rattle.rules.specs.Slots.{Slots, Placed, Placement, freshSlots, insert, insertNew, pastGreatest, pushAt, pushes, pushRun, remove, removes, edition1}
 use Rattle.rules.specs.Sound.{soundSlots}
 use Rattle.rules.specs.Demand3.{Gives, Fair}
 use Rattle.rules.proofs.Chains.{none-some}
@@ -17,7 +17,7 @@ use Rattle.rules.proofs.Tells.{is-false, tells-and, tells-true}
 use Rattle.rules.proofs.Sound.{SlotsSound}
 use Rattle.rules.proofs.Tests.{tells-slots}
 use Rattle.rules.proofs.Searches.{first-found, past-within, past-above, past-last}
-use Rattle.rules.proofs.Placing.{clear, leastClear, insertShort, insert-short}
+use Rattle.rules.proofs.Placing.{clear, fromSegment, leastClear, insertShort, insert-short}
 
 -- ---- slots in order
 
@@ -115,7 +115,7 @@ module _ (n : ℕ) where
     where
       go : (r : Option ℕ) → leastClear s ≡ r → Given 1 s (insertShort n s)
       go (some a) e =
-          let f = first-found (clear s) (128 * startOf s) (128 * (s .segments - startOf s)) a e in
+          let f = first-found (clear s) (128 * fromSegment s) (128 * (s .segments - fromSegment s)) a e in
           let l : a < 128 * s .segments = omega (arith, f .high) in
           rw (e, insertShort) (given-some 1 s _ (one s a (s .segments) (a / 128) o (not-true (s .occupied a) (f .passes)) (omega arith) l (o .segments) (omega (arith, o .segments))))
       go none e = rw (e, insertShort) (new-fair s o)

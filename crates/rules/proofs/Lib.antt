@@ -1,3 +1,4 @@
+pub mod Sessions
 pub mod Chains
 pub mod Tables
 pub mod Sets
@@ -19,4 +20,3 @@ pub mod Small
 pub mod Fits
 pub mod Scripts
 pub mod Bytes
-pub mod Sessions
