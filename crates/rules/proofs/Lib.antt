@@ -8,3 +8,6 @@ pub mod Counts
 pub mod Climb
 pub mod Tests
 pub mod HandleTests
+pub mod Members
+pub mod Removing
+pub mod Naming
