@@ -11,3 +11,5 @@ pub mod HandleTests
 pub mod Members
 pub mod Removing
 pub mod Naming
+pub mod Parents
+pub mod Owners

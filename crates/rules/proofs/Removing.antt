@@ -15,7 +15,7 @@ use Rattle.rules.proofs.Sound.{SlotsSound}
 use Rattle.rules.proofs.Tells.{clash, decided, is-false}
 
 module _ (a : ℕ) (s : Slots) where
-  remove-stays : (b : ℕ) → s .occupied b ≡ false → remove a s .occupied b ≡ false
+  pub remove-stays : (b : ℕ) → s .occupied b ≡ false → remove a s .occupied b ≡ false
   unfolding remove
   remove-stays b e =
       decided (removes a s)
@@ -51,7 +51,7 @@ module _ (a : ℕ) (s : Slots) where
 
 -- ---- several
 
-removeAll-stays : (l : List ℕ) (b : ℕ) (s : Slots) → s .occupied b ≡ false → removeAll l s .occupied b ≡ false
+pub removeAll-stays : (l : List ℕ) (b : ℕ) (s : Slots) → s .occupied b ≡ false → removeAll l s .occupied b ≡ false
 unfolding removeAll
 removeAll-stays [] b s e = e
 removeAll-stays (a ∷ l) b s e = removeAll-stays l b (remove a s) (remove-stays a s b e)
