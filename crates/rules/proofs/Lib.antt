@@ -13,3 +13,7 @@ pub mod Removing
 pub mod Naming
 pub mod Parents
 pub mod Owners
+pub mod Names
+pub mod KeepsScopes
+pub mod KeepsSlots
+pub mod KeepsNames

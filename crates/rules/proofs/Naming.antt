@@ -6,13 +6,13 @@ use mathlib.Core.Option.{Option, none, some}
 use Prim.Native.Nat.{ℕ, zero, suc, _+_, _≤_, _<_}
 use native.Mathlib.Omega.{arith}
 use lib.Dec.{eqb, ltb}
-use Rattle.rules.specs.Notation.{isSome, first}
+use Rattle.rules.specs.Notation.{first}
 use Rattle.rules.specs.Sizes.{Room}
 use Rattle.rules.specs.Scopes.{Id, Scope, Scopes, Found, found, topScope, hasNumber, byId, byNumber, idOf}
 use Rattle.rules.proofs.Chains.{none-some}
 use Rattle.rules.proofs.Tables.{by-eqb}
-use Rattle.rules.proofs.Sound.{IsLive, TopSound}
-use Rattle.rules.proofs.Tells.{Tells, clash, tells-and, tells-eq, tells-lt, tells-true}
+use Rattle.rules.proofs.Sound.{TopSound}
+use Rattle.rules.proofs.Tells.{tells-and, tells-eq, tells-lt, tells-true}
 
 -- ---- searches
 
