@@ -16,7 +16,7 @@ use Rattle.rules.proofs.Sound.{IsLive, Sound}
 use Rattle.rules.proofs.Tells.{clash, decided}
 use Rattle.rules.proofs.Naming.{Here, top-here}
 use Rattle.rules.proofs.Parents.{is-some, here-live}
-use Rattle.rules.proofs.Names.{bound-is, rebound-every, rebound-once, rebound-length, rebound-as-many, BoundAs, lookup-bound}
+use Rattle.rules.proofs.Names.{bound-is, rebound-every, rebound-once, rebound-length, rebound-as-many, BoundAs, got}
 
 module _ (room : Room) (c : Scopes) (s : Sound room c) where
   rebound-sound : (x : Binding) → IsLive (room .scopes) (c .live) (x .scope) → length (rebound x (c .bindings)) ≤ room .bindings → Sound room (c ▹ bindings≔ (rebound x (c .bindings)))
@@ -53,16 +53,11 @@ module _ (room : Room) (c : Scopes) (s : Sound room c) where
   unfolding defineName
   keeps-define name address = all-unless 3 λ t e. keeps-bind t name address 0 (top-here c t e (room .scopes) (s .top))
 
-  -- ---- get, take
-
-  -- what get answers is one of the bindings
-  pub got : (name : ℕ) → All (BoundAs (c .bindings) name) (getName room name c)
-  unfolding getName
-  got name = all-unless 3 λ _ _. all-unless 10 λ b e. all-when 11 _ λ _. all-given (lookup-bound (room .scopes) c name (c .top) b e)
+  -- ---- take
 
   pub keeps-take : (name : ℕ) → All (λ r. Sound room (r .1)) (takeName room name c)
   unfolding takeName
-  keeps-take name = all-then λ b e. all-given (go b (got name .at b e))
+  keeps-take name = all-then λ b e. all-given (go b (got room name c .at b e))
     where
       go : (b : Binding) → BoundAs (c .bindings) name b → Sound room (c ▹ bindings≔ (rebound (b ▹ moved≔ true) (c .bindings)))
       go b w =

@@ -17,3 +17,6 @@ pub mod Names
 pub mod KeepsScopes
 pub mod KeepsSlots
 pub mod KeepsNames
+pub mod KeepsNeeds
+pub mod Handles
+pub mod KeepsSteps

@@ -9,8 +9,9 @@ use lib.Dec.{eqb}
 use lib.ListN.{length}
 use borrow.Author.Tests.{eqb-false}
 use Rattle.rules.specs.Notation.{isSome}
-use Rattle.rules.specs.Scopes.{Scope, Binding, Scopes, isFor, boundIn, rebound, unbound, lookup}
-use Rattle.rules.proofs.Chains.{none-some}
+use Rattle.rules.specs.Sizes.{Room}
+use Rattle.rules.specs.Scopes.{Scope, Binding, Scopes, isFor, boundIn, rebound, unbound, lookup, getName}
+use Rattle.rules.proofs.Chains.{All, all-given, all-when, all-unless, none-some}
 use Rattle.rules.proofs.Sound.{Every, every-nil, every, BindsOnce, binds-nil, binds}
 use Rattle.rules.proofs.Tells.{clash, decided, is-false, tells-and, tells-eq}
 
@@ -165,7 +166,7 @@ pub record BoundAs (l : List Binding) (name : ℕ) (b : Binding) : Type 0 where
   pub index : ℕ
   pub is : boundIn index name l ≡ some b
 
-pub lookup-bound : (n : ℕ) (c : Scopes) (name : ℕ) (from : Option ℕ) (b : Binding) → lookup n c name from ≡ some b → BoundAs (c .bindings) name b
+lookup-bound : (n : ℕ) (c : Scopes) (name : ℕ) (from : Option ℕ) (b : Binding) → lookup n c name from ≡ some b → BoundAs (c .bindings) name b
 unfolding lookup
 lookup-bound zero c name from b e = none-some e
 lookup-bound (suc n) c name none b e = none-some e
@@ -178,3 +179,8 @@ lookup-bound (suc n) c name (some i) b e = go (c .live i) refl (λ o. lookup-bou
     go : (o : Option Scope) → c .live i ≡ o → ((p : Option ℕ) → lookup n c name p ≡ some b → BoundAs (c .bindings) name b) → BoundAs (c .bindings) name b
     go none q ih = none-some (rw (q, lookup) at e)
     go (some k) q ih = inner k q (ih (k .parent)) (boundIn i name (c .bindings)) refl
+
+-- what get answers is one of the bindings
+pub got : (room : Room) (name : ℕ) (c : Scopes) → All (BoundAs (c .bindings) name) (getName room name c)
+unfolding getName
+got room name c = all-unless 3 λ _ _. all-unless 10 λ b e. all-when 11 _ λ _. all-given (lookup-bound (room .scopes) c name (c .top) b e)

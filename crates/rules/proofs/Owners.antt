@@ -86,17 +86,17 @@ lists-put live i o j =
 -- ---- slots are given
 
 module _ {m : ℕ} (s : Slots) (p : Placed) (count : ℕ) (g : Gives count s p) (room : p .address + count ≤ m) where
-  abbrev given : List ℕ
+  abbrev pub given : List ℕ
   given = run (p .address) count
 
-  given-clear : (a : ℕ) → member a given ≡ true → s .occupied a ≡ false
+  pub given-clear : (a : ℕ) → member a given ≡ true → s .occupied a ≡ false
   given-clear a q = let r = run-within count (p .address) a q in subst (λ (y : ℕ). s .occupied y ≡ false) (omega arith) (g .clear (a - p .address) (omega arith))
 
-  given-taken : (a : ℕ) → member a given ≡ true → p .next .occupied a ≡ true
+  pub given-taken : (a : ℕ) → member a given ≡ true → p .next .occupied a ≡ true
   given-taken a q = let r = run-within count (p .address) a q in subst (λ (y : ℕ). p .next .occupied y ≡ true) (omega arith) (g .taken (a - p .address) (omega arith))
 
   -- a slot that is occupied now was so, or is one of those given
-  given-only {ℓ} : (X : Type ℓ) (a : ℕ) → p .next .occupied a ≡ true → (s .occupied a ≡ true → X) → (member a given ≡ true → X) → X
+  pub given-only {ℓ} : (X : Type ℓ) (a : ℕ) → p .next .occupied a ≡ true → (s .occupied a ≡ true → X) → (member a given ≡ true → X) → X
   given-only X a t was new = decided (s .occupied a) was (λ f. let r = g .only a t f in new (run-member count (p .address) a (r .0) (r .1)))
 
   pub owned-given : {n : ℕ} {lists : ℕ → List ℕ} (i : ℕ) (old : List ℕ) → i < n → lists i ≡ old → OwnedSound m n (s .occupied) lists
