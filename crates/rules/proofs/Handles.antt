@@ -1,14 +1,14 @@
 -- Held handles and occupied slots match one to one, and keep doing so when slots are given, when a scope is closed and when a slot goes
 -- back; and bindings still agree with their handles. Assumes nothing.
-use mathlib.Core.Path.{_≡_, refl, sym, ap, subst, _∙_}
-use mathlib.Core.Bool.{Bool, true, false, _&&_}
-use mathlib.Core.List.{List, [], _∷_}
+use mathlib.Core.Path.{_≡_, sym, ap, subst, _∙_}
+use mathlib.Core.Bool.{Bool, true, false}
+use mathlib.Core.List.{List}
 use Prim.Native.Nat.{ℕ, _+_, _*_, _-_, _≤_, _<_}
 use native.Mathlib.Omega.{arith}
-use lib.Dec.{leb, ltb}
+use lib.Dec.{ltb}
 use borrow.Author.Tests.{le-leb, lt-leb, lt-ltb, ltb-true, ltb-false}
 use Rattle.rules.specs.Notation.{put}
-use Rattle.rules.specs.AddressSets.{member, run}
+use Rattle.rules.specs.AddressSets.{member}
 use Rattle.rules.specs.Slots.{Slots, Placed, remove, removeAll}
 use Rattle.rules.specs.Scopes.{Binding}
 use Rattle.rules.specs.Needs.{Kind}

@@ -9,7 +9,7 @@ use borrow.Author.Tests.{leb-false}
 use Rattle.rules.specs.Notation.{isSome, _▹_}
 use Rattle.rules.specs.Sizes.{Room}
 use Rattle.rules.specs.AddressSets.{member}
-use Rattle.rules.specs.Scopes.{Binding, Scopes, bindings≔, moved≔, Found, boundIn, rebound, bindIn, defineName, getName, takeName, drainDangling}
+use Rattle.rules.specs.Scopes.{Binding, Scopes, bindings≔, moved≔, Found, boundIn, rebound, bindIn, defineName, takeName, drainDangling}
 use Rattle.rules.proofs.Chains.{All, all-given, all-then, all-when, all-unless}
 use Rattle.rules.proofs.Sets.{once-nil, within-nil}
 use Rattle.rules.proofs.Sound.{IsLive, Sound}

@@ -1,21 +1,21 @@
 -- The library calls over addresses and needs keep soundness, for every fair placement in a room whose size holds its slots; and a fresh
 -- state is sound. Assumes nothing.
 use mathlib.Core.Path.{_≡_, refl}
-use mathlib.Core.Bool.{Bool, true, false}
-use mathlib.Core.Option.{Option, none, some}
+use mathlib.Core.Bool.{Bool, true}
+use mathlib.Core.Option.{none}
 use mathlib.Core.List.{List, [], _∷_, reverse}
 use Prim.Native.Nat.{ℕ, zero, suc, _*_, _≤_, _<_}
 use native.Mathlib.Omega.{arith}
 use Rattle.rules.specs.Notation.{isSome}
 use Rattle.rules.specs.Sizes.{Room}
-use Rattle.rules.specs.Slots.{Slots, Placement, freshSlots}
+use Rattle.rules.specs.Slots.{Placement, freshSlots}
 use Rattle.rules.specs.AddressSets.{member}
-use Rattle.rules.specs.Scopes.{Id, Scope, Scopes, newScope, freshScopes, byId}
-use Rattle.rules.specs.Needs.{Address, allocAddress, allocAddressIn, allocAddresses, freeAddress, freeEach, freeRun, Need, defer, at, ignore, freedNeed, Allocated, allocateNeed, freeNeed}
+use Rattle.rules.specs.Scopes.{Id, Scopes, newScope, freshScopes, byId}
+use Rattle.rules.specs.Needs.{Address, allocAddress, allocAddressIn, allocAddresses, freeAddress, freeEach, freeRun, Need, defer, at, ignore, freedNeed, allocateNeed, freeNeed}
 use Rattle.rules.specs.Demand3.{Fair}
 use Rattle.rules.proofs.Chains.{All, all-given, all-then, all-when, all-if}
 use Rattle.rules.proofs.Sets.{once-nil, within-nil}
-use Rattle.rules.proofs.Sound.{every-nil, SlotsSound, Leads, root, OwnedSound, binds-nil, Sound}
+use Rattle.rules.proofs.Sound.{every-nil, SlotsSound, Leads, root, binds-nil, Sound}
 use Rattle.rules.proofs.Tells.{clash}
 use Rattle.rules.proofs.Naming.{id-here}
 use Rattle.rules.proofs.Parents.{top-some}

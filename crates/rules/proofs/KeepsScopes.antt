@@ -12,9 +12,10 @@ use Rattle.rules.specs.Scopes.{Scope, Scopes, live≔, top≔, counter�
 use Rattle.rules.specs.Sound.{ownedBy}
 use Rattle.rules.proofs.Chains.{All, all-given, all-then, all-when, all-unless}
 use Rattle.rules.proofs.Tables.{put-same, put-alike}
+use Rattle.rules.proofs.Searches.{first-found, first-none}
 use Rattle.rules.proofs.Sound.{TopSound, listsOf, Sound}
 use Rattle.rules.proofs.Tells.{clash}
-use Rattle.rules.proofs.Naming.{first-is, first-none, Here, found-at, found-here, top-at, top-here}
+use Rattle.rules.proofs.Naming.{Here, found-at, found-here, top-at, top-here}
 use Rattle.rules.proofs.Removing.{removeAll-sound}
 use Rattle.rules.proofs.Parents.{is-some, here-live, top-some, parent-of, live-alike, top-alike, opened-live, opened-rooted, changed-alike, changed-rooted, closed-live, closed-rooted, closed-top}
 use Rattle.rules.proofs.Owners.{owned-at, lists-put, owned-alike, owned-closed, dangling-closed, size-closed}
@@ -49,8 +50,8 @@ module _ (room : Room) (c : Scopes) (s : Sound room c) where
   unfolding openChild
   keeps-child =
       all-unless 3 λ t e. all-unless 8 λ i q.
-      let f = first-is (λ j. not (isSome (c .live j))) 1 (room .scopes - 1) i q in
-      all-given (child-sound i t _ e (free-is (c .live i) (f .0)) (f .1) (omega (arith, f .1, f .2)))
+      let f = first-found (λ j. not (isSome (c .live j))) 1 (room .scopes - 1) i q in
+      all-given (child-sound i t _ e (free-is (c .live i) (f .passes)) (f .low) (omega (arith, f .low, f .high)))
 
   -- ---- dangle, restore: a scope changes its mark, and the top
 

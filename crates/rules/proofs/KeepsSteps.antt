@@ -1,32 +1,28 @@
--- Every step of a script keeps soundness with handles, a script starts in a sound state, and so every state that it reaches is sound: in
--- any room whose size holds its slots, for every fair placement. Assumes nothing.
-use mathlib.Core.Path.{_≡_, refl, sym, ap, subst, _∙_}
-use mathlib.Core.Bool.{Bool, true, false, not, _||_}
-use mathlib.Core.Option.{Option, none, some}
-use mathlib.Core.List.{List, [], _∷_}
+-- Every step of a script keeps soundness with handles: in any room whose size holds its slots, for every fair placement. Assumes nothing.
+use mathlib.Core.Path.{_≡_, refl, ap}
+use mathlib.Core.Bool.{Bool, true, false, _||_}
+use mathlib.Core.Option.{Option, some}
+use mathlib.Core.List.{List}
 use Prim.Native.Nat.{ℕ, zero, suc, _+_, _*_, _≤_, _<_}
 use native.Mathlib.Omega.{arith}
 use native.Mathlib.Nat.{le-refl}
-use lib.Dec.{leb, ltb}
 use borrow.Author.Tests.{leb-false, ltb-false, not-false}
-use Rattle.rules.specs.Notation.{Answer, given, _▹_, put}
+use Rattle.rules.specs.Notation.{_▹_, put}
 use Rattle.rules.specs.Sizes.{Room}
 use Rattle.rules.specs.Slots.{Slots, Placed, Placement, remove}
-use Rattle.rules.specs.Scopes.{Binding, Scopes, bindings≔, moved≔, Found, topScope, byNumber, hasChild, setScope, openChild, allocate, closed, poppable, lastPoppable, dangleScope, restoreScope, rebound, bindIn, getName, takeName, drainDangling}
-use Rattle.rules.specs.Needs.{Kind, freed, allocatedKind, isFreed, giveBack}
-use Rattle.rules.specs.Frames.{Frame, child, pop, dangle, restore, popLast, alloc, allocIn, linear, define, get, takeFrom, free, freeQuietly, forget, drain, write, read, readName, Handle, kind≔, held≔, written≔, State, scopes≔, handles≔, handed≔, start, setHandle, unknown, spent, grant, allot, close, handBack, freeHandle, step}
+use Rattle.rules.specs.Scopes.{Binding, Scopes, moved≔, Found, byNumber, hasChild, setScope, openChild, allocate, closed, dangleScope, restoreScope, rebound, bindIn, takeName, drainDangling}
+use Rattle.rules.specs.Needs.{Kind, freed, isFreed, giveBack}
+use Rattle.rules.specs.Frames.{Frame, child, pop, dangle, restore, popLast, alloc, allocIn, linear, define, get, takeFrom, free, freeQuietly, forget, drain, write, read, readName, Handle, kind≔, held≔, State, scopes≔, handles≔, handed≔, setHandle, unknown, spent, grant, allot, close, handBack, freeHandle, step}
 use Rattle.rules.specs.Demand3.{Fair}
 use Rattle.rules.proofs.Chains.{All, all-given, all-then, all-when, all-unless, all-if}
 use Rattle.rules.proofs.Tables.{put-alike}
-use Rattle.rules.proofs.Sound.{Every, every-nil, SlotsSound, Sound, Agrees, StateSound}
-use Rattle.rules.proofs.Tells.{clash, decided}
+use Rattle.rules.proofs.Sound.{Every, SlotsSound, Sound, Agrees, StateSound}
 use Rattle.rules.proofs.Naming.{Here, top-here, number-here}
 use Rattle.rules.proofs.Names.{every-as, bound-is, rebound-every, unbound-every, BoundAs, got}
 use Rattle.rules.proofs.Handles.{handles-alike, agrees-alike, grant-old, handles-given, agrees-closed, handles-closed, handles-back}
 use Rattle.rules.proofs.KeepsScopes.{keeps-child, keeps-dangle, keeps-restore, closed-sound, poppable-is, last-is}
 use Rattle.rules.proofs.KeepsSlots.{keeps-allocate, keeps-back}
 use Rattle.rules.proofs.KeepsNames.{keeps-bind, keeps-take, keeps-drain}
-use Rattle.rules.proofs.KeepsNeeds.{fresh-sound}
 
 -- ---- the slots and the bindings that a call leaves
 

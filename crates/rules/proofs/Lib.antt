@@ -32,3 +32,5 @@ pub mod KeepsNames
 pub mod KeepsNeeds
 pub mod Handles
 pub mod KeepsSteps
+pub mod Reached
+pub mod Kept
