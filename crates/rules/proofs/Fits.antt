@@ -19,7 +19,7 @@ use Rattle.rules.specs.Text.{rowed, lineTable, counted}
 use Rattle.rules.specs.Demand3.{Fair}
 use Rattle.rules.proofs.Chains.{All, all-given, all-then, all-when, all-unless}
 use Rattle.rules.proofs.Sets.{Within, member-same, member-tail, pigeons}
-use Rattle.rules.proofs.Effects.{allocated}
+use Rattle.rules.proofs.Leaves.{allotted}
 use Rattle.rules.proofs.Digits.{Fit, fit-nil, fit}
 use Rattle.rules.proofs.Lists.{FitLine, FitLines, no-lines, lines}
 use Rattle.rules.proofs.Small.{Fits, Small, every-got}
@@ -98,7 +98,7 @@ module _ (room : Room) (place : Placement) (Ord : Slots → Type 0) (fair : Fair
   unfolding allot
   allot-fits k kind n =
       all-when 16 _ λ _. all-then λ r e.
-      let w = allocated room (s .scopes) place k n .at r e in
+      let w = allotted place k n (s .scopes) .at r e in
       let g = fair .placed n (s .scopes .slots) (w .placed) (w .from) (small .scopes .order) in
       all-given (rw (w .address) (omega (arith, g .2, wide .slots, wide .size)))
 

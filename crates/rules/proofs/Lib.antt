@@ -11,6 +11,7 @@ pub mod Tests
 pub mod HandleTests
 pub mod Placing
 pub mod Editions
+pub mod Leaves
 pub mod Core
 pub mod Effects
 pub mod Demand3
