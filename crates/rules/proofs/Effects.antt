@@ -33,7 +33,7 @@ module _ (room : Room) (place : Placement) (InOrder : Slots → Type 0) (fair : 
     pub effect : Effect (view s) d line (view t)
     pub order : InOrder (t .scopes .slots)
 
-  pub in-order-all : (l : List ℕ) (s : Slots) → InOrder s → InOrder (removeAll l s)
+  in-order-all : (l : List ℕ) (s : Slots) → InOrder s → InOrder (removeAll l s)
   unfolding removeAll
   in-order-all [] s o = o
   in-order-all (a ∷ l) s o = in-order-all l (remove a s) (fair .removed a s o)

@@ -17,10 +17,6 @@ pub mod Effects
 pub mod Demand3
 pub mod Digits
 pub mod Lists
-pub mod Small
-pub mod Fits
-pub mod Scripts
-pub mod Bytes
 pub mod Members
 pub mod Removing
 pub mod Naming
@@ -35,3 +31,7 @@ pub mod Handles
 pub mod KeepsSteps
 pub mod Reached
 pub mod Kept
+pub mod Small
+pub mod Fits
+pub mod Scripts
+pub mod Bytes
