@@ -3,29 +3,29 @@
 -- Assumes nothing.
 use mathlib.Core.Path.{_≡_, refl, sym, ap, subst, _∙_}
 use mathlib.Core.Bool.{Bool, true, false}
-use mathlib.Core.Option.{Option, none, some}
+use mathlib.Core.Option.{none}
 use mathlib.Core.List.{List, [], _∷_, _++_}
-use Prim.Native.Nat.{ℕ, zero, suc, _+_, _*_, _≤_, _<_}
+use Prim.Native.Nat.{ℕ, suc, _+_, _≤_}
 use native.Mathlib.Omega.{arith}
 use lib.Dec.{ltb, lit<}
 use lib.ListN.{length, replicate, drop, set, length-append, length-replicate}
 use lib.Seq.{drop-set-lt, drop-append-seam}
 use borrow.Author.Tests.{ltb-true, le-ltb}
-use Rattle.rules.specs.Notation.{Answer, given, refused}
+use Rattle.rules.specs.Notation.{given, refused}
 use Rattle.rules.specs.Sizes.{Room, base}
-use Rattle.rules.specs.Slots.{Slots, Placement, edition1}
+use Rattle.rules.specs.Slots.{Placement, edition1}
 use Rattle.rules.specs.Frames.{State, start, Frame, Line, stores, loads, shows, Step, step, steps, accepted, onward}
-use Rattle.rules.specs.Meaning.{Ran, obey, high, meaning}
+use Rattle.rules.specs.Meaning.{obey, high, meaning}
 use Rattle.rules.specs.Text.{split, Script, frames, unread, scriptFrom, listText, listed, listFrom}
-use Rattle.rules.specs.Entries.{outcome, translated, RunOutcome, ran, runListed, ranOn}
+use Rattle.rules.specs.Entries.{outcome, translated, ran, runListed, ranOn}
 use Rattle.rules.specs.Demand3.{Fair, Holds, Demand3, Demand3Bytes, RoundTrip, Runs, scriptMeaning}
-use Rattle.rules.proofs.Chains.{All, none-some}
+use Rattle.rules.proofs.Chains.{none-some}
 use Rattle.rules.proofs.Lists.{FitLines, no-lines, reads-back}
 use Rattle.rules.proofs.Sound.{SlotsSound, StateSound}
 use Rattle.rules.proofs.KeepsSteps.{keeps-step}
 use Rattle.rules.proofs.Reached.{start-sound}
 use Rattle.rules.proofs.Small.{Small, small-step, small-start}
-use Rattle.rules.proofs.Fits.{Wide, base-wide, OneFit, fit-on, one-length, fits-step}
+use Rattle.rules.proofs.Fits.{Wide, base-wide, fit-on, one-length, fits-step}
 use Rattle.rules.proofs.Scripts.{FitFrames, no-frames, frames-on, read-well}
 use Rattle.rules.proofs.Demand3.{tail, next-frame, no-frame, demand3}
 use Rattle.rules.proofs.Editions.{edition1-fair-sound}

@@ -1,24 +1,23 @@
 -- Each step of the rules has one of the core's effects, for every fair placement. Assumes nothing.
 use mathlib.Core.Path.{_≡_, refl, sym, ap, subst, _∙_}
-use mathlib.Core.Bool.{Bool, true, false, not, true≢false}
-use mathlib.Core.Option.{Option, none, some}
+use mathlib.Core.Bool.{Bool, true, false, true≢false}
 use mathlib.Core.List.{List, [], _∷_}
-use Prim.Native.Nat.{ℕ, zero, suc, _+_, max}
+use Prim.Native.Nat.{ℕ, zero, suc, _+_}
 use native.Mathlib.Omega.{arith}
 use native.Mathlib.Nat.{le-refl}
 use borrow.Author.Tests.{not-false}
-use Rattle.rules.specs.Notation.{Answer, given, _▹_, put}
+use Rattle.rules.specs.Notation.{given, _▹_, put}
 use Rattle.rules.specs.Sizes.{Room}
-use Rattle.rules.specs.Slots.{Slots, Placed, Placement, remove, removeAll}
-use Rattle.rules.specs.Scopes.{Binding, Scopes, Found, setScope, openChild, closed, dangleScope, restoreScope, allocate, bindIn, getName, takeName, drainDangling}
-use Rattle.rules.specs.Needs.{Kind, freed, giveBack}
-use Rattle.rules.specs.Frames.{Frame, child, pop, dangle, restore, popLast, alloc, allocIn, linear, define, get, takeFrom, free, freeQuietly, forget, drain, write, read, readName, Handle, kind≔, held≔, State, scopes≔, handles≔, handed≔, setHandle, grant, letGo, allot, close, handBack, freeHandle, Line, stores, loads, shows, Step, step}
-use Rattle.rules.specs.Meaning.{Deed, nothing, fill, show, deed}
+use Rattle.rules.specs.Slots.{Slots, Placement, remove, removeAll}
+use Rattle.rules.specs.Scopes.{Binding, Scopes, Found, closed, getName, drainDangling}
+use Rattle.rules.specs.Needs.{Kind, freed}
+use Rattle.rules.specs.Frames.{Frame, child, pop, dangle, restore, popLast, alloc, allocIn, linear, define, get, takeFrom, free, freeQuietly, forget, drain, write, read, readName, Handle, kind≔, held≔, State, scopes≔, handles≔, handed≔, setHandle, grant, allot, close, handBack, freeHandle, Line, loads, shows, step}
+use Rattle.rules.specs.Meaning.{Deed, nothing, deed}
 use Rattle.rules.specs.Demand3.{Fair}
 use Rattle.rules.proofs.Chains.{All, all-given, all-then, all-when, all-unless, all-if}
 use Rattle.rules.proofs.Tables.{put-same, put-other, put-alike, letGo-held, remove-other, removeAll-other}
 use Rattle.rules.proofs.Leaves.{Leaves, left, child-leaves, bind-leaves, take-leaves, dangle-leaves, restore-leaves, back-leaves, Allotted, allotted}
-use Rattle.rules.proofs.Core.{View, Still, Effect, fewer, back, placing, storing, loading}
+use Rattle.rules.proofs.Core.{View, Effect, fewer, back, placing, storing, loading}
 
 abbrev pub view : State → View
 view s = record { occupied = s .scopes .slots .occupied; size = s .scopes .size; handles = s .handles }

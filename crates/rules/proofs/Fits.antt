@@ -1,27 +1,25 @@
 -- Every line of an accepted script's list fits its digits. Assumes nothing.
-use mathlib.Core.Path.{_≡_, refl, sym, ap, subst, _∙_}
+use mathlib.Core.Path.{_≡_, refl}
 use mathlib.Core.Bool.{false}
 use mathlib.Core.Option.{some}
 use mathlib.Core.List.{List, [], _∷_, _++_}
-use Prim.Native.Nat.{ℕ, zero, suc, _+_, _*_, _≤_, _<_}
+use Prim.Native.Nat.{ℕ, zero, suc, _*_, _≤_, _<_}
 use native.Mathlib.Omega.{arith}
 use lib.Dec.{eqb, lit<}
 use lib.ListN.{length}
 use borrow.Author.Tests.{eq-eqb}
-use Rattle.rules.specs.Notation.{Answer, given}
 use Rattle.rules.specs.Sizes.{Room, base}
-use Rattle.rules.specs.Slots.{Slots, Placed, Placement}
-use Rattle.rules.specs.AddressSets.{member}
+use Rattle.rules.specs.Slots.{Placement}
 use Rattle.rules.specs.Scopes.{Binding, Found, openChild, drainDangling}
 use Rattle.rules.specs.Needs.{Kind}
-use Rattle.rules.specs.Frames.{Frame, child, pop, dangle, restore, popLast, alloc, allocIn, linear, define, get, takeFrom, free, freeQuietly, forget, drain, write, read, readName, State, allot, Line, stores, loads, shows, step}
+use Rattle.rules.specs.Frames.{Frame, child, pop, dangle, restore, popLast, alloc, allocIn, linear, define, get, takeFrom, free, freeQuietly, forget, drain, write, read, readName, State, allot, Line, loads, shows, step}
 use Rattle.rules.specs.Text.{rowed, lineTable, counted}
 use Rattle.rules.specs.Demand3.{Fair}
 use Rattle.rules.proofs.Chains.{All, all-as, all-given, all-then, all-when, all-unless}
 use Rattle.rules.proofs.Sets.{Within, member-same, member-tail, pigeons}
 use Rattle.rules.proofs.Leaves.{child-leaves, take-leaves}
 use Rattle.rules.proofs.Digits.{Fit, fit-nil, fit}
-use Rattle.rules.proofs.Lists.{FitLine, FitLines, no-lines, lines}
+use Rattle.rules.proofs.Lists.{FitLine, FitLines, lines}
 use Rattle.rules.proofs.Names.{bound-is, BoundAs, got}
 use Rattle.rules.proofs.Sound.{SlotsSound, StateSound}
 use Rattle.rules.proofs.Small.{Small, allot-small}

@@ -1,7 +1,6 @@
 -- Every step of a script keeps soundness with handles: in any room whose size holds its slots, for every fair placement. Assumes nothing.
 use mathlib.Core.Path.{_≡_, refl, ap}
 use mathlib.Core.Bool.{Bool, true, false, _||_}
-use mathlib.Core.Option.{Option, some}
 use mathlib.Core.List.{List}
 use Prim.Native.Nat.{ℕ, zero, suc, _+_, _*_, _≤_, _<_}
 use native.Mathlib.Omega.{arith}
@@ -9,9 +8,9 @@ use native.Mathlib.Nat.{le-refl}
 use borrow.Author.Tests.{leb-false, ltb-false, not-false}
 use Rattle.rules.specs.Notation.{_▹_, put}
 use Rattle.rules.specs.Sizes.{Room}
-use Rattle.rules.specs.Slots.{Slots, Placed, Placement, remove}
-use Rattle.rules.specs.Scopes.{Binding, Scopes, moved≔, Found, byNumber, hasChild, setScope, openChild, allocate, closed, dangleScope, restoreScope, rebound, bindIn, takeName, drainDangling}
-use Rattle.rules.specs.Needs.{Kind, freed, isFreed, giveBack}
+use Rattle.rules.specs.Slots.{Placement, remove}
+use Rattle.rules.specs.Scopes.{Binding, Scopes, moved≔, Found, byNumber, hasChild, closed, bindIn, takeName, drainDangling}
+use Rattle.rules.specs.Needs.{Kind, freed, isFreed}
 use Rattle.rules.specs.Frames.{Frame, child, pop, dangle, restore, popLast, alloc, allocIn, linear, define, get, takeFrom, free, freeQuietly, forget, drain, write, read, readName, Handle, kind≔, held≔, State, scopes≔, handles≔, handed≔, setHandle, unknown, spent, grant, allot, close, handBack, freeHandle, step}
 use Rattle.rules.specs.Demand3.{Fair}
 use Rattle.rules.proofs.Chains.{All, all-given, all-then, all-when, all-unless, all-if}

@@ -19,7 +19,7 @@ use Rattle.rules.proofs.Chains.{All, all-given, all-then, all-when, all
 use Rattle.rules.proofs.Tables.{put-alike, grant-cases}
 use Rattle.rules.proofs.Tells.{decided}
 use Rattle.rules.proofs.Sound.{SlotsSound}
-use Rattle.rules.proofs.Leaves.{Leaves, left, child-leaves, bind-leaves, take-leaves, dangle-leaves, restore-leaves, back-leaves, allotted}
+use Rattle.rules.proofs.Leaves.{Leaves, child-leaves, bind-leaves, take-leaves, dangle-leaves, restore-leaves, back-leaves, allotted}
 
 -- after i frames
 pub record Small (i : ℕ) (s : State) : Type 0 where
