@@ -1,4 +1,6 @@
 pub mod Chains
 pub mod Tables
 pub mod Sets
+pub mod Searches
+pub mod Placing
 pub mod Sessions
