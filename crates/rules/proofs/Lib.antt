@@ -4,3 +4,4 @@ pub mod Sets
 pub mod Searches
 pub mod Placing
 pub mod Sessions
+pub mod Sound
