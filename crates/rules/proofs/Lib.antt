@@ -5,3 +5,8 @@ pub mod Searches
 pub mod Placing
 pub mod Sessions
 pub mod Sound
+pub mod Tells
+pub mod Counts
+pub mod Climb
+pub mod Tests
+pub mod HandleTests
