@@ -1,0 +1,4 @@
+pub mod Finds
+pub mod Bits
+pub mod Occupied
+pub mod Steps
