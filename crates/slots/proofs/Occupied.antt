@@ -74,7 +74,7 @@ occ-set hs a w v h f = put-ext (occ hs) a v (occ (set hs (a / 64) w)) (in-it a r
         (λ ne. ap (λ (x : ℕ). bit x (j % 64)) (getD-set-other hs (a / 64) (j / 64) w 0 ne))
 
 -- no slot is occupied where every half is 0
-zero-half : (k i : ℕ) → _≡_ {A = ℕ} (getD (replicate k 0) i 0) 0
+pub zero-half : (k i : ℕ) → _≡_ {A = ℕ} (getD (replicate k 0) i 0) 0
 zero-half zero i = refl
 zero-half (suc k) zero = refl
 zero-half (suc k) (suc i) = zero-half k i

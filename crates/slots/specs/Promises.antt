@@ -2,7 +2,9 @@
 use mathlib.Core.Path.{_≡_}
 use mathlib.Core.Bool.{Bool, true, false}
 use mathlib.Core.Option.{Option, none, some}
-use Prim.Native.Nat.{ℕ}
+use mathlib.Core.List.{List}
+use Prim.Native.Nat.{ℕ, _^_, _<_}
+use lib.ListN.{length, getD}
 use Rattle.rules.specs.Notation.{Answer, given, refused}
 use Rattle.rules.specs.Sizes.{base}
 use Rattle.rules.specs.Sound.{soundSlots}
@@ -64,14 +66,28 @@ checked n s x = elim (soundSlots n s) [ true ↦ x | false ↦ refusing 29 s ]
 
 -- ---- the promises
 
-abbrev pub FreshPromise : Slots → Type 0
-FreshPromise r = view r ≡ rule.freshSlots
+-- what the type `[u64; 16]` says of the halves
+pub record Typed (halves : List ℕ) : Type 0 where
+  pub long : length halves ≡ 16
+  pub wide : (i : ℕ) → getD halves i 0 < 2 ^ 64
+
+-- A call with these halves in its next state shows x, where the rules say y.
+pub record Promised {A : Type 0} (x y : Seen A) (halves : List ℕ) : Type 0 where
+  pub shows : x ≡ y
+  pub typed : Typed halves
+
+pub record FreshPromise (r : Slots) : Type 0 where
+  pub shows : view r ≡ rule.freshSlots
+  pub typed : Typed (r .halves)
 
 abbrev pub InsertPromise : Slots → Placing → Type 0
-InsertPromise s r = seenPlacing r ≡ checked (base .segments) (view s) (placing (view s) (rule.insert (base .segments) (view s)))
+InsertPromise s r =
+    Promised (seenPlacing r) (checked (base .segments) (view s) (placing (view s) (rule.insert (base .segments) (view s)))) (r .state .halves)
 
 abbrev pub PushPromise : Slots → Placing → Type 0
-PushPromise s r = seenPlacing r ≡ checked (base .segments) (view s) (placing (view s) (rule.push (base .segments) (view s)))
+PushPromise s r =
+    Promised (seenPlacing r) (checked (base .segments) (view s) (placing (view s) (rule.push (base .segments) (view s)))) (r .state .halves)
 
 abbrev pub RemovePromise : Slots → SlotAddress → Removing → Type 0
-RemovePromise s a r = seenRemoving r ≡ checked (base .segments) (view s) (removal (a .0) (view s))
+RemovePromise s a r =
+    Promised (seenRemoving r) (checked (base .segments) (view s) (removal (a .0) (view s))) (r .state .halves)

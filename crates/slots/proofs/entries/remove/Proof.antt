@@ -1,6 +1,7 @@
 use mathlib.Core.Path.{sym, _∙_}
 use borrow.Author.Needs.{needs}
 use Rattle.slots.proofs.Steps.{checked-yes, checked-no}
+use Rattle.slots.proofs.Unique.{wide-of}
 use Rattle.slots.proofs.entries.remove.Statement.{statement}
 use Rattle.slots.proofs.entries.remove.Tie as tie
 
@@ -14,10 +15,16 @@ remove-sound-requires : tie.Need-remove-sound-requires
 remove-sound-requires c κs = sym (c .before .before .are-sound .ensures) ∙ c .before .if1 .taken
 
 returns : tie.Need-returns
-returns c = c .remove-sound .ensures ∙ checked-yes _ _ _ (sym (c .before .before .before .are-sound .ensures) ∙ c .before .before .if1 .taken)
+returns c = record {
+  shows = c .remove-sound .ensures ∙ checked-yes _ _ _ (sym (c .before .before .before .are-sound .ensures) ∙ c .before .before .if1 .taken);
+  typed = record { long = search needs; wide = λ i. wide-of (search needs) };
+}
 
 returns-2 : tie.Need-returns-2
-returns-2 c = checked-no _ _ _ (sym (c .before .are-sound .ensures) ∙ c .if1 .left)
+returns-2 c = record {
+  shows = checked-no _ _ _ (sym (c .before .are-sound .ensures) ∙ c .if1 .left);
+  typed = record { long = search needs; wide = λ i. wide-of (search needs) };
+}
 
 pub remove-spec : {M : Type 1} → statement M
 remove-spec =
