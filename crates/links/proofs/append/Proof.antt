@@ -62,7 +62,7 @@ element-write-t-3 : tie.Need-element-write-t-3
 element-write-t-3 c = search needs
 
 cast-t-4 : tie.Need-cast-t-4
-cast-t-4 c = search needs
+cast-t-4 c = omega (arith, fits c)
 
 add-t-2 : tie.Need-add-t-2
 add-t-2 c = search needs

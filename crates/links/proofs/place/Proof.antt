@@ -12,7 +12,7 @@ append-requires : tie.Need-append-requires
 append-requires c κs =
     let s = c .before .before .before in
     let p = s .pre .1 in
-    ((s .pre .0 .0, s .pre .0 .1, c .before .leave .ensures .1), (leaves (s .args .a) (p .0), c .before .leave .ensures .0 (p .0) (p .1), off-left 65 (s .args .a) (p .0)))
+    (search needs, (leaves (s .args .a) (p .0), c .before .leave .ensures .0 (p .0) (p .1), off-left 65 (s .args .a) (p .0)))
 
 returns : tie.Need-returns
 returns c =
