@@ -1,18 +1,34 @@
 -- What the stores of `append` do to the lists: a comes between the last address of list i and the end. Assumes nothing.
-use mathlib.Core.Path.{_≡_, sym, ap, _∙_, subst}
+use mathlib.Core.Path.{_≡_, refl, sym, ap, _∙_, subst}
 use mathlib.Core.Logic.{_≢_}
-use mathlib.Core.Bool.{true, false, true≢false}
-use mathlib.Core.List.{List, [], _∷_, _++_}
+use mathlib.Core.Bool.{true≢false}
+use mathlib.Core.List.{List}
 use Prim.Native.Nat.{ℕ, _+_, _≤_, _<_}
 use native.Mathlib.Omega.{arith}
+use lib.Dec.{eqb}
+use borrow.Author.Tests.{eq-eqb, ne-eqb}
 use Rattle.rules.specs.Notation.{put}
 use Rattle.rules.specs.AddressSets.{member, added}
 use Rattle.rules.proofs.Tables.{by-eqb, put-same, put-other}
-use Rattle.rules.proofs.Sets.{member-same, member-snoc, no-member}
+use Rattle.rules.proofs.Sets.{member-snoc}
 use Rattle.links.specs.Links.{Link, Ring, Chains, nowhere, Off, gains}
-use Rattle.links.proofs.Lists.{Each, others, member-left, member-right, added-new, links-append}
+use Rattle.links.proofs.Lists.{Each, others, added-same, added-other, added-new, links-append}
 use Rattle.links.proofs.Stores.{get-first, get-second, get-other}
 use Rattle.links.proofs.Rings.{ring-keeps, Near, end-of}
+
+-- a list that gains a has it; whatever else is on a list stays there
+module _ (m a i : ℕ) (xs : ℕ → List ℕ) (off : Off m xs a) (hi : i < m) where
+  pub gains-same : (j : ℕ) → j < m → member a (gains i a xs j) ≡ eqb i j
+  gains-same j hj =
+      by-eqb i j
+      (λ e. subst (λ (u : ℕ). member a (gains i a xs u) ≡ eqb i u) e (ap (member a) (put-same xs i (added a (xs i))) ∙ added-same a (xs i) (off i hi) ∙ sym (eq-eqb i i refl)))
+      (λ ne. ap (member a) (put-other xs i (added a (xs i)) j ne) ∙ off j hj ∙ sym (ne-eqb i j ne))
+
+  pub gains-other : (b j : ℕ) → b ≢ a → member b (gains i a xs j) ≡ member b (xs j)
+  gains-other b j n =
+      by-eqb i j
+      (λ e. subst (λ (u : ℕ). member b (gains i a xs u) ≡ member b (xs u)) e (ap (member b) (put-same xs i (added a (xs i))) ∙ added-other a b (xs i) (off i hi) n))
+      (λ ne. ap (member b) (put-other xs i (added a (xs i)) j ne))
 
 module _ (n m : ℕ) (next prev : ℕ → ℕ) (lists : ℕ → List ℕ) (c : Chains n m next prev lists) (fits : n + m ≤ nowhere)
     (i a : ℕ) (hi : i < m) (sa : a < n) (off : Off m lists a) where
@@ -68,25 +84,10 @@ module _ (n m : ℕ) (next prev : ℕ → ℕ) (lists : ℕ → List ℕ) (c : C
 
   -- an address that is on no list now is not a, and was on none before
   not-a : (b : ℕ) → Off m (gains i a lists) b → b ≢ a
-  not-a b o q =
-      true≢false
-      (sym (member-right a (lists i) (a ∷ []) (member-same a []))
-      ∙ ap (member a) (sym (added-new a (lists i) (off i hi)) ∙ sym (put-same lists i (added a (lists i))))
-      ∙ ap (λ (u : ℕ). member u (gains i a lists i)) (sym q)
-      ∙ o i hi)
+  not-a b o q = true≢false (sym (eq-eqb i i refl) ∙ sym (gains-same m a i lists off hi i hi) ∙ ap (λ (u : ℕ). member u (gains i a lists i)) (sym q) ∙ o i hi)
 
   was-off : (b : ℕ) → Off m (gains i a lists) b → Off m lists b
-  was-off b o j hj =
-      by-eqb i j
-      (λ q.
-      no-member b (lists j)
-      (λ p.
-      true≢false
-      (sym (member-left b (lists j) (a ∷ []) p)
-      ∙ ap (λ (u : ℕ). member b (lists u ++ a ∷ [])) (sym q)
-      ∙ ap (member b) (sym (added-new a (lists i) (off i hi)) ∙ sym (put-same lists i (added a (lists i))))
-      ∙ o i hi)))
-      (λ ne. ap (member b) (sym (put-other lists i (added a (lists i)) j ne)) ∙ o j hj)
+  was-off b o j hj = sym (gains-other m a i lists off hi b j (not-a b o)) ∙ o j hj
 
   free : (b : ℕ) → b < n → Off m (gains i a lists) b → (next′ b ≡ nowhere) × (prev′ b ≡ nowhere)
   free b hb o =

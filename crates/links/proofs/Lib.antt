@@ -7,3 +7,4 @@ pub mod Cells
 pub mod Empty
 pub mod Same
 pub mod Walks
+pub mod Moves

@@ -4,7 +4,7 @@ use mathlib.Core.Path.{_≡_, refl, sym, ap, ap₂, _∙_, subst}
 use mathlib.Core.Logic.{_≢_}
 use mathlib.Core.Bool.{true, false, true≢false}
 use mathlib.Core.List.{List, [], _∷_, _++_}
-use Prim.Native.Nat.{ℕ, _+_, _≤_, _<_}
+use Prim.Native.Nat.{ℕ, _≤_, _<_}
 use native.Mathlib.Omega.{arith}
 use lib.ListN.{length}
 use Rattle.rules.specs.AddressSets.{member, without, added}
@@ -100,6 +100,21 @@ without-gone a (c ∷ l) =
 pub added-new : (a : ℕ) (l : List ℕ) → member a l ≡ false → added a l ≡ l ++ (a ∷ [])
 unfolding added
 added-new a l h = rw (h, added)
+
+snoc-other : (a b : ℕ) (l : List ℕ) → b ≢ a → member b (l ++ (a ∷ [])) ≡ member b l
+unfolding member
+snoc-other a b [] n = member-skip b a [] n
+snoc-other a b (c ∷ l) n =
+    by-eqb b c
+    (λ e. subst (λ (u : ℕ). member b (u ∷ (l ++ (a ∷ []))) ≡ true) e (member-same b (l ++ (a ∷ []))) ∙ sym (subst (λ (u : ℕ). member b (u ∷ l) ≡ true) e (member-same b l)))
+    (λ q. member-skip b c (l ++ (a ∷ [])) q ∙ snoc-other a b l n ∙ sym (member-skip b c l q))
+
+-- .. and is there then, with the others
+pub added-same : (a : ℕ) (l : List ℕ) → member a l ≡ false → member a (added a l) ≡ true
+added-same a l h = ap (member a) (added-new a l h) ∙ member-right a l (a ∷ []) (member-same a [])
+
+pub added-other : (a b : ℕ) (l : List ℕ) → member a l ≡ false → b ≢ a → member b (added a l) ≡ member b l
+added-other a b l h n = ap (member b) (added-new a l h) ∙ snoc-other a b l n
 
 -- "a removed and reinserted address goes to the end"
 pub added-again : (a : ℕ) (l : List ℕ) → added a (without a l) ≡ without a l ++ (a ∷ [])
