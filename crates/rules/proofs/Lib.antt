@@ -32,5 +32,7 @@ pub mod KeepsNames
 pub mod KeepsNeeds
 pub mod Handles
 pub mod KeepsSteps
+pub mod Held
+pub mod Lookups
 pub mod Reached
 pub mod Kept
