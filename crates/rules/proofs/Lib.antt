@@ -34,5 +34,6 @@ pub mod Handles
 pub mod KeepsSteps
 pub mod Held
 pub mod Lookups
+pub mod Exact
 pub mod Reached
 pub mod Kept
