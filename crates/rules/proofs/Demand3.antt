@@ -2,20 +2,19 @@
 use mathlib.Core.Path.{_≡_, refl, sym, ap, subst, _∙_}
 use mathlib.Core.Bool.{true≢false}
 use mathlib.Core.List.{List, [], _∷_, _++_}
-use Prim.Native.Nat.{ℕ, zero, suc}
+use Prim.Native.Nat.{ℕ, suc}
 use native.Mathlib.Omega.{arith}
 use native.Mathlib.Nat.{le-of-eq}
 use lib.ListN.{replicate, length-replicate}
-use Rattle.rules.specs.Notation.{Answer, given, refused}
+use Rattle.rules.specs.Notation.{given, refused}
 use Rattle.rules.specs.Sizes.{Room}
 use Rattle.rules.specs.Slots.{Slots, Placement, edition1}
 use Rattle.rules.specs.Scopes.{freshScopes}
 use Rattle.rules.specs.Frames.{State, start, Frame, Line, Step, step, steps, Outcome, accepted, refusedAt, before, onward}
 use Rattle.rules.specs.Meaning.{Deed, deed, filled, shown, unlessRefused, meaning}
-use Rattle.rules.specs.Demand3.{Fair, Holds, Demand3}
-use Rattle.rules.proofs.Chains.{All}
-use Rattle.rules.proofs.Core.{View, Effect, Inv, Trace, ends, goes, told, prints, touches}
-use Rattle.rules.proofs.Effects.{view, Good, effect}
+use Rattle.rules.specs.Demand3.{Fair, Demand3}
+use Rattle.rules.proofs.Core.{Inv, Trace, ends, goes, told, prints, touches}
+use Rattle.rules.proofs.Effects.{view, effect}
 use Rattle.rules.proofs.Editions.{InOrder, edition1-fair}
 
 -- what stands behind the lines of an accepted script's first frame

@@ -1,72 +1,26 @@
 -- Each step of the rules has one of the core's effects, for every fair placement. Assumes nothing.
 use mathlib.Core.Path.{_≡_, refl, sym, ap, subst, _∙_}
-use mathlib.Core.Bool.{Bool, true, false, not, true≢false}
-use mathlib.Core.Option.{Option, none, some}
+use mathlib.Core.Bool.{Bool, true, false, true≢false}
 use mathlib.Core.List.{List, [], _∷_}
-use Prim.Native.Nat.{ℕ, zero, suc, _+_, max}
+use Prim.Native.Nat.{ℕ, zero, suc, _+_}
 use native.Mathlib.Omega.{arith}
 use native.Mathlib.Nat.{le-refl}
 use borrow.Author.Tests.{not-false}
-use Rattle.rules.specs.Notation.{Answer, given, _▹_, put}
+use Rattle.rules.specs.Notation.{given, _▹_, put}
 use Rattle.rules.specs.Sizes.{Room}
-use Rattle.rules.specs.Slots.{Slots, Placed, Placement, remove, removeAll}
-use Rattle.rules.specs.Scopes.{Binding, Scopes, Found, setScope, openChild, closed, dangleScope, restoreScope, allocate, bindIn, getName, takeName, drainDangling}
-use Rattle.rules.specs.Needs.{Kind, freed, giveBack}
-use Rattle.rules.specs.Frames.{Frame, child, pop, dangle, restore, popLast, alloc, allocIn, linear, define, get, takeFrom, free, freeQuietly, forget, drain, write, read, readName, Handle, kind≔, held≔, State, scopes≔, handles≔, handed≔, setHandle, grant, letGo, allot, close, handBack, freeHandle, Line, stores, loads, shows, Step, step}
-use Rattle.rules.specs.Meaning.{Deed, nothing, fill, show, deed}
+use Rattle.rules.specs.Slots.{Slots, Placement, remove, removeAll}
+use Rattle.rules.specs.Scopes.{Binding, Scopes, Found, closed, getName, drainDangling}
+use Rattle.rules.specs.Needs.{Kind, freed}
+use Rattle.rules.specs.Frames.{Frame, child, pop, dangle, restore, popLast, alloc, allocIn, linear, define, get, takeFrom, free, freeQuietly, forget, drain, write, read, readName, Handle, kind≔, held≔, State, scopes≔, handles≔, handed≔, setHandle, grant, allot, close, handBack, freeHandle, Line, loads, shows, step}
+use Rattle.rules.specs.Meaning.{Deed, nothing, deed}
 use Rattle.rules.specs.Demand3.{Fair}
 use Rattle.rules.proofs.Chains.{All, all-given, all-then, all-when, all-unless, all-if}
 use Rattle.rules.proofs.Tables.{put-same, put-other, put-alike, letGo-held, remove-other, removeAll-other}
-use Rattle.rules.proofs.Core.{View, Still, Effect, fewer, back, placing, storing, loading}
+use Rattle.rules.proofs.Leaves.{Leaves, left, child-leaves, bind-leaves, take-leaves, dangle-leaves, restore-leaves, back-leaves, Allotted, allotted}
+use Rattle.rules.proofs.Core.{View, Effect, fewer, back, placing, storing, loading}
 
 abbrev pub view : State → View
 view s = record { occupied = s .scopes .slots .occupied; size = s .scopes .size; handles = s .handles }
-
--- ---- what the calls of "Scopes" do to slots and size
-
-record Same (c d : Scopes) : Type 0 where
-  slots : d .slots ≡ c .slots
-  size : d .size ≡ c .size
-
-pub record Allocated (place : Placement) (n : ℕ) (c : Scopes) (r : ℕ × Scopes) : Type 0 where
-  pub placed : Placed
-  pub from : place n (c .slots) ≡ some placed
-  pub address : r .0 ≡ placed .address
-  pub slots : r .1 .slots ≡ placed .next
-  pub size : r .1 .size ≡ max (c .size) (placed .address + n)
-
-record Returned (a : ℕ) (c d : Scopes) : Type 0 where
-  slots : d .slots ≡ remove a (c .slots)
-  size : d .size ≡ c .size
-
-module _ (room : Room) (c : Scopes) where
-  child-same : All (λ r. Same c (r .1)) (openChild room c)
-  unfolding openChild
-  child-same = all-unless 3 λ t _. all-unless 8 λ i _. all-given (record { slots = refl; size = refl })
-
-  dangle-same : (s : Option Found) → All (Same c) (dangleScope s c)
-  unfolding dangleScope setScope
-  dangle-same s = all-unless 4 λ k _. all-when 5 _ λ _. all-given (record { slots = refl; size = refl })
-
-  restore-same : (s : Option Found) → All (Same c) (restoreScope s c)
-  unfolding restoreScope setScope
-  restore-same s = all-unless 4 λ k _. all-when 5 _ λ _. all-given (record { slots = refl; size = refl })
-
-  bind-same : (t : Found) (name a h : ℕ) → All (Same c) (bindIn room t name a h c)
-  unfolding bindIn
-  bind-same t name a h = all-when 9 _ λ _. all-given (record { slots = refl; size = refl })
-
-  take-same : (name : ℕ) → All (λ r. Same c (r .1)) (takeName room name c)
-  unfolding takeName
-  take-same name = all-then λ b _. all-given (record { slots = refl; size = refl })
-
-  pub allocated : (place : Placement) (k : Found) (n : ℕ) → All (Allocated place n c) (allocate place k n c)
-  unfolding allocate setScope
-  allocated place k n = all-unless 7 λ p e. all-given (record { placed = p; from = e; address = refl; slots = refl; size = refl })
-
-  returned : (dangles : Bool) (a : ℕ) → All (Returned a c) (giveBack dangles a c)
-  unfolding giveBack setScope
-  returned dangles a = all-unless 12 λ t _. all-when 12 _ λ _. all-given (record { slots = refl; size = refl })
 
 -- ---- a step
 
@@ -78,7 +32,7 @@ module _ (room : Room) (place : Placement) (InOrder : Slots → Type 0) (fair : 
     pub effect : Effect (view s) d line (view t)
     pub order : InOrder (t .scopes .slots)
 
-  pub in-order-all : (l : List ℕ) (s : Slots) → InOrder s → InOrder (removeAll l s)
+  in-order-all : (l : List ℕ) (s : Slots) → InOrder s → InOrder (removeAll l s)
   unfolding removeAll
   in-order-all [] s o = o
   in-order-all (a ∷ l) s o = in-order-all l (remove a s) (fair .removed a s o)
@@ -94,11 +48,11 @@ module _ (room : Room) (place : Placement) (InOrder : Slots → Type 0) (fair : 
     quiet : (o : ℕ) (l : List ℕ) → Shows o l s
     quiet o l = good (fewer (le-refl _) (λ h e. record { held = e; address = refl; written = λ w. w }) (λ h e w. w)) order
 
-    same : (o : ℕ) (l : List ℕ) (c : Scopes) → Same (s .scopes) c → Shows o l (s ▹ scopes≔ c)
+    same : (o : ℕ) (l : List ℕ) (c : Scopes) {bindings : List Binding} {counter : ℕ} → Leaves (s .scopes .slots) bindings counter (s .scopes .size) c → Shows o l (s ▹ scopes≔ c)
     same o l c q =
         good
-        (fewer {w = view (s ▹ scopes≔ c)} (rw (q .size) (le-refl _)) (λ h e. record { held = e; address = refl; written = λ w. w }) (λ h e w. rw (q .slots) w))
-        (rw (q .slots) order)
+        (fewer {w = view (s ▹ scopes≔ c)} (rw (q .size-is) (le-refl _)) (λ h e. record { held = e; address = refl; written = λ w. w }) (λ h e w. rw (q .slots-are) w))
+        (rw (q .slots-are) order)
 
     kind-only : (o : ℕ) (l : List ℕ) (h : ℕ) (k : Kind) → Shows o l (s ▹ setHandle h (s .handles h ▹ kind≔ k))
     unfolding setHandle
@@ -125,19 +79,19 @@ module _ (room : Room) (place : Placement) (InOrder : Slots → Type 0) (fair : 
         (λ h e w. removeAll-other gone (s .handles h .address) (s .scopes .slots) (letGo-held gone (s .handles) h e .0) w))
         (in-order-all gone (s .scopes .slots) order)
 
-    allot-good : (kind : Kind) (n o : ℕ) (l : List ℕ) (r : ℕ × Scopes) → Allocated place n (s .scopes) r
+    allot-good : (kind : Kind) (n o : ℕ) (l : List ℕ) (r : ℕ × Scopes) → Allotted place n (s .scopes) r
         → Shows o l (s ▹ scopes≔ (r .1) ▹ handles≔ (grant (s .handed) n (r .0) kind (s .handles)) ▹ handed≔ (s .handed + n))
     allot-good kind n o l r w =
         let g = fair .placed n (s .scopes .slots) (w .placed) (w .from) order in
-        let z = w .size in
+        let z = w .leaves .size-is in
         good
         (placing {w = view (s ▹ scopes≔ (r .1) ▹ handles≔ (grant (s .handed) n (r .0) kind (s .handles)) ▹ handed≔ (s .handed + n))}
-        (s .handed) n (w .placed .address) kind (omega arith) (omega arith) (g .1 .clear) (λ i q. rw (w .slots) (g .1 .taken i q)) (λ b q. rw (w .slots) (g .1 .kept b q)) (rw (w .address)))
-        (rw (w .slots) (g .0))
+        (s .handed) n (w .placed .address) kind (omega arith) (omega arith) (g .1 .clear) (λ i q. rw (w .leaves .slots-are) (g .1 .taken i q)) (λ b q. rw (w .leaves .slots-are) (g .1 .kept b q)) (rw (w .address)))
+        (rw (w .leaves .slots-are) (g .0))
 
     allot-effect : (k : Found) (kind : Kind) (n o : ℕ) (l : List ℕ) → All (λ r. Shows o l (r .1)) (allot room place k kind n s)
     unfolding allot
-    allot-effect k kind n o l = all-when 16 _ λ _. all-then λ r e. all-given (allot-good kind n o l r (allocated room (s .scopes) place k n .at r e))
+    allot-effect k kind n o l = all-when 16 _ λ _. all-then λ r e. all-given (allot-good kind n o l r (allotted place k n (s .scopes) .at r e))
 
     back-effect : (dangles : Bool) (h o : ℕ) (l : List ℕ) → All (Shows o l) (handBack dangles h s)
     unfolding handBack setHandle
@@ -146,14 +100,14 @@ module _ (room : Room) (place : Placement) (InOrder : Slots → Type 0) (fair : 
         let lost : (j : ℕ) → put (s .handles) h z j .held ≡ true → h ≡ j → ⊥
         = λ j p e. true≢false (sym p ∙ subst (λ (i : ℕ). put (s .handles) h z i .held ≡ false) e (ap (λ (x : Handle). x .held) (put-same (s .handles) h z))) in
         all-when 14 _ λ e. all-then λ c q.
-        let w = returned room (s .scopes) dangles (s .handles h .address) .at c q in
+        let w = back-leaves (s .scopes) dangles (s .handles h .address) .at c q in
         all-given
         (good
-        (back h (not-false _ e) (rw (w .size) (le-refl _))
+        (back h (not-false _ e) (rw (w .size-is) (le-refl _))
         (λ j p. let c = put-other (s .handles) h z j (lost j p) in
         (lost j p, record { held = ap (λ (x : Handle). x .held) (sym c) ∙ p; address = ap (λ (x : Handle). x .address) c; written = λ w. ap (λ (x : Handle). x .written) (sym c) ∙ w }))
-        (λ b ne p. rw (w .slots) (remove-other (s .handles h .address) b (s .scopes .slots) ne p)))
-        (rw (w .slots) (fair .removed (s .handles h .address) (s .scopes .slots) order)))
+        (λ b ne p. rw (w .slots-are) (remove-other (s .handles h .address) b (s .scopes .slots) ne p)))
+        (rw (w .slots-are) (fair .removed (s .handles h .address) (s .scopes .slots) order)))
 
     free-effect : (dangles : Bool) (h o : ℕ) (l : List ℕ) → All (Shows o l) (freeHandle dangles h s)
     unfolding freeHandle
@@ -166,22 +120,22 @@ module _ (room : Room) (place : Placement) (InOrder : Slots → Type 0) (fair : 
 
     pub effect : (f : Frame) → All (λ r. Good s (deed room s f) (r .0) (r .1)) (step room place s f)
     unfolding step deed setHandle drainDangling
-    effect child = all-then λ r e. all-given (same _ _ _ (child-same room (s .scopes) .at r e))
+    effect child = all-then λ r e. all-given (same _ _ _ (child-leaves room (s .scopes) .at r e .1))
     effect (pop n) = all-then λ k _. all-given (closing _ _ k)
-    effect (dangle n) = all-then λ c e. all-given (same _ _ _ (dangle-same room (s .scopes) _ .at c e))
-    effect (restore n) = all-then λ c e. all-given (same _ _ _ (restore-same room (s .scopes) _ .at c e))
+    effect (dangle n) = all-then λ c e. all-given (same _ _ _ (dangle-leaves (s .scopes) _ .at c e))
+    effect (restore n) = all-then λ c e. all-given (same _ _ _ (restore-leaves (s .scopes) _ .at c e))
     effect popLast = all-then λ k _. all-given (closing _ _ k)
     effect alloc = all-unless 3 λ t _. all-then λ r e. all-given (allot-effect t _ 1 0x06 _ .at r e)
     effect (allocIn n) = all-unless 4 λ k _. all-then λ r e. all-given (allot-effect k _ 1 0x07 _ .at r e)
     effect (linear zero) = all-unless 3 λ _ _. all-given (quiet _ _)
     effect (linear (suc n)) = all-unless 3 λ t _. all-then λ r e. all-given (allot-effect t _ (suc n) 0x08 _ .at r e)
-    effect (define name h) = all-unless 3 λ t _. all-when 13 _ λ _. all-then λ c e. all-given (same _ _ _ (bind-same room (s .scopes) t name _ h .at c e))
+    effect (define name h) = all-unless 3 λ t _. all-when 13 _ λ _. all-then λ c e. all-given (same _ _ _ (bind-leaves room (s .scopes) t name _ h .at c e))
     effect (get name) = all-then λ b _. all-given (quiet _ _)
-    effect (takeFrom name) = all-then λ r e. all-given (same _ _ _ (take-same room (s .scopes) name .at r e))
+    effect (takeFrom name) = all-then λ r e. all-given (same _ _ _ (take-leaves room (s .scopes) name .at r e .1))
     effect (free h) = all-then λ t e. all-given (free-effect true h 0x0c [] .at t e)
     effect (freeQuietly h) = all-then λ t e. all-given (free-effect false h 0x0d [] .at t e)
     effect (forget h) = all-when 13 _ λ _. all-given (kind-only _ _ h freed)
-    effect drain = all-given (same _ _ _ (record { slots = refl; size = refl }))
+    effect drain = all-given (same _ _ _ (left _))
     effect (write h v) = all-when 13 _ λ _. all-when 14 _ λ e. all-given (good (storing h v _ (not-false _ e)) order)
     effect (read h) = all-when 13 _ λ _. all-when 14 _ λ e. all-when 15 _ λ w. all-given (good (loading h (not-false _ e) (not-false _ w)) order)
     effect (readName name) = all-then λ b r. all-when 14 _ λ e. all-when 15 _ λ w. all-given (named name b r (not-false _ e) (not-false _ w))

@@ -1,38 +1,40 @@
 -- Every line of an accepted script's list fits its digits. Assumes nothing.
-use mathlib.Core.Path.{_≡_, refl, sym, ap, subst, _∙_}
+use mathlib.Core.Path.{_≡_, refl}
 use mathlib.Core.Bool.{false}
 use mathlib.Core.Option.{some}
 use mathlib.Core.List.{List, [], _∷_, _++_}
-use Prim.Native.Nat.{ℕ, zero, suc, _+_, _*_, _≤_, _<_}
+use Prim.Native.Nat.{ℕ, zero, suc, _*_, _≤_, _<_}
 use native.Mathlib.Omega.{arith}
 use lib.Dec.{eqb, lit<}
 use lib.ListN.{length}
 use borrow.Author.Tests.{eq-eqb}
-use Rattle.rules.specs.Notation.{Answer, given}
 use Rattle.rules.specs.Sizes.{Room, base}
-use Rattle.rules.specs.Slots.{Slots, Placed, Placement}
-use Rattle.rules.specs.AddressSets.{member}
-use Rattle.rules.specs.Scopes.{Scopes, Found, openChild, allocate, getName, takeName, drainDangling}
+use Rattle.rules.specs.Slots.{Placement}
+use Rattle.rules.specs.Scopes.{Binding, Found, openChild, drainDangling}
 use Rattle.rules.specs.Needs.{Kind}
-use Rattle.rules.specs.Frames.{Frame, child, pop, dangle, restore, popLast, alloc, allocIn, linear, define, get, takeFrom, free, freeQuietly, forget, drain, write, read, readName, State, allot, Line, stores, loads, shows, step}
+use Rattle.rules.specs.Frames.{Frame, child, pop, dangle, restore, popLast, alloc, allocIn, linear, define, get, takeFrom, free, freeQuietly, forget, drain, write, read, readName, State, allot, Line, loads, shows, step}
 use Rattle.rules.specs.Text.{rowed, lineTable, counted}
 use Rattle.rules.specs.Demand3.{Fair}
-use Rattle.rules.proofs.Chains.{All, all-given, all-then, all-when, all-unless}
+use Rattle.rules.proofs.Chains.{All, all-as, all-given, all-then, all-when, all-unless}
 use Rattle.rules.proofs.Sets.{Within, member-same, member-tail, pigeons}
-use Rattle.rules.proofs.Effects.{allocated}
+use Rattle.rules.proofs.Leaves.{child-leaves, take-leaves}
 use Rattle.rules.proofs.Digits.{Fit, fit-nil, fit}
-use Rattle.rules.proofs.Lists.{FitLine, FitLines, no-lines, lines}
-use Rattle.rules.proofs.Small.{Fits, Small, every-got}
+use Rattle.rules.proofs.Lists.{FitLine, FitLines, lines}
+use Rattle.rules.proofs.Names.{bound-is, BoundAs, got}
+use Rattle.rules.proofs.Sound.{SlotsSound, StateSound}
+use Rattle.rules.proofs.Small.{Small, allot-small}
 
--- a room whose numbers fit four digits
+-- a room with a slot and a scope, whose numbers fit four digits
 pub record Wide (room : Room) : Type 0 where
+  pub segments : 0 < room .segments
+  pub scopes : 0 < room .scopes
   pub slots : 128 * room .segments ≤ room .size
   pub size : room .size < 65536
   pub lines : room .lines < 65536
 
 pub base-wide : Wide base
 unfolding base
-base-wide = record { slots = omega arith; size = lit< tt; lines = lit< tt }
+base-wide = record { segments = lit< tt; scopes = lit< tt; slots = omega arith; size = lit< tt; lines = lit< tt }
 
 -- "values are 16 bits"
 abbrev pub FitFrame : Frame → Type 0
@@ -88,37 +90,32 @@ counted-reads o l = rw (eq-eqb (length l) (length l) refl, counted)
 
 -- ---- a step
 
-module _ (room : Room) (place : Placement) (Ord : Slots → Type 0) (fair : Fair room place Ord) (wide : Wide room)
-    (i : ℕ) (early : i < room .lines) (s : State) (small : Small (128 * room .segments) Ord i s) where
+module _ (room : Room) (place : Placement) (fair : Fair room place (SlotsSound (room .segments))) (wide : Wide room)
+    (i : ℕ) (early : i < room .lines) (s : State) (ok : StateSound room s) (small : Small i s) where
+  slots-fit : 128 * room .segments < 65536
+  slots-fit = omega (arith, wide .slots, wide .size)
+
   child-fits : All (λ r. r .0 .number < 65536) (openChild room (s .scopes))
-  unfolding openChild
-  child-fits = all-unless 3 λ t _. all-unless 8 λ j _. all-given (omega (arith, small .scopes .count, wide .lines))
+  child-fits = all-as (λ r w. omega (arith, w .0, small .count, wide .lines)) (child-leaves room (s .scopes))
 
   allot-fits : (k : Found) (kind : Kind) (n : ℕ) → All (λ r. r .0 < 65536) (allot room place k kind n s)
-  unfolding allot
-  allot-fits k kind n =
-      all-when 16 _ λ _. all-then λ r e.
-      let w = allocated room (s .scopes) place k n .at r e in
-      let g = fair .placed n (s .scopes .slots) (w .placed) (w .from) (small .scopes .order) in
-      all-given (rw (w .address) (omega (arith, g .2, wide .slots, wide .size)))
+  allot-fits k kind n = all-as (λ r w. omega (arith, w .1, slots-fit)) (allot-small room place fair slots-fit i s (ok .scopes .slots) small k kind n)
 
-  named : (name : ℕ) → All Fits (getName room name (s .scopes))
-  named name = every-got room (s .scopes) name (small .scopes .names)
-
-  taken : (name : ℕ) → All (λ r. Fits (r .0)) (takeName room name (s .scopes))
-  unfolding takeName
-  taken name = all-then λ b e. all-given (named name .at b e)
+  -- a binding's address is its handle's
+  bound-fits : (name : ℕ) (b : Binding) → BoundAs (s .scopes .bindings) name b → b .address < 65536
+  bound-fits name b w =
+      let agrees = bound-is (w .index) name (s .scopes .bindings) b (w .is) (ok .agreeing) .2 in
+      rw (agrees .1) at (small .addresses (b .handle))
 
   drain-fits : OneFit (shows 0x0f (length (s .scopes .dangling) ∷ s .scopes .dangling) ∷ [])
   unfolding rowed lineTable
   drain-fits =
-      let m : 128 * room .segments < 65536 = omega (arith, wide .slots, wide .size) in
       one-fit
       (record {
         small = lit< tt;
         fits = fit {a = length (s .scopes .dangling)}
-            (omega (arith, pigeons (128 * room .segments) (s .scopes .dangling) (small .scopes .once) (small .scopes .dangling)))
-            (fit-within (128 * room .segments) (s .scopes .dangling) m (small .scopes .dangling));
+            (omega (arith, pigeons (128 * room .segments) (s .scopes .dangling) (ok .scopes .dangling .once) (ok .scopes .dangling .within), slots-fit))
+            (fit-within (128 * room .segments) (s .scopes .dangling) slots-fit (ok .scopes .dangling .within));
         reads = counted-reads 0x0f (s .scopes .dangling);
         other = refl;
       })
@@ -135,8 +132,8 @@ module _ (room : Room) (place : Placement) (Ord : Slots → Type 0) (fair : Fair
   fits-step (linear zero) ff = all-unless 3 λ _ _. all-given (line1 0x08 0xffff (lit< tt) (lit< tt) refl refl)
   fits-step (linear (suc n)) ff = all-unless 3 λ t _. all-then λ r e. all-given (line1 0x08 (r .0) (lit< tt) (allot-fits t _ (suc n) .at r e) refl refl)
   fits-step (define name h) ff = all-unless 3 λ t _. all-when 13 _ λ _. all-then λ c _. all-given (line0 0x09 (lit< tt) refl refl)
-  fits-step (get name) ff = all-then λ b e. all-given (line1 0x0a (b .address) (lit< tt) (named name .at b e) refl refl)
-  fits-step (takeFrom name) ff = all-then λ r e. all-given (line1 0x0b (r .0 .address) (lit< tt) (taken name .at r e) refl refl)
+  fits-step (get name) ff = all-then λ b e. all-given (line1 0x0a (b .address) (lit< tt) (bound-fits name b (got room name (s .scopes) .at b e)) refl refl)
+  fits-step (takeFrom name) ff = all-then λ r e. all-given (line1 0x0b (r .0 .address) (lit< tt) (bound-fits name (r .0) (take-leaves room (s .scopes) name .at r e .0)) refl refl)
   fits-step (free h) ff = all-then λ t _. all-given (line0 0x0c (lit< tt) refl refl)
   fits-step (freeQuietly h) ff = all-then λ t _. all-given (line0 0x0d (lit< tt) refl refl)
   fits-step (forget h) ff = all-when 13 _ λ _. all-given (line0 0x0e (lit< tt) refl refl)

@@ -1,7 +1,6 @@
 -- Every step of a script keeps soundness with handles: in any room whose size holds its slots, for every fair placement. Assumes nothing.
 use mathlib.Core.Path.{_≡_, refl, ap}
 use mathlib.Core.Bool.{Bool, true, false, _||_}
-use mathlib.Core.Option.{Option, some}
 use mathlib.Core.List.{List}
 use Prim.Native.Nat.{ℕ, zero, suc, _+_, _*_, _≤_, _<_}
 use native.Mathlib.Omega.{arith}
@@ -9,65 +8,21 @@ use native.Mathlib.Nat.{le-refl}
 use borrow.Author.Tests.{leb-false, ltb-false, not-false}
 use Rattle.rules.specs.Notation.{_▹_, put}
 use Rattle.rules.specs.Sizes.{Room}
-use Rattle.rules.specs.Slots.{Slots, Placed, Placement, remove}
-use Rattle.rules.specs.Scopes.{Binding, Scopes, moved≔, Found, byNumber, hasChild, setScope, openChild, allocate, closed, dangleScope, restoreScope, rebound, bindIn, takeName, drainDangling}
-use Rattle.rules.specs.Needs.{Kind, freed, isFreed, giveBack}
+use Rattle.rules.specs.Slots.{Placement, remove}
+use Rattle.rules.specs.Scopes.{Binding, Scopes, moved≔, Found, byNumber, hasChild, closed, bindIn, takeName, drainDangling}
+use Rattle.rules.specs.Needs.{Kind, freed, isFreed}
 use Rattle.rules.specs.Frames.{Frame, child, pop, dangle, restore, popLast, alloc, allocIn, linear, define, get, takeFrom, free, freeQuietly, forget, drain, write, read, readName, Handle, kind≔, held≔, State, scopes≔, handles≔, handed≔, setHandle, unknown, spent, grant, allot, close, handBack, freeHandle, step}
 use Rattle.rules.specs.Demand3.{Fair}
 use Rattle.rules.proofs.Chains.{All, all-given, all-then, all-when, all-unless, all-if}
 use Rattle.rules.proofs.Tables.{put-alike}
 use Rattle.rules.proofs.Sound.{Every, SlotsSound, Sound, Agrees, StateSound}
 use Rattle.rules.proofs.Naming.{Here, top-here, number-here}
-use Rattle.rules.proofs.Names.{every-as, bound-is, rebound-every, unbound-every, BoundAs, got}
+use Rattle.rules.proofs.Names.{every-as, bound-is, rebound-every, unbound-every}
+use Rattle.rules.proofs.Leaves.{Leaves, left, child-leaves, bind-leaves, take-leaves, dangle-leaves, restore-leaves, back-leaves, Allotted, allotted}
 use Rattle.rules.proofs.Handles.{handles-alike, agrees-alike, grant-old, handles-given, agrees-closed, handles-closed, handles-back}
 use Rattle.rules.proofs.KeepsScopes.{keeps-child, keeps-dangle, keeps-restore, closed-sound, poppable-is, last-is}
 use Rattle.rules.proofs.KeepsSlots.{keeps-allocate, keeps-back}
 use Rattle.rules.proofs.KeepsNames.{keeps-bind, keeps-take, keeps-drain}
-
--- ---- the slots and the bindings that a call leaves
-
-record Leaves (slots : Slots) (bindings : List Binding) (d : Scopes) : Type 0 where
-  slots-are : d .slots ≡ slots
-  bindings-are : d .bindings ≡ bindings
-
-left : (d : Scopes) → Leaves (d .slots) (d .bindings) d
-left d = record { slots-are = refl; bindings-are = refl }
-
-child-leaves : (room : Room) (c : Scopes) → All (λ r. Leaves (c .slots) (c .bindings) (r .1)) (openChild room c)
-unfolding openChild
-child-leaves room c = all-unless 3 λ t _. all-unless 8 λ i _. all-given (left _)
-
-dangle-leaves : (o : Option Found) (c : Scopes) → All (Leaves (c .slots) (c .bindings)) (dangleScope o c)
-unfolding dangleScope setScope
-dangle-leaves o c = all-unless 4 λ k _. all-when 5 _ λ _. all-given (left _)
-
-restore-leaves : (o : Option Found) (c : Scopes) → All (Leaves (c .slots) (c .bindings)) (restoreScope o c)
-unfolding restoreScope setScope
-restore-leaves o c = all-unless 4 λ k _. all-when 5 _ λ _. all-given (left _)
-
-bind-leaves : (room : Room) (t : Found) (name address handle : ℕ) (c : Scopes)
-    → All (Leaves (c .slots) (rebound (record { scope = t .index; name = name; address = address; handle = handle; moved = false }) (c .bindings))) (bindIn room t name address handle c)
-unfolding bindIn
-bind-leaves room t name address handle c = all-when 9 _ λ _. all-given (left _)
-
-back-leaves : (dangles : Bool) (a : ℕ) (c : Scopes) → All (Leaves (remove a (c .slots)) (c .bindings)) (giveBack dangles a c)
-unfolding giveBack setScope
-back-leaves dangles a c = all-unless 12 λ t _. all-when 12 _ λ _. all-given (left _)
-
-record Allotted (place : Placement) (n : ℕ) (c : Scopes) (r : ℕ × Scopes) : Type 0 where
-  placed : Placed
-  from : place n (c .slots) ≡ some placed
-  address : r .0 ≡ placed .address
-  leaves : Leaves (placed .next) (c .bindings) (r .1)
-
-allotted : (place : Placement) (k : Found) (n : ℕ) (c : Scopes) → All (Allotted place n c) (allocate place k n c)
-unfolding allocate setScope
-allotted place k n c = all-unless 7 λ p e. all-given (record { placed = p; from = e; address = refl; leaves = left _ })
-
--- a binding that a lookup found, and the same one moved
-take-leaves : (room : Room) (name : ℕ) (c : Scopes) → All (λ r. BoundAs (c .bindings) name (r .0) × Leaves (c .slots) (rebound (r .0 ▹ moved≔ true) (c .bindings)) (r .1)) (takeName room name c)
-unfolding takeName
-take-leaves room name c = all-then λ b e. all-given (got room name c .at b e, left _)
 
 -- ---- states
 
@@ -76,7 +31,7 @@ module _ (room : Room) (s : State) (ok : StateSound room s) where
   c = s .scopes
 
   -- other scopes in the same slots
-  with-scopes : (d : Scopes) (bindings : List Binding) → Sound room d → Leaves (c .slots) bindings d → Every (Agrees (s .handles) (s .handed)) bindings → StateSound room (s ▹ scopes≔ d)
+  with-scopes : (d : Scopes) (bindings : List Binding) {counter size : ℕ} → Sound room d → Leaves (c .slots) bindings counter size d → Every (Agrees (s .handles) (s .handed)) bindings → StateSound room (s ▹ scopes≔ d)
   with-scopes d bindings sound l agrees = record {
     scopes = sound;
     handles = rw (l .slots-are) (ok .handles);
@@ -102,12 +57,12 @@ module _ (room : Room) (s : State) (ok : StateSound room s) where
 
   back-kept : (dangles : Bool) (h : ℕ) → h < s .handed → All (StateSound room) (handBack dangles h s)
   unfolding handBack setHandle
-  back-kept dangles h l = all-when 14 _ λ held. all-then λ d e. all-given (go d (not-false _ held) (keeps-back room c (ok .scopes) dangles (s .handles h .address) .at d e) (back-leaves dangles (s .handles h .address) c .at d e))
+  back-kept dangles h l = all-when 14 _ λ held. all-then λ d e. all-given (go d (not-false _ held) (keeps-back room c (ok .scopes) dangles (s .handles h .address) .at d e) (back-leaves c dangles (s .handles h .address) .at d e))
     where
       x : Handle
       x = s .handles h ▹ held≔ false ▹ kind≔ freed
 
-      go : (d : Scopes) → s .handles h .held ≡ true → Sound room d → Leaves (remove (s .handles h .address) (c .slots)) (c .bindings) d → StateSound room (s ▹ scopes≔ d ▹ handles≔ (put (s .handles) h x))
+      go : (d : Scopes) → s .handles h .held ≡ true → Sound room d → Leaves (remove (s .handles h .address) (c .slots)) (c .bindings) (c .counter) (c .size) d → StateSound room (s ▹ scopes≔ d ▹ handles≔ (put (s .handles) h x))
       go d held sound v = record {
         scopes = sound;
         handles = rw (v .slots-are) (handles-back (c .slots) (ok .scopes .slots) (ok .handles) h l held x refl);
@@ -146,24 +101,24 @@ module _ (room : Room) (s : State) (ok : StateSound room s) where
 
     bind-kept : (t : Found) (name h : ℕ) → Here (room .scopes) (c .live) t → h < s .handed → All (λ d. StateSound room (s ▹ scopes≔ d)) (bindIn room t name (s .handles h .address) h c)
     bind-kept t name h here l = record {
-      at = λ d e. with-scopes d _ (keeps-bind room c (ok .scopes) t name (s .handles h .address) h here .at d e) (bind-leaves room t name (s .handles h .address) h c .at d e)
+      at = λ d e. with-scopes d _ (keeps-bind room c (ok .scopes) t name (s .handles h .address) h here .at d e) (bind-leaves room c t name (s .handles h .address) h .at d e)
           (rebound-every (record { scope = t .index; name = name; address = s .handles h .address; handle = h; moved = false }) (l, refl) (ok .agreeing));
     }
 
     take-kept : (name : ℕ) → All (λ r. StateSound room (s ▹ scopes≔ (r .1))) (takeName room name c)
     take-kept name = record {
       at = λ r e.
-          let v = take-leaves room name c .at r e in
+          let v = take-leaves room c name .at r e in
           with-scopes (r .1) _ (keeps-take room c (ok .scopes) name .at r e) (v .1)
           (rebound-every (r .0 ▹ moved≔ true) (bound-is (v .0 .index) name (c .bindings) (r .0) (v .0 .is) (ok .agreeing) .2) (ok .agreeing));
     }
 
     pub keeps-step : (f : Frame) → All (λ r. StateSound room (r .1)) (step room place s f)
     unfolding step drainDangling
-    keeps-step child = all-then λ r e. all-given (with-scopes (r .1) (c .bindings) (keeps-child room c (ok .scopes) .at r e) (child-leaves room c .at r e) (ok .agreeing))
+    keeps-step child = all-then λ r e. all-given (with-scopes (r .1) (c .bindings) (keeps-child room c (ok .scopes) .at r e) (child-leaves room c .at r e .1) (ok .agreeing))
     keeps-step (pop n) = all-then λ k e. let p = poppable-is room c (ok .scopes) (byNumber room c n) (number-here room c n) .at k e in all-given (close-kept k (p .0) (p .1))
-    keeps-step (dangle n) = all-then λ d e. all-given (with-scopes d (c .bindings) (keeps-dangle room c (ok .scopes) (byNumber room c n) (number-here room c n) .at d e) (dangle-leaves (byNumber room c n) c .at d e) (ok .agreeing))
-    keeps-step (restore n) = all-then λ d e. all-given (with-scopes d (c .bindings) (keeps-restore room c (ok .scopes) (byNumber room c n) (number-here room c n) .at d e) (restore-leaves (byNumber room c n) c .at d e) (ok .agreeing))
+    keeps-step (dangle n) = all-then λ d e. all-given (with-scopes d (c .bindings) (keeps-dangle room c (ok .scopes) (byNumber room c n) (number-here room c n) .at d e) (dangle-leaves c (byNumber room c n) .at d e) (ok .agreeing))
+    keeps-step (restore n) = all-then λ d e. all-given (with-scopes d (c .bindings) (keeps-restore room c (ok .scopes) (byNumber room c n) (number-here room c n) .at d e) (restore-leaves c (byNumber room c n) .at d e) (ok .agreeing))
     keeps-step popLast = all-then λ k e. let p = last-is room c (ok .scopes) .at k e in all-given (close-kept k (p .0) (p .1))
     keeps-step alloc = all-unless 3 λ t e. all-then λ r q. all-given (allot-kept t _ 1 (top-here c t e (room .scopes) (ok .scopes .top)) .at r q)
     keeps-step (allocIn n) = all-unless 4 λ k e. all-then λ r q. all-given (allot-kept k _ 1 (number-here room c n k e) .at r q)

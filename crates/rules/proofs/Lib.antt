@@ -11,15 +11,12 @@ pub mod Tests
 pub mod HandleTests
 pub mod Placing
 pub mod Editions
+pub mod Leaves
 pub mod Core
 pub mod Effects
 pub mod Demand3
 pub mod Digits
 pub mod Lists
-pub mod Small
-pub mod Fits
-pub mod Scripts
-pub mod Bytes
 pub mod Members
 pub mod Removing
 pub mod Naming
@@ -37,3 +34,7 @@ pub mod Lookups
 pub mod Exact
 pub mod Reached
 pub mod Kept
+pub mod Small
+pub mod Fits
+pub mod Scripts
+pub mod Bytes

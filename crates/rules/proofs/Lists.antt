@@ -1,16 +1,16 @@
 -- A list that is written reads back as the same lines and size. Assumes nothing.
 use mathlib.Core.Path.{_≡_, refl, sym, ap, _∙_}
 use mathlib.Core.Bool.{Bool, true, false}
-use mathlib.Core.Option.{Option, none, some}
+use mathlib.Core.Option.{none, some}
 use mathlib.Core.List.{List, [], _∷_, _++_, append-assoc}
-use Prim.Native.Nat.{ℕ, zero, suc, _+_, _/_, _%_, _≤_, _<_}
+use Prim.Native.Nat.{ℕ, suc, _+_, _≤_, _<_}
 use native.Mathlib.Omega.{arith}
 use lib.Dec.{eqb, ltb}
 use lib.ListN.{length}
 use borrow.Author.Tests.{ne-eqb, le-leb}
 use Rattle.rules.specs.Sizes.{Room}
-use Rattle.rules.specs.Frames.{Line, stores, loads, shows}
-use Rattle.rules.specs.Text.{digit, hex2, hex4, hexes, raw, Raw, Split, split, onto, Row, rowed, lineOf, opcodeOf, operandsOf, lineText, listText, lineTable, sizeTable, Listed, listed, sizeAt, listFrom}
+use Rattle.rules.specs.Frames.{Line}
+use Rattle.rules.specs.Text.{digit, hex2, hex4, hexes, split, onto, Row, rowed, lineOf, opcodeOf, operandsOf, lineText, listText, lineTable, sizeTable, listed, sizeAt, listFrom}
 use Rattle.rules.proofs.Digits.{Fit, fit-nil, fit, raw-line}
 
 -- ---- lines

@@ -1,15 +1,13 @@
 -- insert in the wording of "Slots" and in a short form: the least clear slot from segment min(H, L) up to segment L, or a new segment.
 -- Assumes nothing.
 use mathlib.Core.Path.{_≡_, refl, sym, ap, _∙_}
-use mathlib.Core.Bool.{Bool, true, false, not}
+use mathlib.Core.Bool.{Bool, true, not}
 use mathlib.Core.Option.{Option, none, some}
-use Prim.Native.Nat.{ℕ, zero, suc, _+_, _*_, _-_, _/_, _≤_, _<_, min}
+use Prim.Native.Nat.{ℕ, zero, suc, _+_, _*_, _-_, _/_, min}
 use native.Mathlib.Omega.{arith}
-use lib.Dec.{eqb}
-use Rattle.rules.specs.Notation.{isSome, orElse, put, first}
-use Rattle.rules.specs.Slots.{Slots, Placed, placed, clearIn, hasClear, lowestClear, firstWithClear, insertInto, insertNew, insert}
-use Rattle.rules.proofs.Chains.{none-some}
-use Rattle.rules.proofs.Searches.{Least, first-found, first-on}
+use Rattle.rules.specs.Notation.{put, first}
+use Rattle.rules.specs.Slots.{Slots, Placed, placed, clearIn, hasClear, firstWithClear, insertInto, insertNew, insert}
+use Rattle.rules.proofs.Searches.{first-found, first-on}
 
 abbrev pub clear : Slots → ℕ → Bool
 clear s a = not (s .occupied a)

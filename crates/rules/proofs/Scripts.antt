@@ -1,9 +1,9 @@
 -- What is read of a script: each value fits its digits, and there are no more frames than lines. Assumes nothing.
-use mathlib.Core.Path.{_≡_, refl, sym, subst, _∙_}
+use mathlib.Core.Path.{_≡_, refl, subst}
 use mathlib.Core.Bool.{Bool, true, false}
 use mathlib.Core.Option.{Option, none, some}
 use mathlib.Core.List.{List, [], _∷_}
-use Prim.Native.Nat.{ℕ, zero, suc, _+_, _≤_, _<_}
+use Prim.Native.Nat.{ℕ, suc, _+_, _≤_, _<_}
 use native.Mathlib.Omega.{arith}
 use lib.Dec.{eqb}
 use lib.ListN.{length}
@@ -12,7 +12,7 @@ use Rattle.rules.specs.Sizes.{Room}
 use Rattle.rules.specs.Frames.{Frame, child, pop, dangle, restore, popLast, alloc, allocIn, linear, define, get, takeFrom, free, freeQuietly, forget, drain, write, read, readName}
 use Rattle.rules.specs.Text.{Raw, raw, Split, Row, rowed, lineOf, with0, with1, with2, frameTable, Script, frames, unread, frameBefore, scriptFrom}
 use Rattle.rules.proofs.Chains.{none-some}
-use Rattle.rules.proofs.Digits.{Fit, fit-nil, fit, raw-fits}
+use Rattle.rules.proofs.Digits.{Fit, fit, raw-fits}
 use Rattle.rules.proofs.Fits.{FitFrame}
 
 infixr 5 _⨾_
