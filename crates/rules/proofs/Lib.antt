@@ -23,6 +23,7 @@ pub mod Naming
 pub mod Parents
 pub mod Owners
 pub mod Names
+pub mod Changed
 pub mod KeepsScopes
 pub mod KeepsSlots
 pub mod KeepsNames
