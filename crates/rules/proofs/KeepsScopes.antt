@@ -1,6 +1,7 @@
 -- child, dangle, restore, pop and pop last keep soundness. Assumes nothing.
-use mathlib.Core.Path.{_≡_, refl, sym, subst}
+use mathlib.Core.Path.{_≡_, refl, sym, ap, subst, _∙_}
 use mathlib.Core.Bool.{Bool, true, false, not, _||_}
+use mathlib.Core.List.{[]}
 use mathlib.Core.Option.{Option, none, some}
 use Prim.Native.Nat.{ℕ, _-_, _≤_, _<_}
 use native.Mathlib.Omega.{arith}
@@ -8,7 +9,7 @@ use lib.Dec.{eqb}
 use borrow.Author.Tests.{eqb-false}
 use Rattle.rules.specs.Notation.{isSome, _▹_, put}
 use Rattle.rules.specs.Sizes.{Room}
-use Rattle.rules.specs.Scopes.{Scope, Scopes, live≔, top≔, counter≔, dangled≔, newScope, Found, topScope, childOf, hasChild, setScope, openChild, closed, poppable, popScope, lastPoppable, popLastScope, dangleScope, restoreScope}
+use Rattle.rules.specs.Scopes.{Scope, Scopes, live≔, top≔, counter≔, dangled≔, Found, topScope, childOf, hasChild, setScope, openChild, closed, poppable, popScope, lastPoppable, popLastScope, dangleScope, restoreScope}
 use Rattle.rules.specs.Sound.{ownedBy}
 use Rattle.rules.proofs.Chains.{All, all-given, all-then, all-when, all-unless}
 use Rattle.rules.proofs.Tables.{put-same, put-alike}
@@ -17,22 +18,22 @@ use Rattle.rules.proofs.Sound.{TopSound, listsOf, Sound}
 use Rattle.rules.proofs.Tells.{clash}
 use Rattle.rules.proofs.Naming.{Here, found-at, found-here, top-at, top-here}
 use Rattle.rules.proofs.Removing.{removeAll-sound}
-use Rattle.rules.proofs.Parents.{is-some, here-live, top-some, parent-of, live-alike, top-alike, opened-live, opened-rooted, changed-alike, changed-rooted, closed-live, closed-rooted, closed-top}
+use Rattle.rules.proofs.Parents.{is-some, here-live, top-some, parent-of, opened-live, opened-rooted, closed-live, closed-rooted, closed-top}
+use Rattle.rules.proofs.Changed.{after-top, after-rooted, after-bindings}
 use Rattle.rules.proofs.Owners.{owned-at, lists-put, owned-alike, owned-closed, dangling-closed, size-closed}
 use Rattle.rules.proofs.Names.{every-as, unbound-every, unbound-once, unbound-length}
 
 module _ (room : Room) (c : Scopes) (s : Sound room c) where
   -- ---- child
 
-  child-sound : (i : ℕ) (t : Found) (n : ℕ) → topScope c ≡ some t → c .live i ≡ none → 1 ≤ i → i < room .scopes
-      → Sound room (c ▹ live≔ (put (c .live) i (some (newScope (c .counter) (c .top)))) ▹ top≔ (some i) ▹ counter≔ n)
-  child-sound i t n e free low high =
-      let x : Scope = newScope (c .counter) (c .top) in
+  child-sound : (i : ℕ) (x : Scope) (t : Found) (n : ℕ) → topScope c ≡ some t → c .live i ≡ none → 1 ≤ i → i < room .scopes → x .parent ≡ c .top → x .owned ≡ []
+      → Sound room (c ▹ live≔ (put (c .live) i (some x)) ▹ top≔ (some i) ▹ counter≔ n)
+  child-sound i x t n e free low high parent owned =
       record {
         slots = s .slots;
         top = top-some (high, is-some (put-same (c .live) i (some x)));
-        rooted = opened-rooted (room .scopes) (c .live) i x free (t .index) (top-at c t e .0) (here-live (top-here c t e (room .scopes) (s .top))) (λ z. omega arith) (s .rooted);
-        owned = owned-alike (listsOf (put (c .live) i (some x))) (put-alike (c .live) i (some x) ownedBy (rw free)) (s .owned);
+        rooted = opened-rooted (room .scopes) (c .live) i x free (t .index) (parent ∙ top-at c t e .0) (here-live (top-here c t e (room .scopes) (s .top))) (λ z. omega arith) (s .rooted);
+        owned = owned-alike (listsOf (put (c .live) i (some x))) (put-alike (c .live) i (some x) ownedBy (owned ∙ sym (ap ownedBy free))) (s .owned);
         dangling = s .dangling;
         bindings = record {
           once = s .bindings .once;
@@ -51,7 +52,7 @@ module _ (room : Room) (c : Scopes) (s : Sound room c) where
   keeps-child =
       all-unless 3 λ t e. all-unless 8 λ i q.
       let f = first-found (λ j. not (isSome (c .live j))) 1 (room .scopes - 1) i q in
-      all-given (child-sound i t _ e (free-is (c .live i) (f .passes)) (f .low) (omega (arith, f .low, f .high)))
+      all-given (child-sound i _ t _ e (free-is (c .live i) (f .passes)) (f .low) (omega (arith, f .low, f .high)) refl refl)
 
   -- ---- dangle, restore: a scope changes its mark, and the top
 
@@ -61,18 +62,13 @@ module _ (room : Room) (c : Scopes) (s : Sound room c) where
   unfolding setScope
   marked k d top h t =
       let x : Scope = k .scope ▹ dangled≔ d in
-      let alike : (j : ℕ) → isSome (put (c .live) (k .index) (some x) j) ≡ isSome (c .live j) = changed-alike (room .scopes) (c .live) (k .index) (k .scope) x (h .is) in
       record {
         slots = s .slots;
-        top = top-alike (room .scopes) (c .live) (put (c .live) (k .index) (some x)) alike top t;
-        rooted = changed-rooted (room .scopes) (c .live) (k .index) (k .scope) x (h .is) refl refl (s .rooted);
+        top = after-top k x h t;
+        rooted = after-rooted k x h refl refl (s .rooted);
         owned = owned-alike (listsOf (put (c .live) (k .index) (some x))) (put-alike (c .live) (k .index) (some x) ownedBy (sym (owned-at (c .live) k (h .is)))) (s .owned);
         dangling = s .dangling;
-        bindings = record {
-          once = s .bindings .once;
-          of-live = every-as (λ b. live-alike (room .scopes) (c .live) (put (c .live) (k .index) (some x)) alike (b .scope)) (s .bindings .of-live);
-          few = s .bindings .few;
-        };
+        bindings = after-bindings k x h (s .bindings);
         size = s .size;
       }
 

@@ -23,12 +23,16 @@ pub mod Naming
 pub mod Parents
 pub mod Owners
 pub mod Names
+pub mod Changed
 pub mod KeepsScopes
 pub mod KeepsSlots
 pub mod KeepsNames
 pub mod KeepsNeeds
 pub mod Handles
 pub mod KeepsSteps
+pub mod Held
+pub mod Lookups
+pub mod Exact
 pub mod Reached
 pub mod Kept
 pub mod Small

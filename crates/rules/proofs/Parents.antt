@@ -29,7 +29,7 @@ leads-live (root k e p z m) = is-some e
 leads-live (up k p e q z l d) = is-some e
 
 -- whatever leads anywhere leads to a live root
-root-live : {n : ℕ} {live : ℕ → Option Scope} {i : ℕ} → Leads n live i → isSome (live 0) ≡ true
+pub root-live : {n : ℕ} {live : ℕ → Option Scope} {i : ℕ} → Leads n live i → isSome (live 0) ≡ true
 root-live {live = live} (root k e p z m) = subst (λ (j : ℕ). isSome (live j) ≡ true) z (is-some e)
 root-live (up k p e q z l d) = root-live d
 
