@@ -35,6 +35,7 @@ pub mod Lookups
 pub mod Exact
 pub mod Reached
 pub mod Kept
+pub mod Cases
 pub mod Small
 pub mod Fits
 pub mod Scripts
