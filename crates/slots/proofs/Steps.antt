@@ -29,6 +29,13 @@ shown : {A : Type 0} {f g : ℕ → Bool} {l k h : ℕ} {a : Answer A} → f ≡
     → _≡_ {A = Seen A} (record { next = record { occupied = f; segments = l; head = h }; says = a }) (record { next = record { occupied = g; segments = k; head = h }; says = a })
 shown {h = h} {a = a} p q = λ i. record { next = record { occupied = p i; segments = q i; head = h }; says = a }
 
+-- L after a push at g
+pub grown-new : (l g : ℕ) → g % 128 ≡ 0 → g / 128 + 1 ≡ grownTo l g
+grown-new l g e = rw (eq-eqb (g % 128) 0 e, grownTo)
+
+pub grown-stays : (l g : ℕ) → (g % 128 ≡ 0 → ⊥) → l ≡ grownTo l g
+grown-stays l g e = rw (ne-eqb (g % 128) 0 e, grownTo)
+
 module _ (n : ℕ) (s : Slots) where
   -- ---- soundness
 
@@ -50,6 +57,9 @@ module _ (n : ℕ) (s : Slots) where
 
   pub sound-segments : soundSlots n s ≡ true → s .segments ≤ n
   sound-segments y = tells-slots n s .holds y .segments
+
+  pub sound-head : soundSlots n s ≡ true → s .head < n
+  sound-head y = tells-slots n s .holds y .head
 
   pub checked-yes : {A : Type 0} (x : Seen A) → soundSlots n s ≡ true → x ≡ checked n s x
   unfolding checked

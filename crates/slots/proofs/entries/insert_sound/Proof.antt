@@ -2,7 +2,7 @@ use borrow.Author.Needs.{needs}
 use native.Mathlib.Omega.{arith}
 use Rattle.rules.specs.Sizes.{base}
 use Rattle.slots.specs.Promises.{view}
-use Rattle.slots.proofs.Steps.{sound-segments, insert-within, insert-refused, insert-placed}
+use Rattle.slots.proofs.Steps.{sound-segments, sound-head, insert-within, insert-refused, insert-placed}
 use Rattle.slots.proofs.entries.insert_sound.Statement.{statement}
 use Rattle.slots.proofs.entries.insert_sound.Tie as tie
 
@@ -11,7 +11,8 @@ least-requires c κs = search needs
 
 first-clear-requires : tie.Need-first-clear-requires
 unfolding base
-first-clear-requires c κs = omega (arith, sound-segments (base .segments) (view (c .before .before .before .args .s)) (c .before .before .before .pre))
+first-clear-requires c κs =
+    omega (arith, sound-segments (base .segments) (view (c .before .before .before .args .s)) (c .before .before .before .pre), sound-head (base .segments) (view (c .before .before .before .args .s)) (c .before .before .before .pre))
 
 returns : tie.Need-returns
 unfolding base
