@@ -5,7 +5,7 @@ use mathlib.Core.Bool.{Bool, true, false, _&&_}
 use mathlib.Core.Option.{Option, none, some}
 use Prim.Native.Nat.{ℕ, zero, suc, _+_, _-_, _*_, _/_, _%_, _≤_, _<_, max}
 use native.Mathlib.Omega.{arith}
-use lib.Dec.{eqb, leb, ltb}
+use lib.Dec.{leb, ltb}
 use borrow.Author.Tests.{eq-eqb, ne-eqb, lt-ltb, le-ltb, not-true, not-false}
 use Rattle.rules.specs.Notation.{Answer, given, put, pastLast}
 use Rattle.rules.specs.Sound.{soundSlots}
@@ -16,7 +16,7 @@ use Rattle.rules.proofs.Sound.{SlotsSound}
 use Rattle.rules.proofs.Tells.{Tells, is-false, clash, tells-as, tells-and, tells-lt, tells-le}
 use Rattle.rules.proofs.Tests.{tells-slots}
 use Rattle.slots.specs.Halves.{firstClear, grownTo}
-use Rattle.slots.specs.Promises.{Seen, refusing, placing, removal, checked}
+use Rattle.slots.specs.Promises.{Seen, refusing, placedOr7, removal, checked}
 use Rattle.slots.proofs.Finds.{clear-is, clear-of}
 
 -- two tests that tell one fact are equal
@@ -131,12 +131,12 @@ module _ (n : ℕ) (s : Slots) where
             let d : a / 128 ≡ s .segments = omega arith in
             rw (f, insertShort, ne-eqb (s .segments) n (omega arith), insertNew, l, d, q)
 
-    pub insert-refused : a ≡ 128 * n → refusing 7 s ≡ placing s (insert n s)
-    insert-refused z = ap (placing s) (sym (insert-none z))
+    pub insert-refused : a ≡ 128 * n → refusing 7 s ≡ placedOr7 s (insert n s)
+    insert-refused z = ap (placedOr7 s) (sym (insert-none z))
 
     pub insert-placed : {f : ℕ → Bool} {l : ℕ} → (a ≡ 128 * n → ⊥) → f ≡ put (s .occupied) a true → l ≡ max (s .segments) (a / 128 + 1)
-        → record { next = record { occupied = f; segments = l; head = a / 128 }; says = given a } ≡ placing s (insert n s)
-    insert-placed z p q = shown p q ∙ ap (placing s) (sym (insert-some z))
+        → record { next = record { occupied = f; segments = l; head = a / 128 }; says = given a } ≡ placedOr7 s (insert n s)
+    insert-placed z p q = shown p q ∙ ap (placedOr7 s) (sym (insert-some z))
 
   -- ---- push: g is one past the greatest occupied slot
 
@@ -152,13 +152,13 @@ module _ (n : ℕ) (s : Slots) where
     unfolding push pastGreatest
     push-some z = rw (ne-eqb (pastLast (s .occupied) (128 * n)) (128 * n) (λ q. z (e ∙ q)), push)
 
-    pub push-refused : g ≡ 128 * n → refusing 7 s ≡ placing s (push n s)
-    push-refused z = ap (placing s) (sym (push-none z))
+    pub push-refused : g ≡ 128 * n → refusing 7 s ≡ placedOr7 s (push n s)
+    push-refused z = ap (placedOr7 s) (sym (push-none z))
 
     pub push-placed : {f : ℕ → Bool} {l : ℕ} → (g ≡ 128 * n → ⊥) → f ≡ put (s .occupied) g true → l ≡ grownTo (s .segments) g
-        → record { next = record { occupied = f; segments = l; head = s .head }; says = given g } ≡ placing s (push n s)
+        → record { next = record { occupied = f; segments = l; head = s .head }; says = given g } ≡ placedOr7 s (push n s)
     unfolding pushAt
-    push-placed z p q = shown p q ∙ ap (λ (k : ℕ). placing s (placed k (pushAt k s))) e ∙ ap (placing s) (sym (push-some z))
+    push-placed z p q = shown p q ∙ ap (λ (k : ℕ). placedOr7 s (placed k (pushAt k s))) e ∙ ap (placedOr7 s) (sym (push-some z))
 
 -- ---- remove
 
