@@ -105,10 +105,10 @@ module _ (n : ℕ) (s : Slots) where
           here = λ l. is-false _ (λ t. absurd (omega (arith, is-sound .low (128 * s .segments) (omega (arith, is-sound .segments, l)) t)));
         })
 
-    abbrev given-a : Option Placed
+    abbrev pub given-a : Option Placed
     given-a = placed a (record { occupied = put (s .occupied) a true; segments = max (s .segments) (a / 128 + 1); head = a / 128 })
 
-    insert-none : a ≡ 128 * n → insert n s ≡ none
+    pub insert-none : a ≡ 128 * n → insert n s ≡ none
     unfolding insertShort insertNew
     insert-none z = insert-short n s ∙ go (leastClear s) refl
       where
@@ -116,7 +116,7 @@ module _ (n : ℕ) (s : Slots) where
         go (some b) f = absurd (omega (arith, in-one b f .0, in-one b f .1, is-sound .segments))
         go none f = rw (f, insertShort, eq-eqb (s .segments) n (omega (arith, past-all f)), insertNew)
 
-    insert-some : (a ≡ 128 * n → ⊥) → insert n s ≡ given-a
+    pub insert-some : (a ≡ 128 * n → ⊥) → insert n s ≡ given-a
     unfolding insertShort insertNew
     insert-some z = insert-short n s ∙ go (leastClear s) refl
       where
@@ -144,13 +144,15 @@ module _ (n : ℕ) (s : Slots) where
     pub push-within : g ≤ 128 * n
     push-within = omega (arith, past-within (s .occupied) (128 * n))
 
-    push-none : g ≡ 128 * n → push n s ≡ none
+    pub push-none : g ≡ 128 * n → push n s ≡ none
     unfolding push pastGreatest
     push-none z = rw (eq-eqb (pastLast (s .occupied) (128 * n)) (128 * n) (sym e ∙ z), push)
 
-    push-some : (g ≡ 128 * n → ⊥) → push n s ≡ placed (pastLast (s .occupied) (128 * n)) (pushAt (pastLast (s .occupied) (128 * n)) s)
+    pub push-some : (g ≡ 128 * n → ⊥) → push n s ≡ placed g (pushAt g s)
     unfolding push pastGreatest
-    push-some z = rw (ne-eqb (pastLast (s .occupied) (128 * n)) (128 * n) (λ q. z (e ∙ q)), push)
+    push-some z =
+        rw (ne-eqb (pastLast (s .occupied) (128 * n)) (128 * n) (λ q. z (e ∙ q)), push)
+        (ap (λ (k : ℕ). placed k (pushAt k s)) (sym e))
 
     pub push-refused : g ≡ 128 * n → refusing 7 s ≡ placedOr7 s (push n s)
     push-refused z = ap (placedOr7 s) (sym (push-none z))
@@ -158,7 +160,7 @@ module _ (n : ℕ) (s : Slots) where
     pub push-placed : {f : ℕ → Bool} {l : ℕ} → (g ≡ 128 * n → ⊥) → f ≡ put (s .occupied) g true → l ≡ grownTo (s .segments) g
         → record { next = record { occupied = f; segments = l; head = s .head }; says = given g } ≡ placedOr7 s (push n s)
     unfolding pushAt
-    push-placed z p q = shown p q ∙ ap (λ (k : ℕ). placedOr7 s (placed k (pushAt k s))) e ∙ ap (placedOr7 s) (sym (push-some z))
+    push-placed z p q = shown p q ∙ ap (placedOr7 s) (sym (push-some z))
 
 -- ---- remove
 
