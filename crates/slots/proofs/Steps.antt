@@ -5,7 +5,7 @@ use mathlib.Core.Bool.{Bool, true, false, _&&_}
 use mathlib.Core.Option.{Option, none, some}
 use Prim.Native.Nat.{ℕ, zero, suc, _+_, _-_, _*_, _/_, _%_, _≤_, _<_, max}
 use native.Mathlib.Omega.{arith}
-use lib.Dec.{eqb, leb, ltb}
+use lib.Dec.{leb, ltb}
 use borrow.Author.Tests.{eq-eqb, ne-eqb, lt-ltb, le-ltb, not-true, not-false}
 use Rattle.rules.specs.Notation.{Answer, given, put, pastLast}
 use Rattle.rules.specs.Sound.{soundSlots}
@@ -16,7 +16,7 @@ use Rattle.rules.proofs.Sound.{SlotsSound}
 use Rattle.rules.proofs.Tells.{Tells, is-false, clash, tells-as, tells-and, tells-lt, tells-le}
 use Rattle.rules.proofs.Tests.{tells-slots}
 use Rattle.slots.specs.Halves.{firstClear, grownTo}
-use Rattle.slots.specs.Promises.{Seen, refusing, placing, removal, checked}
+use Rattle.slots.specs.Promises.{Seen, refusing, placedOr7, removal, checked}
 use Rattle.slots.proofs.Finds.{clear-is, clear-of}
 
 -- two tests that tell one fact are equal
@@ -28,6 +28,13 @@ told-same false b s t = sym (is-false b (λ e. clash (s .shows (t .holds e)) ref
 shown : {A : Type 0} {f g : ℕ → Bool} {l k h : ℕ} {a : Answer A} → f ≡ g → l ≡ k
     → _≡_ {A = Seen A} (record { next = record { occupied = f; segments = l; head = h }; says = a }) (record { next = record { occupied = g; segments = k; head = h }; says = a })
 shown {h = h} {a = a} p q = λ i. record { next = record { occupied = p i; segments = q i; head = h }; says = a }
+
+-- L after a push at g
+pub grown-new : (l g : ℕ) → g % 128 ≡ 0 → g / 128 + 1 ≡ grownTo l g
+grown-new l g e = rw (eq-eqb (g % 128) 0 e, grownTo)
+
+pub grown-stays : (l g : ℕ) → (g % 128 ≡ 0 → ⊥) → l ≡ grownTo l g
+grown-stays l g e = rw (ne-eqb (g % 128) 0 e, grownTo)
 
 module _ (n : ℕ) (s : Slots) where
   -- ---- soundness
@@ -50,6 +57,9 @@ module _ (n : ℕ) (s : Slots) where
 
   pub sound-segments : soundSlots n s ≡ true → s .segments ≤ n
   sound-segments y = tells-slots n s .holds y .segments
+
+  pub sound-head : soundSlots n s ≡ true → s .head < n
+  sound-head y = tells-slots n s .holds y .head
 
   pub checked-yes : {A : Type 0} (x : Seen A) → soundSlots n s ≡ true → x ≡ checked n s x
   unfolding checked
@@ -95,10 +105,10 @@ module _ (n : ℕ) (s : Slots) where
           here = λ l. is-false _ (λ t. absurd (omega (arith, is-sound .low (128 * s .segments) (omega (arith, is-sound .segments, l)) t)));
         })
 
-    abbrev given-a : Option Placed
+    abbrev pub given-a : Option Placed
     given-a = placed a (record { occupied = put (s .occupied) a true; segments = max (s .segments) (a / 128 + 1); head = a / 128 })
 
-    insert-none : a ≡ 128 * n → insert n s ≡ none
+    pub insert-none : a ≡ 128 * n → insert n s ≡ none
     unfolding insertShort insertNew
     insert-none z = insert-short n s ∙ go (leastClear s) refl
       where
@@ -106,7 +116,7 @@ module _ (n : ℕ) (s : Slots) where
         go (some b) f = absurd (omega (arith, in-one b f .0, in-one b f .1, is-sound .segments))
         go none f = rw (f, insertShort, eq-eqb (s .segments) n (omega (arith, past-all f)), insertNew)
 
-    insert-some : (a ≡ 128 * n → ⊥) → insert n s ≡ given-a
+    pub insert-some : (a ≡ 128 * n → ⊥) → insert n s ≡ given-a
     unfolding insertShort insertNew
     insert-some z = insert-short n s ∙ go (leastClear s) refl
       where
@@ -121,12 +131,12 @@ module _ (n : ℕ) (s : Slots) where
             let d : a / 128 ≡ s .segments = omega arith in
             rw (f, insertShort, ne-eqb (s .segments) n (omega arith), insertNew, l, d, q)
 
-    pub insert-refused : a ≡ 128 * n → refusing 7 s ≡ placing s (insert n s)
-    insert-refused z = ap (placing s) (sym (insert-none z))
+    pub insert-refused : a ≡ 128 * n → refusing 7 s ≡ placedOr7 s (insert n s)
+    insert-refused z = ap (placedOr7 s) (sym (insert-none z))
 
     pub insert-placed : {f : ℕ → Bool} {l : ℕ} → (a ≡ 128 * n → ⊥) → f ≡ put (s .occupied) a true → l ≡ max (s .segments) (a / 128 + 1)
-        → record { next = record { occupied = f; segments = l; head = a / 128 }; says = given a } ≡ placing s (insert n s)
-    insert-placed z p q = shown p q ∙ ap (placing s) (sym (insert-some z))
+        → record { next = record { occupied = f; segments = l; head = a / 128 }; says = given a } ≡ placedOr7 s (insert n s)
+    insert-placed z p q = shown p q ∙ ap (placedOr7 s) (sym (insert-some z))
 
   -- ---- push: g is one past the greatest occupied slot
 
@@ -134,21 +144,23 @@ module _ (n : ℕ) (s : Slots) where
     pub push-within : g ≤ 128 * n
     push-within = omega (arith, past-within (s .occupied) (128 * n))
 
-    push-none : g ≡ 128 * n → push n s ≡ none
+    pub push-none : g ≡ 128 * n → push n s ≡ none
     unfolding push pastGreatest
     push-none z = rw (eq-eqb (pastLast (s .occupied) (128 * n)) (128 * n) (sym e ∙ z), push)
 
-    push-some : (g ≡ 128 * n → ⊥) → push n s ≡ placed (pastLast (s .occupied) (128 * n)) (pushAt (pastLast (s .occupied) (128 * n)) s)
+    pub push-some : (g ≡ 128 * n → ⊥) → push n s ≡ placed g (pushAt g s)
     unfolding push pastGreatest
-    push-some z = rw (ne-eqb (pastLast (s .occupied) (128 * n)) (128 * n) (λ q. z (e ∙ q)), push)
+    push-some z =
+        rw (ne-eqb (pastLast (s .occupied) (128 * n)) (128 * n) (λ q. z (e ∙ q)), push)
+        (ap (λ (k : ℕ). placed k (pushAt k s)) (sym e))
 
-    pub push-refused : g ≡ 128 * n → refusing 7 s ≡ placing s (push n s)
-    push-refused z = ap (placing s) (sym (push-none z))
+    pub push-refused : g ≡ 128 * n → refusing 7 s ≡ placedOr7 s (push n s)
+    push-refused z = ap (placedOr7 s) (sym (push-none z))
 
     pub push-placed : {f : ℕ → Bool} {l : ℕ} → (g ≡ 128 * n → ⊥) → f ≡ put (s .occupied) g true → l ≡ grownTo (s .segments) g
-        → record { next = record { occupied = f; segments = l; head = s .head }; says = given g } ≡ placing s (push n s)
+        → record { next = record { occupied = f; segments = l; head = s .head }; says = given g } ≡ placedOr7 s (push n s)
     unfolding pushAt
-    push-placed z p q = shown p q ∙ ap (λ (k : ℕ). placing s (placed k (pushAt k s))) e ∙ ap (placing s) (sym (push-some z))
+    push-placed z p q = shown p q ∙ ap (placedOr7 s) (sym (push-some z))
 
 -- ---- remove
 

@@ -1,8 +1,7 @@
 -- A state is told by its view, and an answer by what it says: so any two results that a promise admits are equal, as structs. Assumes nothing.
 use mathlib.Core.Path.{_≡_, refl, sym, ap, _∙_}
-use mathlib.Core.Bool.{Bool, true, false}
+use mathlib.Core.Bool.{Bool}
 use mathlib.Core.Option.{Option, none, some}
-use mathlib.Core.List.{List}
 use Prim.Native.Nat.{ℕ, _^_, _<_}
 use native.Mathlib.Omega.{arith}
 use mir.Syntax.{w64}
@@ -12,7 +11,7 @@ use Rattle.rules.specs.Sizes.{base}
 use Rattle.rules.specs.Sound.{soundSlots}
 use Rattle.rules.specs.Slots as rule
 use Rattle.rules.proofs.Tells.{decided}
-use Rattle.slots.specs.Promises.{view, placeSays, removeSays, Seen, seenPlacing, seenRemoving, placing, removal, checked, Typed, Promised, FreshPromise, InsertPromise, PushPromise, RemovePromise}
+use Rattle.slots.specs.Promises.{view, placeSays, removeSays, Seen, seenPlacing, seenRemoving, placedOr7, removal, checked, Typed, Promised, FreshPromise, InsertPromise, PushPromise, RemovePromise}
 use Rattle.slots.specs.declared.Slots.{Slots}
 use Rattle.slots.specs.declared.SlotAddress.{SlotAddress}
 use Rattle.slots.specs.declared.Placing.{Placing}
@@ -89,7 +88,7 @@ module _ (s : Slots) (t : Typed (s .halves)) (n : ℕ) where
       (λ y. rw (y, checked) (f (rw (y, checked) at e)))
       (λ y. rw (y, checked))
 
-  placed-kept : (o : Option rule.Placed) → placing (view s) o .says ≡ refused n → placing (view s) o .next ≡ view s
+  placed-kept : (o : Option rule.Placed) → placedOr7 (view s) o .says ≡ refused n → placedOr7 (view s) o .next ≡ view s
   placed-kept none e = refl
   placed-kept (some p) e = differ e
 
@@ -98,9 +97,9 @@ module _ (s : Slots) (t : Typed (s .halves)) (n : ℕ) where
   kept {A = A} says x u f p e =
       same-state u s (p .typed) t (ap (λ (v : Seen A). v .next) (p .shows) ∙ kept-view x f (sym (ap (λ (v : Seen A). v .says) (p .shows)) ∙ e))
 
-  placing-kept : (r : Placing) (o : Option rule.Placed) → Promised (seenPlacing r) (checked (base .segments) (view s) (placing (view s) o)) (r .state .halves)
+  placing-kept : (r : Placing) (o : Option rule.Placed) → Promised (seenPlacing r) (checked (base .segments) (view s) (placedOr7 (view s) o)) (r .state .halves)
       → placeSays (r .answer) ≡ refused n → r .state ≡ s
-  placing-kept r o = kept (placeSays (r .answer)) (placing (view s) o) (r .state) (placed-kept o)
+  placing-kept r o = kept (placeSays (r .answer)) (placedOr7 (view s) o) (r .state) (placed-kept o)
 
   pub insert-kept : (r : Placing) → InsertPromise s r → placeSays (r .answer) ≡ refused n → r .state ≡ s
   insert-kept r = placing-kept r (rule.insert (base .segments) (view s))

@@ -53,9 +53,9 @@ abbrev pub refusing : {A : Type 0} → ℕ → rule.Slots → Seen A
 refusing n s = record { next = s; says = refused n }
 
 -- a slot that is given, and the slots afterwards; or 7
-abbrev pub placing : rule.Slots → Option rule.Placed → Seen ℕ
-placing s none = refusing 7 s
-placing s (some p) = record { next = p .next; says = given (p .address) }
+abbrev pub placedOr7 : rule.Slots → Option rule.Placed → Seen ℕ
+placedOr7 s none = refusing 7 s
+placedOr7 s (some p) = record { next = p .next; says = given (p .address) }
 
 abbrev pub removal : ℕ → rule.Slots → Seen Bool
 removal a s = record { next = rule.remove a s; says = given (rule.removes a s) }
@@ -82,11 +82,11 @@ pub record FreshPromise (r : Slots) : Type 0 where
 
 abbrev pub InsertPromise : Slots → Placing → Type 0
 InsertPromise s r =
-    Promised (seenPlacing r) (checked (base .segments) (view s) (placing (view s) (rule.insert (base .segments) (view s)))) (r .state .halves)
+    Promised (seenPlacing r) (checked (base .segments) (view s) (placedOr7 (view s) (rule.insert (base .segments) (view s)))) (r .state .halves)
 
 abbrev pub PushPromise : Slots → Placing → Type 0
 PushPromise s r =
-    Promised (seenPlacing r) (checked (base .segments) (view s) (placing (view s) (rule.push (base .segments) (view s)))) (r .state .halves)
+    Promised (seenPlacing r) (checked (base .segments) (view s) (placedOr7 (view s) (rule.push (base .segments) (view s)))) (r .state .halves)
 
 abbrev pub RemovePromise : Slots → SlotAddress → Removing → Type 0
 RemovePromise s a r =

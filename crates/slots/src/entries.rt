@@ -3,7 +3,7 @@ ghost use mathlib.Core.Path.{_≡_};
 ghost use mathlib.Core.Bool.{true};
 ghost use Rattle.rules.specs.Sizes.{base};
 ghost use Rattle.rules.specs.Sound.{soundSlots};
-ghost use Rattle.slots.specs.Promises.{view, seenPlacing, seenRemoving, placing, removal, FreshPromise, InsertPromise, PushPromise, RemovePromise};
+ghost use Rattle.slots.specs.Promises.{view, seenPlacing, seenRemoving, placedOr7, removal, FreshPromise, InsertPromise, PushPromise, RemovePromise};
 ghost use Rattle.rules.specs.Slots as rule;
 use crate::PlaceAnswer;
 use crate::Placing;
@@ -40,7 +40,7 @@ pub fn insert(s: Slots) -> Placing
 // The least clear slot from segment min(H, L) on is what 01's walk over the segments finds, where the state is sound.
 fn insert_sound(s: Slots) -> Placing
     requires { ⌜ soundSlots (base .segments) (view s) ≡ true ⌝ }
-    ensures { λ r. ⌜ seenPlacing r ≡ placing (view s) (rule.insert (base .segments) (view s)) ⌝ }
+    ensures { λ r. ⌜ seenPlacing r ≡ placedOr7 (view s) (rule.insert (base .segments) (view s)) ⌝ }
 {
     let mut t = s;
     let a = halves::first_clear(&t.halves, halves::least(t.head, t.segments));
@@ -75,7 +75,7 @@ pub fn push(s: Slots) -> Placing
 
 fn push_sound(s: Slots) -> Placing
     requires { ⌜ soundSlots (base .segments) (view s) ≡ true ⌝ }
-    ensures { λ r. ⌜ seenPlacing r ≡ placing (view s) (rule.push (base .segments) (view s)) ⌝ }
+    ensures { λ r. ⌜ seenPlacing r ≡ placedOr7 (view s) (rule.push (base .segments) (view s)) ⌝ }
 {
     let mut t = s;
     let g = halves::past_greatest(&t.halves);

@@ -4,6 +4,11 @@ pub mod entries;
 pub mod half;
 pub mod halves;
 
+pub use entries::fresh;
+pub use entries::insert;
+pub use entries::push;
+pub use entries::remove;
+
 // The address of a slot. A handle number is another type, so that neither passes for the other.
 pub struct SlotAddress(pub u16);
 

@@ -1,4 +1,4 @@
-use mathlib.Core.Path.{_≡_, refl}
+use mathlib.Core.Path.{refl}
 use native.Mathlib.Omega.{arith}
 use Rattle.rules.specs.Slots.{freshSlots}
 use Rattle.slots.proofs.Occupied.{none-occupied, zero-half}

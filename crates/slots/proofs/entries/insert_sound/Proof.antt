@@ -2,7 +2,7 @@ use borrow.Author.Needs.{needs}
 use native.Mathlib.Omega.{arith}
 use Rattle.rules.specs.Sizes.{base}
 use Rattle.slots.specs.Promises.{view}
-use Rattle.slots.proofs.Steps.{sound-segments, insert-within, insert-refused, insert-placed}
+use Rattle.slots.proofs.Steps.{sound-segments, sound-head, insert-within, insert-refused, insert-placed}
 use Rattle.slots.proofs.entries.insert_sound.Statement.{statement}
 use Rattle.slots.proofs.entries.insert_sound.Tie as tie
 
@@ -11,15 +11,16 @@ least-requires c κs = search needs
 
 first-clear-requires : tie.Need-first-clear-requires
 unfolding base
-first-clear-requires c κs = omega (arith, sound-segments 8 (view (c .before .before .before .args .s)) (c .before .before .before .pre))
+first-clear-requires c κs =
+    omega (arith, sound-segments (base .segments) (view (c .before .before .before .args .s)) (c .before .before .before .pre), sound-head (base .segments) (view (c .before .before .before .args .s)) (c .before .before .before .pre))
 
 returns : tie.Need-returns
 unfolding base
-returns c = insert-refused 8 (view (c .before .before .before .before .before .args .s)) (c .before .before .before .before .before .pre) _ _ (c .before .before .least .ensures) (c .before .first-clear .ensures) (c .if1 .taken)
+returns c = insert-refused (base .segments) (view (c .before .before .before .before .before .args .s)) (c .before .before .before .before .before .pre) _ _ (c .before .before .least .ensures) (c .before .first-clear .ensures) (c .if1 .taken)
 
 occupy-requires : tie.Need-occupy-requires
 unfolding base
-occupy-requires c κs = (omega (arith, insert-within 8 (view (c .before .before .before .before .before .before .args .s)) (c .before .before .before .before .before .before .pre) _ _ (c .before .before .before .least .ensures) (c .before .before .first-clear .ensures)), search needs)
+occupy-requires c κs = (omega (arith, insert-within (base .segments) (view (c .before .before .before .before .before .before .args .s)) (c .before .before .before .before .before .before .pre) _ _ (c .before .before .before .least .ensures) (c .before .before .first-clear .ensures)), search needs)
 
 add-most : tie.Need-add-most
 add-most c = search needs
@@ -29,12 +30,12 @@ most-requires c κs = search needs
 
 cast-address : tie.Need-cast-address
 unfolding base
-cast-address c = omega (arith, insert-within 8 (view (c .before .before .before .before .before .before .before .before .args .s)) (c .before .before .before .before .before .before .before .before .pre) _ _ (c .before .before .before .before .before .least .ensures) (c .before .before .before .before .first-clear .ensures))
+cast-address c = omega (arith, insert-within (base .segments) (view (c .before .before .before .before .before .before .before .before .args .s)) (c .before .before .before .before .before .before .before .before .pre) _ _ (c .before .before .before .before .before .least .ensures) (c .before .before .before .before .first-clear .ensures))
 
 returns-2 : tie.Need-returns-2
 unfolding base
 returns-2 c =
-    insert-placed 8 (view (c .before .before .before .before .before .before .before .before .args .s)) (c .before .before .before .before .before .before .before .before .pre) _ _ (c .before .before .before .before .before .least .ensures) (c .before .before .before .before .first-clear .ensures)
+    insert-placed (base .segments) (view (c .before .before .before .before .before .before .before .before .args .s)) (c .before .before .before .before .before .before .before .before .pre) _ _ (c .before .before .before .before .before .least .ensures) (c .before .before .before .before .first-clear .ensures)
     (c .before .before .before .if1 .left) (c .before .occupy .ensures .0) (c .most .ensures)
 
 pub insert-sound-spec : {M : Type 1} → statement M

@@ -11,21 +11,23 @@ past-greatest-requires c κs = search needs
 
 returns : tie.Need-returns
 unfolding base
-returns c = push-refused 8 (view (c .before .before .before .before .args .s)) _ (c .before .past-greatest .ensures) (c .if1 .taken)
+returns c = push-refused (base .segments) (view (c .before .before .before .before .args .s)) _ (c .before .past-greatest .ensures) (c .if1 .taken)
 
 occupy-requires : tie.Need-occupy-requires
-occupy-requires c κs = (omega (arith, push-within 8 (view (c .before .before .before .before .before .args .s)) _ (c .before .before .past-greatest .ensures)), search needs)
+unfolding base
+occupy-requires c κs = (omega (arith, push-within (base .segments) (view (c .before .before .before .before .before .args .s)) _ (c .before .before .past-greatest .ensures)), search needs)
 
 grown-requires : tie.Need-grown-requires
 grown-requires c κs = search needs
 
 cast-address : tie.Need-cast-address
-cast-address c = omega (arith, push-within 8 (view (c .before .before .before .before .before .before .before .args .s)) _ (c .before .before .before .before .past-greatest .ensures))
+unfolding base
+cast-address c = omega (arith, push-within (base .segments) (view (c .before .before .before .before .before .before .before .args .s)) _ (c .before .before .before .before .past-greatest .ensures))
 
 returns-2 : tie.Need-returns-2
 unfolding base
 returns-2 c =
-    push-placed 8 (view (c .before .before .before .before .before .before .before .args .s)) _ (c .before .before .before .before .past-greatest .ensures)
+    push-placed (base .segments) (view (c .before .before .before .before .before .before .before .args .s)) _ (c .before .before .before .before .past-greatest .ensures)
     (c .before .before .before .if1 .left) (c .before .occupy .ensures .0) (c .grown .ensures)
 
 pub push-sound-spec : {M : Type 1} → statement M

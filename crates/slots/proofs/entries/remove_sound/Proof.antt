@@ -9,11 +9,11 @@ use Rattle.slots.proofs.entries.remove_sound.Tie as tie
 
 occupied-requires : tie.Need-occupied-requires
 unfolding base
-occupied-requires c κs = omega (arith, sound-segments 8 (view (c .before .before .before .args .s)) (c .before .before .before .pre))
+occupied-requires c κs = omega (arith, sound-segments (base .segments) (view (c .before .before .before .args .s)) (c .before .before .before .pre))
 
 vacate-requires : tie.Need-vacate-requires
 unfolding base
-vacate-requires c κs = (omega (arith, sound-segments 8 (view (c .before .before .before .before .before .before .args .s)) (c .before .before .before .before .before .before .pre)), search needs)
+vacate-requires c κs = (omega (arith, sound-segments (base .segments) (view (c .before .before .before .before .before .before .args .s)) (c .before .before .before .before .before .before .pre)), search needs)
 
 returns : tie.Need-returns
 returns c = remove-yes (view (c .before .before .before .before .before .before .before .args .s)) _ (c .before .before .before .before .before .before .if1 .taken) (sym (c .before .before .before .occupied .ensures) ∙ c .before .before .if2 .taken) (c .vacate .ensures .0)

@@ -1,4 +1,4 @@
-use mathlib.Core.Bool.{true, false}
+use mathlib.Core.Bool.{true}
 use borrow.Author.Needs.{needs}
 use Rattle.slots.proofs.Occupied.{occ-set}
 use Rattle.slots.proofs.halves.occupy.Statement.{statement}

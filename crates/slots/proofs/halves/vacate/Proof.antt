@@ -1,4 +1,4 @@
-use mathlib.Core.Bool.{true, false}
+use mathlib.Core.Bool.{false}
 use borrow.Author.Needs.{needs}
 use Rattle.slots.proofs.Occupied.{occ-set}
 use Rattle.slots.proofs.halves.vacate.Statement.{statement}
