@@ -1,4 +1,12 @@
 pub mod Chains
 pub mod Tables
 pub mod Sets
+pub mod Searches
+pub mod Placing
 pub mod Sessions
+pub mod Sound
+pub mod Tells
+pub mod Counts
+pub mod Climb
+pub mod Tests
+pub mod HandleTests
