@@ -2,11 +2,13 @@
 use mathlib.Core.Bool.{Bool, true, false}
 use mathlib.Core.Option.{Option, none, some}
 use mathlib.Core.List.{List, map}
-use Prim.Native.Nat.{ℕ, _/_, _%_}
+use Prim.Native.Nat.{ℕ, _+_, _/_, _%_, max}
 use lib.ListN.{getD, take}
 use lib.Dec.{ltb, eqb}
-use Rattle.rules.specs.Notation.{Answer, given, refused, _>>=_, refuse_unless_}
+use Rattle.rules.specs.Notation.{Answer, given, refused, _>>=_, refuse_unless_, _▹_}
 use Rattle.rules.specs.Sizes.{base}
+use Rattle.rules.specs.Slots.{pushes}
+use Rattle.rules.specs.AddressSets.{addedAll, withoutAll, run}
 use Rattle.rules.specs.Scopes as rule
 use Rattle.slots.specs.Halves.{slotsOf}
 use Rattle.links.specs.Follow.{lists}
@@ -117,3 +119,12 @@ abbrev pub defined : ℕ → ℕ → ℕ → rule.Scopes → Answer rule.Scopes
 defined name address handle c = do
   t ← refuse 3 unless (rule.topScope c)
   rule.bindIn base t name address handle c
+
+-- what n pushes for the scope at index k leave, of which the first gives g
+abbrev pub runFor : Scopes → ℕ → ℕ → ℕ → rule.Scopes
+runFor s k g n =
+    view s
+    ▹ rule.slots≔ (pushes g n (view s .slots))
+    ▹ rule.setScope (foundAt s k) (rule.owned≔ (addedAll (run g n) (held (s .links) k)) (scopeOf s k))
+    ▹ rule.dangling≔ (withoutAll (run g n) (held (s .links) 64))
+    ▹ rule.size≔ (max (s .size) (g + n))

@@ -2,9 +2,16 @@
 // `open` opens, dangles and restores scopes, `place` gives slots and takes them back, `close` pops, `names` binds and finds names,
 // `drain` hands out the dangling list.
 
+pub mod close;
+pub mod drain;
 pub mod names;
 pub mod open;
+pub mod place;
 
+ghost use mathlib.Core.Path.{_≡_};
+ghost use Rattle.rules.specs.Scopes.{freshScopes};
+ghost use Rattle.scopes.specs.View.{view};
+ghost use Rattle.scopes.specs.Sound.{Sound};
 use slots::SlotAddress;
 
 pub struct HandleNumber(pub u16);
@@ -50,4 +57,29 @@ pub enum Reply {
 pub struct Outcome {
     pub state: Scopes,
     pub reply: Reply,
+}
+
+// Root alone is live, and is the top.
+pub fn fresh() -> Scopes
+    ensures { λ r. ⌜ (view r ≡ freshScopes) × Sound r ⌝ }
+{
+    let links = links::fresh();
+    let mut live = [false; 64];
+    live[0] = true;
+    Scopes {
+        halves: [0u64; 16],
+        links: links,
+        owner: [65u8; 1024],
+        live: live,
+        dangled: [false; 64],
+        parent: [64u8; 64],
+        number: [0u32; 64],
+        bindings: [0u64; 256],
+        count: 0,
+        segments: 0,
+        head: 0,
+        top: 0,
+        counter: 1,
+        size: 0,
+    }
 }
