@@ -2,3 +2,13 @@ pub mod Tables
 pub mod Finds
 pub mod Opens
 pub mod Marks
+pub mod Moves
+pub mod Places
+pub mod Allocs
+pub mod Frees
+pub mod Start
+pub mod Closes
+pub mod Pops
+pub mod Runs
+pub mod Drains
+pub mod Unique
