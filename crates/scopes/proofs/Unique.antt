@@ -131,10 +131,10 @@ module _ (s t : Scopes) (h : Sound s) (k : Sound t) (ts : Typed s) (tt′ : Type
       (λ i hi. sym (h .ringed .tells a i ha hi) ∙ ap (member a) (lists i hi) ∙ k .ringed .tells a i ha hi))
 
   halves : s .halves ≡ t .halves
-  halves = halves-ext (s .halves) (t .halves) (z .halves ∙ sym (y .halves)) (ts .halves) (tt′ .halves) (λ a. ap (λ (c : rule.Scopes). c .slots .occupied a) e)
+  halves = halves-ext (s .halves) (t .halves) (z .halves ∙ sym (y .halves)) (ts .halves) (tt′ .halves) (ap (λ (c : rule.Scopes). c .slots .occupied) e)
 
   -- an array of 64 that is read off the scopes
-  by-scope : {A B : Type 0} (d : A) (f g : List A) (p : Option rule.Scope → A) → length f ≡ 64 → length g ≡ 64
+  by-scope : {A : Type 0} (d : A) (f g : List A) (p : Option rule.Scope → A) → length f ≡ 64 → length g ≡ 64
       → ((i : ℕ) → i < 64 → getD f i d ≡ p (view s .live i)) → ((i : ℕ) → i < 64 → getD g i d ≡ p (view t .live i)) → f ≡ g
   by-scope d f g p lf lg rf rg = ext-getD d f g (lf ∙ sym lg) (λ i l. let hi : i < 64 = omega arith in rf i hi ∙ ap p (at i) ∙ sym (rg i hi))
 
@@ -162,10 +162,10 @@ module _ (s t : Scopes) (h : Sound s) (k : Sound t) (ts : Typed s) (tt′ : Type
 
   pub same-state : s ≡ t
   same-state =
-      let lv : s .live ≡ t .live = by-scope {B = Bool} false (s .live) (t .live) liveOf (z .live) (y .live) (λ i hi. read s h z i hi .live) (λ i hi. read t k y i hi .live) in
-      let dg : s .dangled ≡ t .dangled = by-scope {B = Bool} false (s .dangled) (t .dangled) danglesOf (z .dangled) (y .dangled) (λ i hi. read s h z i hi .dangled) (λ i hi. read t k y i hi .dangled) in
-      let pr : s .parent ≡ t .parent = by-scope {B = Bool} 0 (s .parent) (t .parent) parentOf (z .parent) (y .parent) (λ i hi. read s h z i hi .parent) (λ i hi. read t k y i hi .parent) in
-      let nm : s .number ≡ t .number = by-scope {B = Bool} 0 (s .number) (t .number) numberOf (z .number) (y .number) (λ i hi. read s h z i hi .number) (λ i hi. read t k y i hi .number) in
+      let lv : s .live ≡ t .live = by-scope false (s .live) (t .live) liveOf (z .live) (y .live) (λ i hi. read s h z i hi .live) (λ i hi. read t k y i hi .live) in
+      let dg : s .dangled ≡ t .dangled = by-scope false (s .dangled) (t .dangled) danglesOf (z .dangled) (y .dangled) (λ i hi. read s h z i hi .dangled) (λ i hi. read t k y i hi .dangled) in
+      let pr : s .parent ≡ t .parent = by-scope 0 (s .parent) (t .parent) parentOf (z .parent) (y .parent) (λ i hi. read s h z i hi .parent) (λ i hi. read t k y i hi .parent) in
+      let nm : s .number ≡ t .number = by-scope 0 (s .number) (t .number) numberOf (z .number) (y .number) (λ i hi. read s h z i hi .number) (λ i hi. read t k y i hi .number) in
       λ i. record {
         halves = halves i;
         links = links i;
@@ -191,3 +191,27 @@ admits-one x r q tr tq hr hq =
     let e : seen r ≡ seen q = hr .0 ∙ sym (hq .0) in
     let s : r .state ≡ q .state = same-state (r .state) (q .state) (hr .1) (hq .1) tr tq (ap (λ (y : Seen). y .next) e) in
     λ i. record { state = s i; reply = e i .says }
+
+-- a question's promise is `r ≡ x`; fresh's is `(view r ≡ c) × Sound r`
+pub fresh-one : (c : rule.Scopes) (r q : Scopes) → Typed r → Typed q → (view r ≡ c) × Sound r → (view q ≡ c) × Sound q → r ≡ q
+fresh-one c r q tr tq hr hq = same-state r q (hr .1) (hq .1) tr tq (hr .0 ∙ sym (hq .0))
+
+-- drain: the state, the count, and the memory that it was lent
+pub record DrainPromise (s : Scopes) (lent : List ℕ) (r : Drained) (out : List ℕ) : Type 0 where
+  pub promise : (view (r .state) ≡ rule.drainDangling (view s) .1) × (take (r .count) out ≡ rule.drainDangling (view s) .0) × Sound (r .state)
+  pub kept : (k : ℕ) → r .count ≤ k → getD out k 0 ≡ getD lent k 0
+  pub long : length out ≡ 1024
+  pub fits : r .count ≤ 1024
+
+pub drain-one : (s : Scopes) (lent : List ℕ) (r q : Drained) (out other : List ℕ) → Typed (r .state) → Typed (q .state) → DrainPromise s lent r out → DrainPromise s lent q other → (r ≡ q) × (out ≡ other)
+drain-one s lent r q out other tr tq hr hq =
+    let st : r .state ≡ q .state = same-state (r .state) (q .state) (hr .promise .2) (hq .promise .2) tr tq (hr .promise .0 ∙ sym (hq .promise .0)) in
+    let tk : take (r .count) out ≡ take (q .count) other = hr .promise .1 ∙ sym (hq .promise .1) in
+    let ln : r .count ≡ q .count =
+    sym (length-take-le (r .count) out (omega (arith, hr .long, hr .fits))) ∙ ap length tk ∙ length-take-le (q .count) other (omega (arith, hq .long, hq .fits)) in (
+      (λ i. record { state = st i; count = ln i }),
+      ext-getD 0 out other (hr .long ∙ sym (hq .long))
+          (λ k l. by-cases (decLt k (r .count))
+          (λ b. sym (getD-take (r .count) out k 0 b) ∙ ap (λ (x : List ℕ). getD x k 0) tk ∙ getD-take (q .count) other k 0 (omega arith))
+          (λ b. hr .kept k (omega arith) ∙ sym (hq .kept k (omega arith)))),
+    )
