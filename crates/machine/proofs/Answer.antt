@@ -43,7 +43,7 @@ high-below (loads o a ∷ ls) size i j e = go (ltb a size) e (λ q. high-below l
     go true e ih = omega (arith, ih e)
     go false e ih = let q : i ≡ j = cc in omega arith
 
-comes : (room : Room) (cells list : List ℕ) → Comes (room .lines) (ranOn room cells list)
+pub comes : (room : Room) (cells list : List ℕ) → Comes (room .lines) (ranOn room cells list)
 unfolding ranOn runListed
 comes room cells list = go (listFrom room 0 (split list)) (list-in room (split list) 0 (omega arith))
   where
