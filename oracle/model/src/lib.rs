@@ -15,7 +15,7 @@ pub use frame::Frame;
 pub use list::{print_refusal, write_list, Line};
 pub use machine::{read_list, run, runner};
 pub use scopes::{Id, Scopes};
-pub use session::{translate, translate_with, translator, translator_with, Session};
+pub use session::{play, translate, translate_with, translator, translator_with, Session};
 pub use slots::{Slots, SEGMENT, SEGMENTS, SLOTS};
 pub use text::read_script;
 

@@ -53,6 +53,12 @@ impl Session {
         self.handles.len()
     }
 
+    /// Is the handle held and not Freed?
+    pub fn usable(&self, handle: usize) -> bool {
+        let found = self.handles.get(handle);
+        found.is_some_and(|h| h.held && h.kind != Kind::Freed)
+    }
+
     /// One frame; a refusal changes nothing.
     pub fn step(&mut self, frame: Frame) -> Result<Line, u8> {
         let opcode = frame.opcode();
@@ -251,17 +257,23 @@ impl Session {
     }
 }
 
-/// The list of a script. `room` is the length of the lent memory: "17 comes last".
-pub fn translate_with(script: &[u8], room: usize, plant: Plant) -> Result<Vec<u8>, Refusal> {
+/// The lines of all frames, and where the script stands after them or after its first refused frame.
+pub fn play(frames: &[Frame], plant: Plant) -> (Session, Result<Vec<Line>, Refusal>) {
     let mut session = Session::new(plant);
     let mut lines = Vec::new();
-    for (line, frame) in read_script(script, plant)?.into_iter().enumerate() {
-        match session.step(frame) {
+    for (line, frame) in frames.iter().enumerate() {
+        match session.step(*frame) {
             Ok(shown) => lines.push(shown),
-            Err(number) => return refused(number, line),
+            Err(number) => return (session, refused(number, line)),
         }
     }
-    let list = write_list(&lines, session.scopes.size());
+    (session, Ok(lines))
+}
+
+/// The list of a script. `room` is the length of the lent memory: "17 comes last".
+pub fn translate_with(script: &[u8], room: usize, plant: Plant) -> Result<Vec<u8>, Refusal> {
+    let (session, lines) = play(&read_script(script, plant)?, plant);
+    let list = write_list(&lines?, session.scopes.size());
     match list.len() > room {
         true => refused(17, 0),
         false => Ok(list),

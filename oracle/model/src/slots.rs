@@ -79,8 +79,8 @@ impl Slots {
                 .find(|a| self.occupied[*a] && a % SEGMENT < 64)
                 .map_or(0, |a| a + 1),
             Some(Fault::RunInGap) => (0..SLOTS).find(|a| !self.occupied[*a]).unwrap_or(SLOTS),
-            _ => self
-                .occupied
+            // no slot from segment L on is occupied
+            _ => self.occupied[..SEGMENT * self.length]
                 .iter()
                 .rposition(|o| *o)
                 .map_or(0, |greatest| greatest + 1),

@@ -23,6 +23,8 @@ pub(super) struct Books {
     beside: Bare,
     /// in the order added
     owned: Vec<Owned>,
+    /// by address, the newest handle that holds it
+    holders: Vec<Option<usize>>,
     /// the first line whose insert met H > L; the second `Slots` isn't told more from there on
     pub(super) head_above_length: Option<usize>,
     pub(super) shared: Option<Shared>,
@@ -50,11 +52,14 @@ impl Books {
     }
 
     pub(super) fn gain(&mut self, line: usize, scope: ScopeId, address: usize, handle: usize) {
-        if let Some(other) = self.owned.iter().find(|o| o.address == address) {
+        if self.holders.len() <= address {
+            self.holders.resize(address + 1, None);
+        }
+        if let Some(older) = self.holders[address].replace(handle) {
             self.shared.get_or_insert(Shared {
                 line,
                 address,
-                older: other.handle,
+                older,
                 newer: handle,
             });
         }
@@ -67,6 +72,7 @@ impl Books {
 
     fn removed(&mut self, gone: &[usize]) {
         for address in gone {
+            self.holders[*address] = None;
             if self.head_above_length.is_none() {
                 assert!(self.beside.remove(*address), "the books are wrong");
             }

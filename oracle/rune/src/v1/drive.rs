@@ -9,6 +9,7 @@ use crate::ast::Span;
 use crate::compile;
 use crate::hir::Variable;
 use crate::query::Query;
+use crate::runtime::InstAddress;
 use crate::SourceId;
 
 /// Why the original went no further.
@@ -217,13 +218,17 @@ impl<'a> Driver<'a> {
         Ok(vec![first])
     }
 
+    /// Where there is no address to hand over, another one asks whether there is a top at all.
     fn define(&mut self, name: u16, handle: u16) -> Step {
         let scopes = self.scopes;
-        match &self.handle(handle)?.address {
-            Some(address) => scopes.define(&SPAN, Variable(name), address)?,
-            None => return Err(Stop::Untold("the address was freed or forgotten")),
+        let found = self.handle(handle).map(|h| h.address.as_ref());
+        if let Ok(Some(address)) = found {
+            scopes.define(&SPAN, Variable(name), address)?;
+            return Ok(vec![]);
         }
-        Ok(vec![])
+        let other = Address::assigned(&SPAN, scopes, InstAddress::new(0));
+        scopes.define(&SPAN, Variable(name), &other)?;
+        Err(Stop::Untold("the address is unknown, freed or forgotten"))
     }
 
     fn free(&mut self, handle: u16, dangling: bool) -> Step {
