@@ -1,6 +1,7 @@
 //! A plain reading of document 01: no thought of speed or of proof, only of its words. It is a witness of its own in
 //! comparisons, and it knows the refusals that the original doesn't (handles, held and written marks, room limits).
 
+mod address_set;
 mod fault;
 mod frame;
 mod list;
@@ -10,7 +11,7 @@ mod session;
 mod slots;
 mod text;
 
-pub use fault::{Fault, Plant};
+pub use fault::{Fault, Plant, FAULTS};
 pub use frame::Frame;
 pub use list::{print_refusal, write_list, Line};
 pub use machine::{read_list, run, runner};

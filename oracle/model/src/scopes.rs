@@ -1,5 +1,6 @@
 //! Document 01, "Scopes". A refusal is its number alone; the order of tests is that of "Order".
 
+use crate::address_set::AddressSet;
 use crate::fault::{Fault, Plant};
 use crate::slots::{Slots, SLOTS};
 
@@ -31,7 +32,7 @@ struct Scope {
     parent: Option<usize>,
     dangled: bool,
     bindings: Vec<Binding>,
-    owned: Vec<usize>,
+    owned: AddressSet,
 }
 
 impl Scope {
@@ -41,7 +42,7 @@ impl Scope {
             parent,
             dangled: false,
             bindings: Vec::new(),
-            owned: Vec::new(),
+            owned: AddressSet::default(),
         }
     }
 }
@@ -53,18 +54,11 @@ pub struct Scopes {
     live: Vec<Option<Scope>>,
     top: Option<usize>,
     counter: u32,
-    dangling: Vec<usize>,
+    dangling: AddressSet,
     size: usize,
     /// an insert met H > L
     pub head_above_length: bool,
     plant: Plant,
-}
-
-/// "An address set ignores a repeated insert"
-fn add(set: &mut Vec<usize>, address: usize) {
-    if !set.contains(&address) {
-        set.push(address);
-    }
 }
 
 impl Scopes {
@@ -79,7 +73,7 @@ impl Scopes {
             live: vec![Some(Scope::new(root, None))],
             top: Some(0),
             counter: 1,
-            dangling: Vec::new(),
+            dangling: AddressSet::default(),
             size: 0,
             head_above_length: false,
             plant,
@@ -160,9 +154,9 @@ impl Scopes {
     }
 
     fn gain(&mut self, owner: Id, address: usize) {
-        add(&mut self.at_mut(owner.index).owned, address);
+        self.at_mut(owner.index).owned.insert(address);
         if self.plant != Some(Fault::DanglingStays) {
-            self.dangling.retain(|a| *a != address);
+            self.dangling.remove(address);
         }
         let grown = match self.plant {
             Some(Fault::SizeOfLast) => address,
@@ -172,21 +166,21 @@ impl Scopes {
     }
 
     fn dangles(&mut self, address: usize) {
-        if self.plant == Some(Fault::DanglingKeepsPlace) && !self.dangling.contains(&address) {
-            let place = self.dangling.partition_point(|a| *a < address);
-            return self.dangling.insert(place, address);
+        match self.plant {
+            Some(Fault::DanglingKeepsPlace) => self.dangling.insert_sorted(address),
+            _ => self.dangling.insert(address),
         }
-        add(&mut self.dangling, address);
     }
 
     /// "its addresses are removed from the slots in list order, each put at the end of the dangling list unless there;
     /// bindings go; top becomes its parent, even if s wasn't top."
     fn close(&mut self, index: usize) {
-        let mut scope = self.live[index].take().expect("a live scope");
+        let scope = self.live[index].take().expect("a live scope");
+        let mut owned = scope.owned.in_order();
         if self.plant == Some(Fault::ListOrder) {
-            scope.owned.sort_unstable();
+            owned.sort_unstable();
         }
-        for address in scope.owned {
+        for address in owned {
             self.slots.remove(address);
             self.dangles(address);
         }
@@ -296,16 +290,16 @@ impl Scopes {
 
     /// "answers the dangling list in order and empties it"
     pub fn drain(&mut self) -> Vec<usize> {
-        std::mem::take(&mut self.dangling)
+        std::mem::take(&mut self.dangling).in_order()
     }
 
     /// "Giving back takes the address out of the owner's list and, unless freed without dangling, puts it on the
     /// dangling list": from the top; 12.
     pub fn give_back(&mut self, address: usize, dangling: bool) -> Result<(), u8> {
         let top = self.top().map_err(|_| 12)?.index;
-        let owned = &mut self.at_mut(top).owned;
-        let place = owned.iter().position(|a| *a == address).ok_or(12)?;
-        owned.remove(place);
+        if !self.at_mut(top).owned.remove(address) {
+            return Err(12);
+        }
         if dangling || self.plant == Some(Fault::QuietDangles) {
             self.dangles(address);
         }

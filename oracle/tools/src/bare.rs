@@ -102,20 +102,27 @@ pub fn calls(rng: &mut Rng) -> Vec<Call> {
     let mut maker = Maker {
         slots: Slots::new(None),
         calls: Vec::new(),
-        daring: rng.once_in(4),
+        above: false,
+        clear: false,
     };
+    match rng.below(6) {
+        0 => maker.above = true,
+        1 => maker.clear = true,
+        _ => {}
+    }
     for _ in 0..1 + rng.below(24) {
         let burst = match rng.below(4) {
             0 => rng.below(4),
             1 => 126 + rng.below(5),
             2 => rng.below(40),
-            _ => rng.below(300),
+            _ => rng.below(500),
         };
-        match rng.below(5) {
-            0 => maker.inserts(burst),
-            1 => maker.pushes(burst),
-            2 => maker.upward(rng.below(SLOTS)),
-            _ => maker.removals(burst, rng),
+        match rng.below(8) {
+            0 | 1 => maker.inserts(burst),
+            2 | 3 => maker.pushes(burst),
+            4 => maker.upward(rng),
+            5 => maker.rise(rng),
+            _ => maker.removals(burst / 2, rng),
         }
     }
     maker.calls
@@ -124,8 +131,10 @@ pub fn calls(rng: &mut Rng) -> Vec<Call> {
 struct Maker {
     slots: Slots,
     calls: Vec<Call>,
-    /// may meet H > L, and may remove clear slots
-    daring: bool,
+    /// may meet H > L
+    above: bool,
+    /// may remove clear slots
+    clear: bool,
 }
 
 impl Maker {
@@ -140,7 +149,7 @@ impl Maker {
 
     fn inserts(&mut self, n: usize) {
         for _ in 0..n {
-            match self.slots.head() > self.slots.length() && !self.daring {
+            match self.slots.head() > self.slots.length() && !self.above {
                 true => self.make(Call::Push),
                 false => self.make(Call::Insert),
             }
@@ -154,7 +163,8 @@ impl Maker {
     }
 
     /// All that is occupied from here on, as a scope's pop does: the head ends up high.
-    fn upward(&mut self, from: usize) {
+    fn upward(&mut self, rng: &mut Rng) {
+        let from = rng.below(self.slots.past_greatest());
         for address in from..SLOTS {
             if self.slots.occupied(address) {
                 self.make(Call::Remove(address));
@@ -162,16 +172,24 @@ impl Maker {
         }
     }
 
+    /// H may end up above L.
+    fn rise(&mut self, rng: &mut Rng) {
+        self.pushes(rng.below(500));
+        self.upward(rng);
+        self.pushes(rng.below(130));
+        self.inserts(rng.below(4));
+    }
+
     fn removals(&mut self, n: usize, rng: &mut Rng) {
         for _ in 0..n {
-            let address = victim(rng, &self.slots, self.daring);
+            let address = victim(rng, &self.slots, self.clear);
             self.make(Call::Remove(address));
         }
     }
 }
 
-fn victim(rng: &mut Rng, slots: &Slots, daring: bool) -> usize {
-    if daring && rng.once_in(20) {
+fn victim(rng: &mut Rng, slots: &Slots, clear: bool) -> usize {
+    if clear && rng.once_in(20) {
         return rng.below(SLOTS + 200);
     }
     let g = slots.past_greatest();

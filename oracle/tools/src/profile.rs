@@ -11,6 +11,8 @@ pub struct Profile {
     pub names: usize,
     /// how often a refused frame is kept as the last one: once in so many
     pub refusal: usize,
+    /// how often the head is made to rise above L: once in so many frames
+    pub rise: usize,
 }
 
 const MIXED: Profile = Profile {
@@ -19,6 +21,7 @@ const MIXED: Profile = Profile {
     run: 6,
     names: 6,
     refusal: 60,
+    rise: 400,
 };
 
 const DEEP: Profile = Profile {
@@ -26,7 +29,8 @@ const DEEP: Profile = Profile {
     weights: [40, 14, 6, 12, 0, 8, 8, 3, 8, 5, 3, 6, 2, 1, 1, 2, 1, 1],
     run: 4,
     names: 12,
-    refusal: 150,
+    refusal: 60,
+    rise: 2000,
 };
 
 const WIDE: Profile = Profile {
@@ -34,7 +38,8 @@ const WIDE: Profile = Profile {
     weights: [6, 3, 2, 2, 0, 60, 8, 6, 1, 1, 1, 24, 6, 1, 1, 2, 1, 1],
     run: 180,
     names: 4,
-    refusal: 300,
+    refusal: 60,
+    rise: 300,
 };
 
 const FULL: Profile = Profile {
@@ -42,7 +47,8 @@ const FULL: Profile = Profile {
     weights: [6, 4, 2, 2, 0, 20, 6, 16, 1, 1, 1, 20, 6, 1, 1, 1, 1, 1],
     run: 700,
     names: 4,
-    refusal: 100,
+    refusal: 60,
+    rise: 60,
 };
 
 const NAMES: Profile = Profile {
@@ -50,7 +56,8 @@ const NAMES: Profile = Profile {
     weights: [6, 2, 2, 3, 0, 5, 2, 1, 60, 10, 8, 3, 1, 1, 1, 4, 1, 6],
     run: 4,
     names: 300,
-    refusal: 200,
+    refusal: 60,
+    rise: 2000,
 };
 
 const CHURN: Profile = Profile {
@@ -58,7 +65,8 @@ const CHURN: Profile = Profile {
     weights: [14, 12, 3, 4, 0, 24, 6, 6, 1, 1, 1, 20, 8, 2, 6, 2, 1, 1],
     run: 40,
     names: 4,
-    refusal: 200,
+    refusal: 60,
+    rise: 300,
 };
 
 const ENDING: Profile = Profile {
@@ -67,6 +75,7 @@ const ENDING: Profile = Profile {
     run: 3,
     names: 3,
     refusal: 12,
+    rise: 200,
 };
 
 /// Scopes over several segments, popped; then runs that shrink L.
@@ -75,7 +84,8 @@ const HEAD: Profile = Profile {
     weights: [12, 12, 1, 2, 0, 14, 3, 16, 1, 1, 1, 8, 4, 1, 2, 1, 1, 1],
     run: 400,
     names: 3,
-    refusal: 100,
+    refusal: 60,
+    rise: 12,
 };
 
 pub const PROFILES: [&Profile; 8] = [&MIXED, &DEEP, &WIDE, &FULL, &NAMES, &CHURN, &ENDING, &HEAD];

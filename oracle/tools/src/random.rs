@@ -16,6 +16,8 @@ struct Maker<'a> {
     profile: &'static Profile,
     session: Session,
     scopes: usize,
+    /// frames that come next, last first
+    planned: Vec<Frame>,
     /// no insert may meet H > L, and no root Scope handle is freed late
     inside: bool,
 }
@@ -30,6 +32,7 @@ pub fn script(rng: &mut Rng) -> Made {
         profile,
         session: Session::new(None),
         scopes: 1,
+        planned: Vec::new(),
         inside,
     };
     maker.frames(frames)
@@ -40,8 +43,10 @@ impl Maker<'_> {
         let mut frames = Vec::new();
         let mut refused = false;
         let mut misses = 0;
-        while frames.len() < wanted && misses < 200 && !refused {
-            let frame = self.frame();
+        // long scripts shall get long
+        let refusal = self.profile.refusal + 4 * wanted;
+        while frames.len() < wanted && misses < 400 && !refused {
+            let frame = self.next();
             let early = frame == Frame::PopLast && frames.len() + 20 < wanted;
             if early || self.leaves(frame) {
                 misses += 1;
@@ -53,7 +58,7 @@ impl Maker<'_> {
                     frames.push(frame);
                     misses = 0;
                 }
-                Err(_) if self.rng.once_in(self.profile.refusal) => {
+                Err(_) if self.rng.once_in(refusal) => {
                     frames.push(frame);
                     refused = true;
                 }
@@ -72,6 +77,29 @@ impl Maker<'_> {
         let slots = &self.session.scopes.slots;
         let inserts = matches!(frame, Frame::Alloc | Frame::AllocIn(_) | Frame::Linear(1));
         self.inside && inserts && slots.head() > slots.length()
+    }
+
+    fn next(&mut self) -> Frame {
+        if self.planned.is_empty() && self.rng.once_in(self.profile.rise) {
+            self.plan_rise();
+        }
+        match self.planned.pop() {
+            Some(frame) => frame,
+            None => self.frame(),
+        }
+    }
+
+    /// A scope over several segments is popped, which leaves the head high; a run from below then shrinks L.
+    fn plan_rise(&mut self) {
+        let long = 129 + self.rng.below(400) as u16;
+        let short = 2 + self.rng.below(130) as u16;
+        self.planned = vec![
+            Frame::Alloc,
+            Frame::Linear(short),
+            Frame::Pop(self.scopes as u16),
+            Frame::Linear(long),
+            Frame::Child,
+        ];
     }
 
     fn frame(&mut self) -> Frame {
