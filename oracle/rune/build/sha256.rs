@@ -19,7 +19,7 @@ fn root_bits(prime: u128, cube: bool) -> u32 {
 }
 
 fn primes(n: usize) -> Vec<u128> {
-    let prime = |p: &u128| (2..*p).all(|d| p % d != 0);
+    let prime = |p: &u128| (2..*p).all(|d| !p.is_multiple_of(d));
     (2..).filter(prime).take(n).collect()
 }
 

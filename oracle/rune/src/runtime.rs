@@ -33,7 +33,7 @@ impl fmt::Display for InstAddress {
     }
 }
 
-#[derive(Clone, Copy, Debug, PartialEq, Eq)]
+#[derive(Clone, Copy)]
 pub(crate) struct Output(Option<usize>);
 
 impl Output {
@@ -46,10 +46,27 @@ impl Output {
     }
 }
 
+impl fmt::Debug for Output {
+    fn fmt(&self, f: &mut fmt::Formatter<'_>) -> fmt::Result {
+        match self.0 {
+            Some(offset) => write!(f, "keep {offset}"),
+            None => write!(f, "discard"),
+        }
+    }
+}
+
 /// The two instructions that the four files name.
-#[allow(dead_code)]
-#[derive(Clone, Copy, Debug)]
+#[derive(Clone, Copy)]
 pub(crate) enum Inst {
     Copy { addr: InstAddress, out: Output },
     Move { addr: InstAddress, out: Output },
+}
+
+impl fmt::Debug for Inst {
+    fn fmt(&self, f: &mut fmt::Formatter<'_>) -> fmt::Result {
+        match self {
+            Inst::Copy { addr, out } => write!(f, "copy {addr}, {out:?}"),
+            Inst::Move { addr, out } => write!(f, "move {addr}, {out:?}"),
+        }
+    }
 }

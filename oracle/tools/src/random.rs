@@ -124,7 +124,7 @@ impl Maker<'_> {
             0x0f => Frame::Drain,
             0x10 => Frame::Write {
                 handle: self.handle(),
-                value: self.rng.next() as u16,
+                value: self.rng.draw() as u16,
             },
             0x11 => Frame::Read(self.handle()),
             _ => Frame::ReadName(self.name()),

@@ -112,16 +112,27 @@ fn renumber(frame: Frame, handles: (u16, u16), scopes: (u16, u16)) -> Frame {
     }
 }
 
-/// The same frame with smaller numbers, smallest first.
+/// Smaller numbers, smallest first.
+fn below(n: u16) -> Vec<u16> {
+    let mut fewer = vec![0, 1, 2, 3, n / 2, n.saturating_sub(1)];
+    fewer.retain(|m| *m < n);
+    fewer
+}
+
+/// The same frame with smaller numbers, or a plainer one.
 fn simpler(frame: Frame) -> Vec<Frame> {
+    let each = |n: u16, of: fn(u16) -> Frame| below(n).into_iter().map(of).collect();
     match frame {
-        Frame::Linear(n) => (0..4)
-            .chain([n / 2, n.saturating_sub(1)])
-            .filter(|m| *m < n)
-            .map(Frame::Linear)
-            .collect(),
+        Frame::Linear(n) => each(n, Frame::Linear),
+        Frame::Free(h) => each(h, Frame::Free),
+        Frame::Read(h) => each(h, Frame::Read),
+        Frame::Forget(h) => each(h, Frame::Forget),
         Frame::FreeQuietly(h) => vec![Frame::Free(h)],
         Frame::AllocIn(_) => vec![Frame::Alloc],
+        Frame::Define { name, handle } => below(handle)
+            .into_iter()
+            .map(|handle| Frame::Define { name, handle })
+            .collect(),
         Frame::Write { handle, value } if value > 0 => vec![Frame::Write { handle, value: 0 }],
         _ => vec![],
     }

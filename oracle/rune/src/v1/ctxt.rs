@@ -4,6 +4,7 @@ use std::marker::PhantomData;
 
 use crate::compile::Assembly;
 
+#[derive(Default)]
 pub(super) struct Ctxt<'a, 'hir, 'arena> {
     pub(super) asm: Assembly,
     lives: PhantomData<(&'a (), &'hir (), &'arena ())>,

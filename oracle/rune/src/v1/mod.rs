@@ -7,6 +7,7 @@ mod books;
 mod ctxt;
 mod display_named;
 mod drive;
+pub mod probe;
 mod slab;
 
 pub use self::bare::Bare;
