@@ -3,7 +3,7 @@
 
 use model::{Frame, Session};
 
-/// All eighteen frames; two scopes besides root, two names, three handles, runs of 0 to 2.
+/// All eighteen frames, 37 of them: two scopes besides root, two names, three handles, runs of 0 to 2.
 pub fn alphabet() -> Vec<Frame> {
     let mut all = vec![Frame::Child, Frame::PopLast, Frame::Alloc, Frame::Drain];
     for s in 0..3 {
@@ -25,16 +25,20 @@ pub fn alphabet() -> Vec<Frame> {
     all
 }
 
+/// Runs about the limits of segments, and what moves the head.
+pub fn wide_alphabet() -> Vec<Frame> {
+    let mut all = vec![Frame::Child, Frame::Alloc, Frame::AllocIn(0)];
+    all.extend([2, 127, 128, 129, 257, 640].map(Frame::Linear));
+    all.extend([Frame::Pop(1), Frame::Pop(2), Frame::Dangle(1)]);
+    all.extend([0, 1, 126, 127, 128, 256].map(Frame::Free));
+    all.extend([Frame::Drain, Frame::PopLast]);
+    all
+}
+
 /// False once the taker wants no more.
-pub fn every(longest: usize, take: &mut dyn FnMut(&[Frame]) -> bool) -> bool {
-    take(&[])
-        && extend(
-            &mut Vec::new(),
-            &Session::new(None),
-            &alphabet(),
-            longest,
-            take,
-        )
+pub fn every(alphabet: &[Frame], longest: usize, take: &mut dyn FnMut(&[Frame]) -> bool) -> bool {
+    let fresh = Session::new(None);
+    take(&[]) && extend(&mut Vec::new(), &fresh, alphabet, longest, take)
 }
 
 fn extend(

@@ -8,9 +8,9 @@ use crate::{damage, every, lists, random};
 use model::{Frame, Plant};
 use std::collections::BTreeMap;
 
-/// Every script of up to `longest` frames.
-pub fn every_script(comparison: &mut Comparison, longest: usize) {
-    every::every(longest, &mut |frames| {
+/// Every script of up to `longest` frames over the alphabet.
+pub fn every_script(comparison: &mut Comparison, alphabet: &[Frame], longest: usize) {
+    every::every(alphabet, longest, &mut |frames| {
         comparison.offer(Frame::script(frames))
     });
     comparison.settle();

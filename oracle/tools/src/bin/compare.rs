@@ -1,12 +1,12 @@
 //! Ours against the original and the model, at scale. See oracle/README.md for the options.
 
-use model::{Fault, Plant};
+use model::{Fault, Frame, Plant};
 use oracle::args::Args;
 use oracle::comparison::{Comparison, Found};
 use oracle::judge::{Against, ORIGINAL_FAULTS};
 use oracle::known::known;
 use oracle::ours::{Model, Ours, Program};
-use oracle::phases;
+use oracle::{every, phases};
 use std::process::ExitCode;
 use std::time::Instant;
 
@@ -16,6 +16,7 @@ struct Plan {
     program: Option<String>,
     runner: Option<String>,
     every: usize,
+    wide: usize,
     random: u64,
     damaged: u64,
     bare: u64,
@@ -48,6 +49,7 @@ fn plan(args: &Args) -> Plan {
         program,
         runner: args.value("--runner").map(String::from),
         every: args.number("--every", every) as usize,
+        wide: args.number("--wide", every - 1) as usize,
         random: args.number("--random", random),
         damaged: args.number("--damaged", few),
         bare: args.number("--bare", 20_000),
@@ -79,6 +81,16 @@ fn report(found: &[Found]) -> usize {
     unknown
 }
 
+fn every_script(comparison: &mut Comparison, name: &str, alphabet: &[Frame], longest: usize) {
+    let begun = Instant::now();
+    phases::every_script(comparison, alphabet, longest);
+    let seconds = begun.elapsed().as_secs();
+    let letters = alphabet.len();
+    println!("every script of up to {longest} frames, {name} alphabet of {letters}, {seconds} s");
+    println!("{}", comparison.tally);
+    comparison.tally = Default::default();
+}
+
 fn scripts(plan: &Plan) -> usize {
     let ours: Box<dyn Ours> = match &plan.program {
         Some(command) => Box::new(Program::new(command)),
@@ -86,13 +98,9 @@ fn scripts(plan: &Plan) -> usize {
     };
     println!("ours: {}; seed {}", ours.name(), plan.seed);
     let mut comparison = Comparison::new(ours, plan.against);
-    let begun = Instant::now();
-    phases::every_script(&mut comparison, plan.every);
-    let seconds = begun.elapsed().as_secs();
-    println!("every script of up to {} frames, {seconds} s", plan.every);
-    println!("{}", comparison.tally);
+    every_script(&mut comparison, "small", &every::alphabet(), plan.every);
+    every_script(&mut comparison, "wide", &every::wide_alphabet(), plan.wide);
 
-    comparison.tally = Default::default();
     let begun = Instant::now();
     let profiles = phases::random_scripts(&mut comparison, plan.random, plan.seed);
     println!("by chance, {} s, {profiles:?}", begun.elapsed().as_secs());

@@ -2,6 +2,7 @@
 
 use model::{Fault, FAULTS};
 use oracle::comparison::Comparison;
+use oracle::every::alphabet;
 use oracle::judge::{Against, ORIGINAL_FAULTS};
 use oracle::ours::Model;
 use oracle::phases;
@@ -22,7 +23,7 @@ fn shown(text: &[u8]) -> String {
 /// The first difference, made small.
 fn found(fault: Option<Fault>, against: Against) -> Option<String> {
     let mut comparison = Comparison::new(Box::new(Model(fault)), against);
-    phases::every_script(&mut comparison, 4);
+    phases::every_script(&mut comparison, &alphabet(), 4);
     if comparison.found.is_empty() {
         phases::random_scripts(&mut comparison, 4000, SEED);
     }

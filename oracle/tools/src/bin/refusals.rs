@@ -1,7 +1,7 @@
 //! For each refusal of 01 and each frame: the shortest script that meets it, and what the original does with that frame.
 
 use model::Frame;
-use oracle::every::every;
+use oracle::every::{alphabet, every};
 use rune::{drive, Stop};
 use std::collections::BTreeMap;
 
@@ -22,7 +22,7 @@ fn kind(words: &str) -> String {
 
 fn main() {
     let mut table: BTreeMap<(u8, u8, String), (Vec<Frame>, String)> = BTreeMap::new();
-    every(5, &mut |frames| {
+    every(&alphabet(), 5, &mut |frames| {
         let refusal = model::play(frames, None).1.err();
         if let (Some(refusal), Some(words)) = (refusal, theirs(frames)) {
             let opcode = frames[refusal.line].opcode();
