@@ -127,20 +127,35 @@ fn planted(mut driven: Driven, plant: Option<OriginalFault>) -> Driven {
     driven
 }
 
-/// Before this line, was the domain left?
-fn outside(driven: &Driven, line: usize) -> Option<Verdict> {
-    let before = |met: Option<usize>| met.is_some_and(|at| at < line);
-    if before(driven.head_above_length) {
-        return Some(Verdict::Outside(Outside::HeadAboveLength));
-    }
-    before(driven.root_freed_late).then_some(Verdict::Outside(Outside::RootFreedLate))
+/// Before this line, was the domain left? Where, and how.
+fn outside(driven: &Driven, line: usize) -> Option<(usize, Outside)> {
+    let met = [
+        (driven.head_above_length, Outside::HeadAboveLength),
+        (driven.root_freed_late, Outside::RootFreedLate),
+    ];
+    met.into_iter()
+        .filter_map(|(at, why)| at.map(|at| (at, why)))
+        .find(|(at, _)| *at < line)
 }
 
-/// "Scripts accepted here ..: all answers equal."
+/// The first n lines.
+fn lines(list: &[u8], n: usize) -> &[u8] {
+    let ends = list.iter().enumerate().filter(|(_, b)| **b == b'\n');
+    match n.checked_sub(1).and_then(|last| ends.clone().nth(last)) {
+        Some((end, _)) => &list[..=end],
+        None => &list[..0],
+    }
+}
+
+/// "Scripts accepted here ..: all answers equal." Where the domain is left, those before are.
 fn accepted(frames: &[Frame], list: &[u8], plant: Option<OriginalFault>) -> Verdict {
     let driven = planted(drive(frames), plant);
-    if let Some(verdict) = outside(&driven, frames.len()) {
-        return verdict;
+    if let Some((at, why)) = outside(&driven, frames.len()) {
+        let (theirs, ours) = (lines(&driven.list, at), lines(list, at));
+        return match theirs == ours {
+            true => Verdict::Outside(why),
+            false => Verdict::Differs(first_difference("the original", theirs, ours)),
+        };
     }
     if let Some((line, why)) = &driven.stop {
         return Verdict::Differs(format!("line {line}: taken here, the original: {why:?}"));
@@ -167,8 +182,8 @@ fn refused(frames: &[Frame], number: u8, line: usize, plant: Option<OriginalFaul
         return Verdict::Differs(format!("refused at line {line}, which isn't there"));
     }
     let driven = planted(drive(&frames[..=line]), plant);
-    if let Some(verdict) = outside(&driven, line) {
-        return verdict;
+    if let Some((_, why)) = outside(&driven, line) {
+        return Verdict::Outside(why);
     }
     match driven.stop {
         Some((earlier, why)) if earlier < line => {
