@@ -106,10 +106,12 @@ fn scripts(plan: &Plan) -> usize {
     println!("by chance, {} s, {profiles:?}", begun.elapsed().as_secs());
     println!("{}", comparison.tally);
 
-    comparison.tally = Default::default();
-    phases::damaged_texts(&mut comparison, plan.damaged, plan.seed);
-    println!("damaged texts, by the model only");
-    println!("{}", comparison.tally);
+    if plan.program.is_some() || plan.plant.is_some() {
+        comparison.tally = Default::default();
+        phases::damaged_texts(&mut comparison, plan.damaged, plan.seed);
+        println!("damaged texts, by the model only");
+        println!("{}", comparison.tally);
+    }
     report(&comparison.found)
 }
 
