@@ -1,0 +1,106 @@
+//! Document 01, "Script frames": a frame, and its text.
+
+/// In the order of the opcodes 01 to 12.
+#[derive(Clone, Copy, Debug, PartialEq, Eq)]
+pub enum Frame {
+    Child,
+    Pop(u16),
+    Dangle(u16),
+    Restore(u16),
+    PopLast,
+    Alloc,
+    AllocIn(u16),
+    Linear(u16),
+    Define { name: u16, handle: u16 },
+    Get(u16),
+    Take(u16),
+    Free(u16),
+    FreeQuietly(u16),
+    Forget(u16),
+    Drain,
+    Write { handle: u16, value: u16 },
+    Read(u16),
+    ReadName(u16),
+}
+
+impl Frame {
+    pub fn opcode(&self) -> u8 {
+        match self {
+            Frame::Child => 0x01,
+            Frame::Pop(_) => 0x02,
+            Frame::Dangle(_) => 0x03,
+            Frame::Restore(_) => 0x04,
+            Frame::PopLast => 0x05,
+            Frame::Alloc => 0x06,
+            Frame::AllocIn(_) => 0x07,
+            Frame::Linear(_) => 0x08,
+            Frame::Define { .. } => 0x09,
+            Frame::Get(_) => 0x0a,
+            Frame::Take(_) => 0x0b,
+            Frame::Free(_) => 0x0c,
+            Frame::FreeQuietly(_) => 0x0d,
+            Frame::Forget(_) => 0x0e,
+            Frame::Drain => 0x0f,
+            Frame::Write { .. } => 0x10,
+            Frame::Read(_) => 0x11,
+            Frame::ReadName(_) => 0x12,
+        }
+    }
+
+    /// None where the opcode is unknown or has other operands.
+    pub fn from_parts(opcode: u8, operands: &[u16]) -> Option<Frame> {
+        Some(match (opcode, operands) {
+            (0x01, []) => Frame::Child,
+            (0x02, [s]) => Frame::Pop(*s),
+            (0x03, [s]) => Frame::Dangle(*s),
+            (0x04, [s]) => Frame::Restore(*s),
+            (0x05, []) => Frame::PopLast,
+            (0x06, []) => Frame::Alloc,
+            (0x07, [s]) => Frame::AllocIn(*s),
+            (0x08, [n]) => Frame::Linear(*n),
+            (0x09, [name, handle]) => Frame::Define {
+                name: *name,
+                handle: *handle,
+            },
+            (0x0a, [name]) => Frame::Get(*name),
+            (0x0b, [name]) => Frame::Take(*name),
+            (0x0c, [h]) => Frame::Free(*h),
+            (0x0d, [h]) => Frame::FreeQuietly(*h),
+            (0x0e, [h]) => Frame::Forget(*h),
+            (0x0f, []) => Frame::Drain,
+            (0x10, [handle, value]) => Frame::Write {
+                handle: *handle,
+                value: *value,
+            },
+            (0x11, [h]) => Frame::Read(*h),
+            (0x12, [name]) => Frame::ReadName(*name),
+            _ => return None,
+        })
+    }
+
+    fn operands(&self) -> Vec<u16> {
+        match *self {
+            Frame::Child | Frame::PopLast | Frame::Alloc | Frame::Drain => vec![],
+            Frame::Pop(x) | Frame::Dangle(x) | Frame::Restore(x) | Frame::AllocIn(x) => vec![x],
+            Frame::Linear(x) | Frame::Get(x) | Frame::Take(x) | Frame::Free(x) => vec![x],
+            Frame::FreeQuietly(x) | Frame::Forget(x) | Frame::Read(x) => vec![x],
+            Frame::ReadName(x) => vec![x],
+            Frame::Define { name, handle } => vec![name, handle],
+            Frame::Write { handle, value } => vec![handle, value],
+        }
+    }
+
+    /// The frame's line with its LF.
+    pub fn write(&self, out: &mut Vec<u8>) {
+        crate::list::write_line(self.opcode(), &self.operands(), out);
+    }
+
+    /// The text of a script.
+    pub fn script(frames: &[Frame]) -> Vec<u8> {
+        let mut out = Vec::new();
+        for frame in frames {
+            frame.write(&mut out);
+        }
+        out
+    }
+}

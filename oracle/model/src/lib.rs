@@ -1,0 +1,40 @@
+//! A plain reading of document 01: no thought of speed or of proof, only of its words. It is a witness of its own in
+//! comparisons, and it knows the refusals that the original doesn't (handles, held and written marks, room limits).
+
+mod address_set;
+mod fault;
+mod frame;
+mod list;
+mod machine;
+mod scopes;
+mod session;
+mod slots;
+mod text;
+
+pub use fault::{Fault, Plant, FAULTS};
+pub use frame::Frame;
+pub use list::{print_refusal, write_list, Line};
+pub use machine::{read_list, run, runner};
+pub use scopes::{Id, Scopes};
+pub use session::{play, translate, translate_with, translator, translator_with, Session};
+pub use slots::{Slots, SEGMENT, SEGMENTS, SLOTS};
+pub use text::read_script;
+
+/// "Scripts: 2,048 frames, 2,048 handles."
+pub const LINES: usize = 2048;
+/// See [`LINES`].
+pub const HANDLES: usize = 2048;
+/// "Text buffers: 32,768 bytes; a program refuses longer input by 17."
+pub const BUFFER: usize = 32768;
+
+/// "A refusal is answered as a number and a line (from 0; line 0 for 17)."
+#[derive(Clone, Copy, Debug, PartialEq, Eq)]
+pub struct Refusal {
+    pub number: u8,
+    pub line: usize,
+}
+
+/// A refusal in one line.
+pub fn refused<T>(number: u8, line: usize) -> Result<T, Refusal> {
+    Err(Refusal { number, line })
+}

@@ -1,0 +1,118 @@
+//! Document 01, "Slots".
+
+use crate::fault::{Fault, Plant};
+
+/// "1,024 slots, addresses 0..1023, in 8 segments of 128."
+pub const SLOTS: usize = 1024;
+/// See [`SLOTS`].
+pub const SEGMENTS: usize = 8;
+/// See [`SLOTS`].
+pub const SEGMENT: usize = 128;
+
+/// "State: the occupied slots, segment count L, head segment H."
+#[derive(Clone)]
+pub struct Slots {
+    occupied: [bool; SLOTS],
+    length: usize,
+    head: usize,
+    plant: Plant,
+}
+
+impl Slots {
+    /// "Fresh: none, 0, 0."
+    pub fn new(plant: Plant) -> Self {
+        Slots {
+            occupied: [false; SLOTS],
+            length: 0,
+            head: 0,
+            plant,
+        }
+    }
+
+    /// L.
+    pub fn length(&self) -> usize {
+        self.length
+    }
+
+    /// H.
+    pub fn head(&self) -> usize {
+        self.head
+    }
+
+    pub fn occupied(&self, address: usize) -> bool {
+        address < SLOTS && self.occupied[address]
+    }
+
+    fn lowest_clear(&self, segment: usize) -> Option<usize> {
+        let first = SEGMENT * segment;
+        (first..first + SEGMENT).find(|a| !self.occupied[*a])
+    }
+
+    /// None is a refusal by 7.
+    pub fn insert(&mut self) -> Option<usize> {
+        let mut start = self.head.min(self.length);
+        if self.plant == Some(Fault::SearchFromZero) {
+            start = 0;
+        }
+        for segment in start..self.length {
+            if let Some(address) = self.lowest_clear(segment) {
+                self.occupied[address] = true;
+                self.head = segment;
+                return Some(address);
+            }
+        }
+        if self.length == SEGMENTS {
+            return None;
+        }
+        let address = SEGMENT * self.length;
+        self.occupied[address] = true;
+        self.head = self.length;
+        self.length += 1;
+        Some(address)
+    }
+
+    /// g: "one past the greatest occupied slot, 0 if none".
+    pub fn past_greatest(&self) -> usize {
+        match self.plant {
+            Some(Fault::LowHalf) => (0..SLOTS)
+                .rev()
+                .find(|a| self.occupied[*a] && a % SEGMENT < 64)
+                .map_or(0, |a| a + 1),
+            Some(Fault::RunInGap) => (0..SLOTS).find(|a| !self.occupied[*a]).unwrap_or(SLOTS),
+            // no slot from segment L on is occupied
+            _ => self.occupied[..SEGMENT * self.length]
+                .iter()
+                .rposition(|o| *o)
+                .map_or(0, |greatest| greatest + 1),
+        }
+    }
+
+    /// None is a refusal by 7.
+    pub fn push(&mut self) -> Option<usize> {
+        let g = self.past_greatest();
+        if g == SLOTS {
+            return None;
+        }
+        self.occupied[g] = true;
+        if g.is_multiple_of(SEGMENT) {
+            let length = g / SEGMENT + 1;
+            self.length = match self.plant {
+                Some(Fault::LengthNeverShrinks) => self.length.max(length),
+                _ => length,
+            };
+        }
+        Some(g)
+    }
+
+    pub fn remove(&mut self, address: usize) -> bool {
+        let segment = address / SEGMENT;
+        if segment >= self.length || !self.occupied[address] {
+            return false;
+        }
+        self.occupied[address] = false;
+        if self.plant != Some(Fault::HeadStays) {
+            self.head = segment;
+        }
+        true
+    }
+}

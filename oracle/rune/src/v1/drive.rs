@@ -1,0 +1,303 @@
+//! Drives the original through the frames of a script, step by step, and writes its list.
+
+use model::Frame;
+
+use super::books::{Books, Shared};
+use super::{Address, Any, DanglingScope, ScopeHandle, ScopeId, Scopes};
+use crate::alloc::Vec as List;
+use crate::ast::Span;
+use crate::compile;
+use crate::hir::Variable;
+use crate::query::Query;
+use crate::runtime::InstAddress;
+use crate::SourceId;
+
+/// Why the original went no further.
+#[derive(Clone, Debug, PartialEq, Eq)]
+pub enum Stop {
+    /// It refused, in its own words.
+    Refused(String),
+    /// The frame can't be said to it.
+    Untold(&'static str),
+}
+
+/// What the original did with a script.
+#[derive(Clone, Debug)]
+pub struct Driven {
+    /// The lines of the frames that it accepted, and the size line if those are all.
+    pub list: Vec<u8>,
+    pub stop: Option<(usize, Stop)>,
+    /// the first line whose insert met H > L
+    pub head_above_length: Option<usize>,
+    /// the first line that freed a root Scope handle after 05
+    pub root_freed_late: Option<usize>,
+    /// the first two allocations that hold one slot
+    pub shared: Option<Shared>,
+}
+
+struct Handle<'a> {
+    slot: usize,
+    /// the scope of an address of kind Scope
+    scope: Option<ScopeId>,
+    /// none once it was freed or forgotten: the original takes it by value
+    address: Option<Address<'a, 'static>>,
+}
+
+struct Driver<'a> {
+    scopes: &'a Scopes<'static>,
+    query: Query<'static, 'static>,
+    /// by number
+    ids: Vec<ScopeId>,
+    handles: Vec<Handle<'a>>,
+    books: Books,
+    root_closed: bool,
+    root_freed_late: Option<usize>,
+    line: usize,
+}
+
+static SPAN: Span = Span;
+
+impl From<compile::Error> for Stop {
+    fn from(error: compile::Error) -> Self {
+        Stop::Refused(error.0)
+    }
+}
+
+type Step = Result<Vec<usize>, Stop>;
+
+impl<'a> Driver<'a> {
+    fn new(scopes: &'a Scopes<'static>) -> Self {
+        Driver {
+            scopes,
+            query: Query::default(),
+            ids: vec![scopes.top_id()],
+            handles: Vec::new(),
+            books: Books::default(),
+            root_closed: false,
+            root_freed_late: None,
+            line: 0,
+        }
+    }
+
+    fn step(&mut self, frame: Frame) -> Step {
+        match frame {
+            Frame::Child => self.child(),
+            Frame::Pop(s) => self.pop(s),
+            Frame::Dangle(s) => self.dangle(s),
+            Frame::Restore(s) => self.restore(s),
+            Frame::PopLast => self.pop_last(),
+            Frame::Alloc => self.alloc(),
+            Frame::AllocIn(s) => self.alloc_in(s),
+            Frame::Linear(n) => self.linear(n.into()),
+            Frame::Define { name, handle } => self.define(name, handle),
+            Frame::Get(name) | Frame::ReadName(name) => {
+                let var = self.scopes.get(&mut self.query, &SPAN, Variable(name))?;
+                Ok(vec![var.addr.offset()])
+            }
+            Frame::Take(name) => {
+                let var = self.scopes.take(&mut self.query, &SPAN, Variable(name))?;
+                Ok(vec![var.addr.offset()])
+            }
+            Frame::Free(h) => self.free(h, true),
+            Frame::FreeQuietly(h) => self.free(h, false),
+            Frame::Forget(h) => {
+                self.spend(h)?.1.forget()?;
+                Ok(vec![])
+            }
+            Frame::Drain => self.drain(),
+            Frame::Write { handle, value } => self.write(handle, value),
+            Frame::Read(h) => Ok(vec![self.handle(h)?.slot]),
+        }
+    }
+
+    fn id(&self, number: u16) -> Result<ScopeId, Stop> {
+        let id = self.ids.get(usize::from(number)).copied();
+        id.ok_or(Stop::Untold("no scope of this number was opened"))
+    }
+
+    fn handle(&mut self, handle: u16) -> Result<&mut Handle<'a>, Stop> {
+        let found = self.handles.get_mut(usize::from(handle));
+        found.ok_or(Stop::Untold("no such handle was handed out"))
+    }
+
+    /// The address goes to the original, and is gone.
+    fn spend(&mut self, handle: u16) -> Result<(Option<ScopeId>, Address<'a, 'static>), Stop> {
+        let found = self.handle(handle)?;
+        match found.address.take() {
+            Some(address) => Ok((found.scope, address)),
+            None => Err(Stop::Untold("the address was freed or forgotten")),
+        }
+    }
+
+    /// An id shows itself as `index:number`.
+    fn child(&mut self) -> Step {
+        let ScopeHandle { id } = self.scopes.child(&SPAN)?;
+        self.ids.push(id);
+        let shown = id.to_string();
+        let number = shown.split(':').nth(1).and_then(|n| n.parse().ok());
+        Ok(vec![number.expect("the number of an id")])
+    }
+
+    fn pop(&mut self, number: u16) -> Step {
+        let id = self.id(number)?;
+        self.scopes.pop(&SPAN, ScopeHandle { id })?;
+        self.books.close(id);
+        Ok(vec![])
+    }
+
+    fn pop_last(&mut self) -> Step {
+        self.scopes.pop_last(&SPAN)?;
+        self.books.close(self.ids[0]);
+        self.root_closed = true;
+        Ok(vec![])
+    }
+
+    fn dangle(&mut self, number: u16) -> Step {
+        let id = self.id(number)?;
+        let _handle = self.scopes.dangle(&SPAN, ScopeHandle { id })?;
+        Ok(vec![])
+    }
+
+    fn restore(&mut self, number: u16) -> Step {
+        let id = self.id(number)?;
+        let _handle = self.scopes.restore(DanglingScope { id });
+        Ok(vec![])
+    }
+
+    fn hand_out(&mut self, owner: ScopeId, scope: Option<ScopeId>, address: Address<'a, 'static>) {
+        let slot = address.addr().offset();
+        let handle = self.handles.len();
+        self.books.gain(self.line, owner, slot, handle);
+        self.handles.push(Handle {
+            slot,
+            scope,
+            address: Some(address),
+        });
+    }
+
+    /// The second `Slots` gave the same.
+    fn inserted(&mut self, slot: usize) {
+        if let Some(beside) = self.books.insert(self.line) {
+            assert_eq!(beside, slot, "the books are wrong");
+        }
+    }
+
+    fn alloc(&mut self) -> Step {
+        let owner = self.scopes.top_id();
+        let address = self.scopes.alloc(&SPAN)?;
+        let slot = address.addr().offset();
+        self.inserted(slot);
+        self.hand_out(owner, None, address);
+        Ok(vec![slot])
+    }
+
+    /// The original reaches `alloc_in` through a deferred need.
+    fn alloc_in(&mut self, number: u16) -> Step {
+        let id = self.id(number)?;
+        let mut need = Any::defer(self.scopes, id, &SPAN);
+        need.try_alloc_addr()?;
+        let address = need.into_addr()?;
+        let slot = address.addr().offset();
+        self.inserted(slot);
+        self.hand_out(id, Some(id), address);
+        Ok(vec![slot])
+    }
+
+    fn linear(&mut self, n: usize) -> Step {
+        let owner = self.scopes.top_id();
+        let run = self.scopes.linear(&SPAN, n)?;
+        let first = run.addr().offset();
+        match n {
+            0 => return Ok(vec![0xffff]),
+            1 => self.inserted(first),
+            _ => self.books.push(first, n),
+        }
+        for address in run {
+            self.hand_out(owner, None, address);
+        }
+        Ok(vec![first])
+    }
+
+    /// Where there is no address to hand over, another one asks whether there is a top at all.
+    fn define(&mut self, name: u16, handle: u16) -> Step {
+        let scopes = self.scopes;
+        let found = self.handle(handle).map(|h| h.address.as_ref());
+        if let Ok(Some(address)) = found {
+            scopes.define(&SPAN, Variable(name), address)?;
+            return Ok(vec![]);
+        }
+        let other = Address::assigned(&SPAN, scopes, InstAddress::new(0));
+        scopes.define(&SPAN, Variable(name), &other)?;
+        Err(Stop::Untold("the address is unknown, freed or forgotten"))
+    }
+
+    fn free(&mut self, handle: u16, dangling: bool) -> Step {
+        let (scope, address) = self.spend(handle)?;
+        if self.root_closed && scope == Some(self.ids[0]) {
+            self.root_freed_late.get_or_insert(self.line);
+        }
+        let goes_back = scope.is_none_or(|scope| scope == self.scopes.top_id());
+        match dangling {
+            true => address.free()?,
+            false => address.free_non_dangling()?,
+        }
+        if goes_back {
+            self.books.give_back(handle.into());
+        }
+        Ok(vec![])
+    }
+
+    fn drain(&mut self) -> Step {
+        let mut drained = List::new();
+        self.scopes
+            .drain_dangling_into(&mut drained)
+            .map_err(compile::Error::from)?;
+        let mut shown = vec![drained.len()];
+        shown.extend(drained.iter().map(|a| a.offset()));
+        Ok(shown)
+    }
+
+    fn write(&mut self, handle: u16, value: u16) -> Step {
+        let found = self.handle(handle)?;
+        if let Some(address) = &mut found.address {
+            address.alloc_addr()?;
+        }
+        Ok(vec![found.slot, value.into()])
+    }
+}
+
+fn write_line(opcode: u8, shown: &[usize], list: &mut Vec<u8>) {
+    list.extend_from_slice(format!("{opcode:02x}").as_bytes());
+    for number in shown {
+        list.extend_from_slice(format!("{number:04x}").as_bytes());
+    }
+    list.push(b'\n');
+}
+
+/// Drives the original through all frames, or up to the first that it doesn't take.
+pub fn drive(frames: &[Frame]) -> Driven {
+    let scopes = Scopes::new(SourceId).expect("growth never fails here");
+    let mut driver = Driver::new(&scopes);
+    let mut list = Vec::new();
+    let mut stop = None;
+    for (line, frame) in frames.iter().enumerate() {
+        driver.line = line;
+        match driver.step(*frame) {
+            Ok(shown) => write_line(frame.opcode(), &shown, &mut list),
+            Err(why) => {
+                stop = Some((line, why));
+                break;
+            }
+        }
+    }
+    if stop.is_none() {
+        write_line(0x90, &[scopes.size()], &mut list);
+    }
+    Driven {
+        list,
+        stop,
+        head_above_length: driver.books.head_above_length,
+        root_freed_late: driver.root_freed_late,
+        shared: driver.books.shared,
+    }
+}

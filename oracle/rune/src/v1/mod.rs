@@ -1,0 +1,23 @@
+//! The four files under the module that they had, with stand-ins for their neighbours, and the driver.
+
+include!(concat!(env!("OUT_DIR"), "/modules.rs"));
+
+mod bare;
+mod books;
+mod ctxt;
+mod display_named;
+mod drive;
+pub mod probe;
+mod slab;
+
+pub use self::bare::Bare;
+pub use self::books::Shared;
+pub use self::drive::{drive, Driven, Stop};
+
+use self::ctxt::Ctxt;
+use self::display_named::DisplayNamed;
+use self::linear::Linear;
+use self::needs::{Address, Any};
+use self::scopes::{DanglingScope, ScopeHandle, ScopeId, Scopes};
+use self::slab::Slab;
+use self::slots::Slots;

@@ -1,0 +1,156 @@
+//! Ours against the original and the model, at scale. See oracle/README.md for the options.
+
+use model::{Fault, Frame, Plant};
+use oracle::args::Args;
+use oracle::comparison::{Comparison, Found};
+use oracle::judge::{Against, ORIGINAL_FAULTS};
+use oracle::known::known;
+use oracle::ours::{Model, Ours, Program};
+use oracle::{every, phases};
+use std::process::ExitCode;
+use std::time::Instant;
+
+struct Plan {
+    plant: Plant,
+    against: Against,
+    program: Option<String>,
+    runner: Option<String>,
+    every: usize,
+    wide: usize,
+    random: u64,
+    damaged: u64,
+    bare: u64,
+    lists: u64,
+    seed: u64,
+}
+
+/// A fault of the model, or of what the original answered.
+fn plan(args: &Args) -> Plan {
+    let name = args.value("--plant");
+    let plant = name.and_then(Fault::named);
+    let original = ORIGINAL_FAULTS.iter().find(|(n, _)| Some(*n) == name);
+    if let (Some(name), None, None) = (name, plant, original) {
+        panic!("no fault is called {name}");
+    }
+    let program = args.value("--program").map(String::from);
+    // A process a script takes its time: fewer of them.
+    let (every, random, few) = match program {
+        Some(_) => (3, 5_000, 3_000),
+        None => (5, 300_000, 200_000),
+    };
+    let whom = args.value("--against").unwrap_or("both");
+    Plan {
+        plant,
+        against: Against {
+            original: whom != "model",
+            model: whom != "original",
+            plant: original.map(|(_, fault)| *fault),
+        },
+        program,
+        runner: args.value("--runner").map(String::from),
+        every: args.number("--every", every) as usize,
+        wide: args.number("--wide", every - 1) as usize,
+        random: args.number("--random", random),
+        damaged: args.number("--damaged", few),
+        bare: args.number("--bare", 20_000),
+        lists: args.number("--lists", few),
+        seed: args.number("--seed", 1),
+    }
+}
+
+fn shown(text: &[u8]) -> String {
+    let text = String::from_utf8_lossy(text);
+    text.trim_end().replace('\n', " / ")
+}
+
+/// How many of them are on no list.
+fn report(found: &[Found]) -> usize {
+    let mut unknown = 0;
+    for difference in found {
+        let label = match known(&difference.small) {
+            Some(why) => format!("known ({why})"),
+            None => {
+                unknown += 1;
+                "DIFFERENCE".into()
+            }
+        };
+        println!("{label}: {}", shown(&difference.small));
+        println!("  {}", difference.why);
+        println!("  from a script of {} bytes", difference.script.len());
+    }
+    unknown
+}
+
+fn every_script(comparison: &mut Comparison, name: &str, alphabet: &[Frame], longest: usize) {
+    let begun = Instant::now();
+    phases::every_script(comparison, alphabet, longest);
+    let seconds = begun.elapsed().as_secs();
+    let letters = alphabet.len();
+    println!("every script of up to {longest} frames, {name} alphabet of {letters}, {seconds} s");
+    println!("{}", comparison.tally);
+    comparison.tally = Default::default();
+}
+
+fn scripts(plan: &Plan) -> usize {
+    let ours: Box<dyn Ours> = match &plan.program {
+        Some(command) => Box::new(Program::new(command)),
+        None => Box::new(Model(plan.plant)),
+    };
+    println!("ours: {}; seed {}", ours.name(), plan.seed);
+    let mut comparison = Comparison::new(ours, plan.against);
+    every_script(&mut comparison, "small", &every::alphabet(), plan.every);
+    every_script(&mut comparison, "wide", &every::wide_alphabet(), plan.wide);
+
+    let begun = Instant::now();
+    let profiles = phases::random_scripts(&mut comparison, plan.random, plan.seed);
+    println!("by chance, {} s, {profiles:?}", begun.elapsed().as_secs());
+    println!("{}", comparison.tally);
+
+    if plan.program.is_some() || plan.plant.is_some() {
+        comparison.tally = Default::default();
+        phases::damaged_texts(&mut comparison, plan.damaged, plan.seed);
+        println!("damaged texts, by the model only");
+        println!("{}", comparison.tally);
+    }
+    report(&comparison.found)
+}
+
+fn bare(plan: &Plan) -> usize {
+    let (tally, differs) = phases::bare_runs(plan.bare, plan.seed, plan.plant);
+    println!("bare slots (the model's, against the original)\n{tally}");
+    if let Some((calls, end)) = &differs {
+        println!("DIFFERENCE: {calls:?}\n  {end:?}");
+    }
+    differs.into_iter().count()
+}
+
+fn lists(plan: &Plan) -> usize {
+    let Some(command) = &plan.runner else {
+        return 0;
+    };
+    let mut runner = Program::new(command);
+    let differs = phases::lists_run(&mut runner, plan.lists, plan.seed);
+    println!("{} lists to {}", plan.lists, runner.name());
+    if let Some(list) = &differs {
+        let printed = runner.answers(std::slice::from_ref(list)).remove(0);
+        println!("DIFFERENCE: the list {}", shown(list));
+        println!("  the model prints {}", shown(&model::runner(list)));
+        println!("  ours prints {}", shown(&printed));
+    }
+    differs.into_iter().count()
+}
+
+fn main() -> ExitCode {
+    let plan = plan(&Args::new());
+    let differences = scripts(&plan) + bare(&plan) + lists(&plan);
+    match differences {
+        0 => {
+            println!("no difference that isn't known");
+            ExitCode::SUCCESS
+        }
+        n => {
+            println!("{n} differences");
+            ExitCode::from(1)
+        }
+    }
+}

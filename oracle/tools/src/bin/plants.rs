@@ -1,0 +1,78 @@
+//! Plants each fault in turn, in the model or in the original's answers, and says who finds it. Fails if one isn't found.
+
+use model::{Fault, FAULTS};
+use oracle::comparison::Comparison;
+use oracle::every::alphabet;
+use oracle::judge::{Against, ORIGINAL_FAULTS};
+use oracle::ours::Model;
+use oracle::phases;
+use std::process::ExitCode;
+
+const SEED: u64 = 1;
+
+fn shown(text: &[u8]) -> String {
+    let frames = text.iter().filter(|b| **b == b'\n').count();
+    match frames > 30 {
+        true => format!("a script of {frames} lines"),
+        false => String::from_utf8_lossy(text)
+            .trim_end()
+            .replace('\n', " / "),
+    }
+}
+
+/// The first difference, made small.
+fn found(fault: Option<Fault>, against: Against) -> Option<String> {
+    let mut comparison = Comparison::new(Box::new(Model(fault)), against);
+    phases::every_script(&mut comparison, &alphabet(), 4);
+    if comparison.found.is_empty() {
+        phases::random_scripts(&mut comparison, 4000, SEED);
+    }
+    if comparison.found.is_empty() && against.model {
+        phases::damaged_texts(&mut comparison, 2000, SEED);
+    }
+    let shortest = comparison.found.iter().min_by_key(|f| f.small.len())?;
+    Some(format!("{}; {}", shown(&shortest.small), shortest.why))
+}
+
+fn whom(original: bool) -> Against {
+    Against {
+        original,
+        model: !original,
+        plant: None,
+    }
+}
+
+fn model_fault(name: &str, fault: Fault) -> bool {
+    let by_original = found(Some(fault), whom(true));
+    let by_model = found(Some(fault), whom(false));
+    let said = |s: &Option<String>| s.clone().unwrap_or("nothing".into());
+    println!("{name}\n  original: {}", said(&by_original));
+    println!("  model: {}", said(&by_model));
+    let bare = phases::bare_runs(300, SEED, Some(fault)).1;
+    let calls = bare.as_ref().map(|(calls, _)| calls.len());
+    println!(
+        "  bare slots: {}",
+        calls.map_or("nothing".into(), |n| format!("{n} calls"))
+    );
+    by_original.is_some() || by_model.is_some()
+}
+
+fn main() -> ExitCode {
+    let mut all = true;
+    for (name, fault) in FAULTS {
+        all &= model_fault(name, fault);
+    }
+    for (name, fault) in ORIGINAL_FAULTS {
+        let against = Against {
+            plant: Some(fault),
+            ..whom(true)
+        };
+        let by = found(None, against);
+        all &= by.is_some();
+        println!("{name}\n  {}", by.unwrap_or("nothing".into()));
+    }
+    match all {
+        true => ExitCode::SUCCESS,
+        false => ExitCode::from(1),
+    }
+}

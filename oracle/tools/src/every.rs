@@ -1,0 +1,65 @@
+//! Every script of up to so many frames over a small alphabet. A script that goes on after a refused frame says nothing
+//! new (its answer is fixed by then, and after a refusal nothing is compared), so it isn't made.
+
+use model::{Frame, Session};
+
+/// All eighteen frames, 37 of them: two scopes besides root, two names, three handles, runs of 0 to 2.
+pub fn alphabet() -> Vec<Frame> {
+    let mut all = vec![Frame::Child, Frame::PopLast, Frame::Alloc, Frame::Drain];
+    for s in 0..3 {
+        all.extend([Frame::Pop(s), Frame::Dangle(s), Frame::AllocIn(s)]);
+    }
+    all.extend([Frame::Restore(1), Frame::Restore(2)]);
+    all.extend([Frame::Linear(0), Frame::Linear(1), Frame::Linear(2)]);
+    for handle in 0..2 {
+        all.push(Frame::Define { name: 7, handle });
+        all.push(Frame::Write { handle, value: 255 });
+        all.extend([Frame::Free(handle), Frame::Read(handle)]);
+        all.extend([Frame::FreeQuietly(handle), Frame::Forget(handle)]);
+    }
+    all.extend([Frame::Free(2), Frame::Define { name: 8, handle: 0 }]);
+    for name in 7..9 {
+        all.extend([Frame::Get(name), Frame::Take(name)]);
+    }
+    all.push(Frame::ReadName(7));
+    all
+}
+
+/// Runs about the limits of segments, and what moves the head.
+pub fn wide_alphabet() -> Vec<Frame> {
+    let mut all = vec![Frame::Child, Frame::Alloc, Frame::AllocIn(0)];
+    all.extend([2, 127, 128, 129, 257, 640].map(Frame::Linear));
+    all.extend([Frame::Pop(1), Frame::Pop(2), Frame::Dangle(1)]);
+    all.extend([0, 1, 126, 127, 128, 256].map(Frame::Free));
+    all.extend([Frame::Drain, Frame::PopLast]);
+    all
+}
+
+/// False once the taker wants no more.
+pub fn every(alphabet: &[Frame], longest: usize, take: &mut dyn FnMut(&[Frame]) -> bool) -> bool {
+    let fresh = Session::new(None);
+    take(&[]) && extend(&mut Vec::new(), &fresh, alphabet, longest, take)
+}
+
+fn extend(
+    frames: &mut Vec<Frame>,
+    session: &Session,
+    alphabet: &[Frame],
+    longest: usize,
+    take: &mut dyn FnMut(&[Frame]) -> bool,
+) -> bool {
+    for frame in alphabet {
+        let mut next = session.clone();
+        let taken = next.step(*frame).is_ok();
+        frames.push(*frame);
+        let mut more = take(frames);
+        if more && taken && frames.len() < longest {
+            more = extend(frames, &next, alphabet, longest, take);
+        }
+        frames.pop();
+        if !more {
+            return false;
+        }
+    }
+    true
+}

@@ -1,0 +1,19 @@
+//! The comparison of ours with the original: who is asked, what is asked, and how answers are judged.
+
+pub mod args;
+pub mod bare;
+pub mod comparison;
+pub mod damage;
+pub mod every;
+pub mod judge;
+pub mod known;
+pub mod lists;
+pub mod ours;
+pub mod phases;
+pub mod profile;
+pub mod random;
+pub mod records;
+pub mod rng;
+pub mod sessions;
+pub mod shrink;
+pub mod tally;

@@ -1,0 +1,87 @@
+//! Who is compared: anything that answers scripts as our translating program does, with a list or an `ee` line.
+
+use model::Plant;
+use std::io::Write;
+use std::process::{Child, Command, Stdio};
+
+/// The linked archive's translate becomes a third of these.
+pub trait Ours {
+    /// What is printed for each script, in order.
+    fn answers(&mut self, scripts: &[Vec<u8>]) -> Vec<Vec<u8>>;
+
+    fn name(&self) -> String;
+
+    /// How many scripts to hand over at once.
+    fn batch(&self) -> usize;
+}
+
+/// The model, perhaps with a planted fault.
+pub struct Model(pub Plant);
+
+impl Ours for Model {
+    fn answers(&mut self, scripts: &[Vec<u8>]) -> Vec<Vec<u8>> {
+        let one = |script: &Vec<u8>| model::translator_with(script, self.0);
+        scripts.iter().map(one).collect()
+    }
+
+    fn name(&self) -> String {
+        match self.0 {
+            None => "the model".into(),
+            Some(fault) => format!("the model with {fault:?}"),
+        }
+    }
+
+    fn batch(&self) -> usize {
+        1024
+    }
+}
+
+/// A program that reads one text from its input and prints its answer; a few run at once.
+pub struct Program {
+    words: Vec<String>,
+}
+
+const AT_ONCE: usize = 4;
+
+impl Program {
+    /// The path, and words that go before the input, with blanks between them.
+    pub fn new(command: &str) -> Self {
+        Program {
+            words: command.split_whitespace().map(String::from).collect(),
+        }
+    }
+
+    fn start(&self, input: &[u8]) -> Child {
+        let mut child = Command::new(&self.words[0])
+            .args(&self.words[1..])
+            .stdin(Stdio::piped())
+            .stdout(Stdio::piped())
+            .spawn()
+            .expect("the program starts");
+        // A text fits the pipe. A program that refuses early may leave some of it unread.
+        let _ = child.stdin.take().expect("its input").write_all(input);
+        child
+    }
+}
+
+impl Ours for Program {
+    fn answers(&mut self, scripts: &[Vec<u8>]) -> Vec<Vec<u8>> {
+        let mut answers = Vec::new();
+        for few in scripts.chunks(AT_ONCE) {
+            let children: Vec<Child> = few.iter().map(|script| self.start(script)).collect();
+            for child in children {
+                let output = child.wait_with_output().expect("the program ends");
+                answers.push(output.stdout);
+            }
+        }
+        answers
+    }
+
+    fn name(&self) -> String {
+        self.words.join(" ")
+    }
+
+    fn batch(&self) -> usize {
+        64
+    }
+}

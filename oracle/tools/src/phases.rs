@@ -1,0 +1,113 @@
+//! The phases of a comparison.
+
+use crate::bare::{self, BareTally, Call, End};
+use crate::comparison::Comparison;
+use crate::ours::Ours;
+use crate::rng::Rng;
+use crate::{damage, every, lists, random};
+use model::{Frame, Plant};
+use std::collections::BTreeMap;
+
+/// Every script of up to `longest` frames over the alphabet.
+pub fn every_script(comparison: &mut Comparison, alphabet: &[Frame], longest: usize) {
+    every::every(alphabet, longest, &mut |frames| {
+        comparison.offer(Frame::script(frames))
+    });
+    comparison.settle();
+}
+
+/// Scripts by chance; where the last frame is refused, what stands before it is a script of its own.
+/// Says how many scripts each profile gave.
+pub fn random_scripts(
+    comparison: &mut Comparison,
+    count: u64,
+    seed: u64,
+) -> BTreeMap<&'static str, u64> {
+    let mut rng = Rng::new(seed);
+    let mut profiles = BTreeMap::new();
+    for _ in 0..count {
+        let mut made = random::script(&mut rng);
+        *profiles.entry(made.profile).or_default() += 1;
+        let mut more = comparison.offer(Frame::script(&made.frames));
+        if made.refused {
+            made.frames.pop();
+            more = comparison.offer(Frame::script(&made.frames));
+        }
+        if !more {
+            break;
+        }
+    }
+    comparison.settle();
+    profiles
+}
+
+/// Damaged texts: by the model only, since the original reads none.
+pub fn damaged_texts(comparison: &mut Comparison, count: u64, seed: u64) {
+    let mut rng = Rng::new(seed);
+    let against = comparison.against;
+    comparison.against.original = false;
+    comparison.against.model = true;
+    for _ in 0..count {
+        if !comparison.offer(damage::text(&mut rng)) {
+            break;
+        }
+    }
+    comparison.settle();
+    comparison.against = against;
+}
+
+/// The original's `Slots` by itself. A difference is cut down to its shortest end.
+pub fn bare_runs(count: u64, seed: u64, plant: Plant) -> (BareTally, Option<(Vec<Call>, End)>) {
+    let mut rng = Rng::new(seed);
+    let mut tally = BareTally::default();
+    for _ in 0..count {
+        let calls = bare::calls(&mut rng);
+        let (end, equal) = bare::play(&calls, plant);
+        tally.runs += 1;
+        tally.calls += equal as u64;
+        match end {
+            End::Equal => {}
+            End::Refused => tally.refused += 1,
+            End::HeadAboveLength => tally.head_above_length += 1,
+            End::ClearRemoved => tally.clear_removed += 1,
+            End::Differs(..) => return (tally, Some(smallest(calls, plant))),
+        }
+    }
+    (tally, None)
+}
+
+fn smallest(mut calls: Vec<Call>, plant: Plant) -> (Vec<Call>, End) {
+    let differs = |calls: &[Call]| matches!(bare::play(calls, plant).0, End::Differs(..));
+    let mut size = calls.len();
+    while size > 0 {
+        let mut at = 0;
+        while at < calls.len() {
+            let mut fewer = calls.clone();
+            fewer.drain(at..(at + size).min(calls.len()));
+            match differs(&fewer) {
+                true => calls = fewer,
+                false => at += size,
+            }
+        }
+        size /= 2;
+    }
+    let end = bare::play(&calls, plant).0;
+    (calls, end)
+}
+
+/// Lists to a run program, by the model. The first list that it takes otherwise.
+pub fn lists_run(runner: &mut dyn Ours, count: u64, seed: u64) -> Option<Vec<u8>> {
+    let mut rng = Rng::new(seed);
+    let mut left = count;
+    while left > 0 {
+        let n = left.min(runner.batch() as u64);
+        let lists: Vec<Vec<u8>> = (0..n).map(|_| lists::list(&mut rng)).collect();
+        let answers = runner.answers(&lists);
+        let wrong = (0..lists.len()).find(|i| model::runner(&lists[*i]) != answers[*i]);
+        if let Some(i) = wrong {
+            return Some(lists[i].clone());
+        }
+        left -= n;
+    }
+    None
+}

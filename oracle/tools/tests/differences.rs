@@ -1,0 +1,158 @@
+//! Each entry of docs/parts/differences.md: its smallest script, what 01 says and what the original does.
+
+use model::{Frame, Refusal, Slots};
+use rune::{drive, Bare, Driven, Stop};
+
+fn frames(script: &str) -> Vec<Frame> {
+    let text = script.replace(" / ", "\n") + "\n";
+    model::read_script(text.as_bytes(), None).expect("a script")
+}
+
+fn list(lines: &str) -> Vec<u8> {
+    (lines.replace(" / ", "\n") + "\n").into_bytes()
+}
+
+/// 01's list of the script.
+#[track_caller]
+fn ours(script: &str, lines: &str) {
+    let printed = model::translator(&Frame::script(&frames(script)));
+    assert_eq!(printed, list(lines));
+}
+
+/// 01 refuses the last frame.
+#[track_caller]
+fn refused(script: &str, number: u8) -> Driven {
+    let frames = frames(script);
+    let line = frames.len() - 1;
+    let refusal = model::play(&frames, None).1.err();
+    assert_eq!(refusal, Some(Refusal { number, line }));
+    drive(&frames)
+}
+
+/// .. and the original takes it, with this line.
+#[track_caller]
+fn taken(script: &str, number: u8, last: &str) {
+    let driven = refused(script, number);
+    assert_eq!(driven.stop, None);
+    let text = String::from_utf8(driven.list).expect("a list");
+    let lines: Vec<&str> = text.lines().collect();
+    assert_eq!(lines[lines.len() - 2], last);
+}
+
+/// .. and the original refuses it too, in these words.
+#[track_caller]
+fn refused_in_words(script: &str, number: u8, words: &str) {
+    let stop = refused(script, number).stop.expect("a refusal");
+    assert_eq!(stop.1, Stop::Refused(words.into()));
+}
+
+#[test]
+fn d1_insert_with_the_head_above_the_length() {
+    let script = "01 / 080101 / 020001 / 080002 / 06";
+    ours(script, "010001 / 080000 / 02 / 080000 / 060080 / 900101");
+    let driven = drive(&frames(script));
+    assert_eq!(
+        driven.list,
+        list("010001 / 080000 / 02 / 080000 / 060100 / 900101")
+    );
+    assert_eq!(driven.head_above_length, Some(4));
+}
+
+/// The slot that it answered isn't marked: a run takes it again, and it can't be given back.
+#[test]
+fn d1_two_allocations_share_a_slot() {
+    let driven = drive(&frames("01 / 080101 / 020001 / 080002 / 06 / 080080"));
+    let shared = driven.shared.expect("two handles on one slot");
+    assert_eq!((shared.line, shared.address), (5, 256));
+    assert_eq!((shared.older, shared.newer), (259, 387));
+    let freed = drive(&frames("01 / 080101 / 020001 / 080002 / 06 / 0c0103"));
+    let words = "Freed adddress 256 does not have a global slot in scope 0:0";
+    assert_eq!(freed.stop, Some((5, Stop::Refused(words.into()))));
+}
+
+#[test]
+fn d2_a_root_scope_handle_freed_after_pop_last() {
+    let script = "070000 / 05 / 0c0000";
+    ours(script, "070000 / 05 / 0c / 900001");
+    let (line, stop) = drive(&frames(script)).stop.expect("a refusal");
+    let words = "Freed address 0 does not have an implicit scope";
+    assert_eq!((line, stop), (2, Stop::Refused(words.into())));
+}
+
+#[test]
+fn d3_child_after_pop_last() {
+    taken("05 / 01", 3, "010001");
+}
+
+#[test]
+fn d4_restore_of_a_closed_scope() {
+    taken("01 / 020001 / 040001", 4, "04");
+}
+
+#[test]
+fn d5_root_and_dangled_marks() {
+    taken("020000", 5, "02");
+    taken("030000", 5, "03");
+    taken("040000", 5, "04");
+    taken("01 / 030001 / 020001", 5, "02");
+    taken("01 / 030001 / 030001", 5, "03");
+    taken("01 / 040001", 5, "04");
+}
+
+#[test]
+fn d6_live_children() {
+    taken("01 / 01 / 020001", 6, "02");
+    taken("01 / 05", 6, "05");
+}
+
+#[test]
+fn d7_slots_that_are_not_held() {
+    taken("01 / 06 / 020001 / 06 / 0c0000", 14, "0c");
+    refused_in_words(
+        "01 / 06 / 020001 / 0c0000",
+        14,
+        "Freed address 0 is not defined in scope 0:0",
+    );
+    refused_in_words(
+        "06 / 05 / 0c0000",
+        14,
+        "Freed address 0 does not have an implicit scope",
+    );
+}
+
+#[test]
+fn d8_room() {
+    taken("080401", 7, "080000");
+    taken("080400 / 06", 7, "060400");
+    taken("080400 / 0c0000 / 0c03ff / 06 / 06", 7, "060400");
+    taken("080801", 16, "080000");
+    let children = vec!["01"; 64].join(" / ");
+    taken(&children, 8, "010040");
+    let names: Vec<String> = (0..257).map(|n| format!("09{n:04x}0000")).collect();
+    taken(&format!("06 / {}", names.join(" / ")), 9, "09");
+}
+
+#[test]
+fn d9_removal_of_a_clear_slot() {
+    let (mut ours, mut theirs) = (Slots::new(None), Bare::default());
+    for _ in 0..129 {
+        ours.push();
+        theirs.push();
+    }
+    assert_eq!((ours.remove(129), theirs.remove(129)), (false, false));
+    assert_eq!((ours.head(), theirs.head()), (0, 1));
+}
+
+#[test]
+fn d10_a_refused_pop_drops_the_scope_at_that_index() {
+    let words = "Scope id mismatch, 1:2 (actual) != 1:1 (expected)";
+    refused_in_words("01 / 020001 / 01 / 020001", 4, words);
+    assert_eq!(rune::probe::pop_refused(), (words.into(), false));
+}
+
+#[test]
+fn d11_a_run_refused_midway() {
+    let (words, dangling) = rune::probe::run_refused_midway();
+    assert_eq!(words, "Freed address 9 is not defined in scope 0:0");
+    assert_eq!(dangling, [0]);
+}
