@@ -313,7 +313,7 @@ mod tests {
     use super::*;
 
     #[test]
-    fn a39_the_counter_goes_back_to_0() {
+    fn the_counter_goes_back_to_0() {
         let mut scopes = Scopes::new(None);
         scopes.counter = u32::MAX;
         assert_eq!(scopes.child().map(|id| id.number), Ok(u32::MAX));
@@ -323,7 +323,7 @@ mod tests {
     }
 
     #[test]
-    fn a40_the_lowest_free_index() {
+    fn the_lowest_free_index() {
         let mut scopes = Scopes::new(None);
         scopes.child().unwrap();
         scopes.dangle(1).unwrap();

@@ -1,10 +1,10 @@
-//! Readings A29 to A38 and A42 to A52: scopes, slots, allocation. A39 and A40 are tested beside the scopes; A41 has no input.
+//! How 01 is read where it leaves a choice (docs/DECISIONS.md): scopes, slots, allocation.
 
 mod common;
 use common::*;
 
 #[test]
-fn a29_pop_of_a_scope_that_is_not_the_top() {
+fn pop_of_a_scope_that_is_not_the_top() {
     accepts(
         "01 / 030001 / 01 / 040001 / 020002 / 06 / 0c0000",
         "010001 / 03 / 010002 / 04 / 02 / 060000 / 0c / 900001",
@@ -12,12 +12,12 @@ fn a29_pop_of_a_scope_that_is_not_the_top() {
 }
 
 #[test]
-fn a30_dangle_of_a_scope_with_a_child() {
+fn dangle_of_a_scope_with_a_child() {
     accepts("01 / 01 / 030001", "010001 / 010002 / 03 / 900000");
 }
 
 #[test]
-fn a31_a_dangled_scope_as_top() {
+fn a_dangled_scope_as_top() {
     refuses("01 / 01 / 030001 / 020002 / 06 / 020001", 5, 5);
     accepts(
         "01 / 01 / 030001 / 020002 / 06 / 0c0000",
@@ -26,12 +26,12 @@ fn a31_a_dangled_scope_as_top() {
 }
 
 #[test]
-fn a32_alloc_in_a_dangled_scope() {
+fn alloc_in_a_dangled_scope() {
     accepts("01 / 030001 / 070001", "010001 / 03 / 070000 / 900001");
 }
 
 #[test]
-fn a33_root_is_5_while_it_lives_and_4_after() {
+fn root_is_5_while_it_lives_and_4_after() {
     refuses("05 / 020000", 4, 1);
     refuses("020000", 5, 0);
     refuses("030000", 5, 0);
@@ -39,7 +39,7 @@ fn a33_root_is_5_while_it_lives_and_4_after() {
 }
 
 #[test]
-fn a34_names_in_a_dangled_scope() {
+fn names_in_a_dangled_scope() {
     refuses("06 / 01 / 0900070000 / 030001 / 0a0007", 10, 4);
     accepts(
         "06 / 01 / 0900070000 / 030001 / 040001 / 0a0007",
@@ -53,7 +53,7 @@ fn defines(names: std::ops::Range<u16>) -> Vec<u8> {
 }
 
 #[test]
-fn a35_moved_bindings_count() {
+fn moved_bindings_count() {
     let full = join(&[b"06\n", &defines(0..256), b"0b0000\n"]);
     refuses_bytes(&join(&[&full, b"0901000000\n"]), 9, 258);
     ends(
@@ -63,33 +63,33 @@ fn a35_moved_bindings_count() {
 }
 
 #[test]
-fn a36_take_marks_the_parents_binding() {
+fn take_marks_the_parents_binding() {
     refuses("06 / 0900070000 / 01 / 0b0007 / 020001 / 0a0007", 11, 5);
 }
 
 #[test]
-fn a37_the_nearest_binding_decides() {
+fn the_nearest_binding_decides() {
     refuses("06 / 0900070000 / 01 / 0900070000 / 0b0007 / 0a0007", 11, 5);
 }
 
 #[test]
-fn a38_drain_after_pop_last() {
+fn drain_after_pop_last() {
     accepts("06 / 05 / 0f", "060000 / 05 / 0f00010000 / 900001");
     accepts("06 / 05 / 0e0000", "060000 / 05 / 0e / 900001");
 }
 
 #[test]
-fn a42_7_while_slots_are_clear() {
+fn gives_7_while_slots_are_clear() {
     refuses("080400 / 0c0000 / 0c03ff / 06 / 06", 7, 4);
 }
 
 #[test]
-fn a43_a_run_of_1_acts_as_alloc() {
+fn a_run_of_1_acts_as_alloc() {
     accepts("080400 / 0c0000 / 080001", "080000 / 0c / 080000 / 900400");
 }
 
 #[test]
-fn a44_the_empty_run() {
+fn the_empty_run() {
     refuses("05 / 080000", 3, 1);
     accepts("080400 / 080000", "080000 / 08ffff / 900400");
     let full = "01 / 080400 / 020001 / 080400 / 080000";
@@ -97,14 +97,14 @@ fn a44_the_empty_run() {
 }
 
 #[test]
-fn a45_16_before_7() {
+fn gives_16_before_7() {
     refuses("080801", 16, 0);
     refuses("080800", 7, 0);
     refuses("080401", 7, 0);
 }
 
 #[test]
-fn a46_the_head_after_pop_is_that_of_the_last_on_the_list() {
+fn the_head_after_pop_is_that_of_the_last_on_the_list() {
     let filled = join(&[b"01\n", &times(129, "06")]);
     let freed = join(&[&filled, &text("0c0005 / 06 / 020001 / 06")]);
     ends(&freed, "0c / 060005 / 02 / 060000 / 900081");
@@ -115,7 +115,7 @@ fn a46_the_head_after_pop_is_that_of_the_last_on_the_list() {
 }
 
 #[test]
-fn a47_an_empty_run_hands_out_nothing() {
+fn an_empty_run_hands_out_nothing() {
     accepts(
         "080000 / 06 / 1000000001",
         "08ffff / 060000 / 1000000001 / 900001",
@@ -123,12 +123,12 @@ fn a47_an_empty_run_hands_out_nothing() {
 }
 
 #[test]
-fn a49_11_before_14_and_15() {
+fn gives_11_before_14_and_15() {
     refuses("06 / 0900070000 / 0b0007 / 120007", 11, 3);
 }
 
 #[test]
-fn a50_the_size_never_shrinks() {
+fn the_size_never_shrinks() {
     accepts(
         "01 / 080003 / 020001 / 05",
         "010001 / 080000 / 02 / 05 / 900003",
@@ -136,7 +136,7 @@ fn a50_the_size_never_shrinks() {
 }
 
 #[test]
-fn a51_an_address_given_again_dangles_at_the_end() {
+fn an_address_given_again_dangles_at_the_end() {
     accepts(
         "080002 / 0c0000 / 0c0001 / 06 / 0c0002 / 0f",
         "080000 / 0c / 0c / 060000 / 0c / 0f000200010000 / 900002",
@@ -144,7 +144,7 @@ fn a51_an_address_given_again_dangles_at_the_end() {
 }
 
 #[test]
-fn a52_freed_without_dangling() {
+fn freed_without_dangling() {
     accepts(
         "06 / 0c0000 / 06 / 0d0001 / 0f",
         "060000 / 0c / 060000 / 0d / 0f0000 / 900001",

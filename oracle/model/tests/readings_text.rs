@@ -1,16 +1,16 @@
-//! Readings A01 to A28: texts, lists, lent memory. A10 and A28 are about programs.
+//! How 01 is read where it leaves a choice (docs/DECISIONS.md): texts, lists, lent memory. What only programs show is not here.
 
 mod common;
 use common::*;
 use model::{run, runner, translate, translator, Refusal};
 
 #[test]
-fn a01_last_lf_missing() {
+fn last_lf_missing() {
     refuses_bytes(b"06\n06", 1, 1);
 }
 
 #[test]
-fn a02_no_line_after_the_last_lf() {
+fn no_line_after_the_last_lf() {
     accepts_bytes(
         &times(2048, "0f"),
         &join(&[&times(2048, "0f0000"), b"900000\n"]),
@@ -18,40 +18,40 @@ fn a02_no_line_after_the_last_lf() {
 }
 
 #[test]
-fn a03_empty_line() {
+fn empty_line() {
     refuses_bytes(b"\n", 1, 0);
 }
 
 #[test]
-fn a04_an_earlier_1_wins_over_2() {
+fn an_earlier_1_wins_over_2() {
     refuses_bytes(&join(&[b"zz\n", &times(2048, "0f")]), 1, 0);
 }
 
 #[test]
-fn a05_one_byte_makes_line_2048_exist() {
+fn one_byte_makes_line_2048_exist() {
     refuses_bytes(&join(&[&times(2048, "0f"), b"0"]), 2, 2048);
     refuses_bytes(&times(2049, "0f"), 2, 2048);
 }
 
 #[test]
-fn a06_text_before_steps() {
+fn text_before_steps() {
     refuses("05 / 06 / zz", 1, 2);
 }
 
 #[test]
-fn a07_wide_operands_are_well_formed() {
+fn wide_operands_are_well_formed() {
     refuses("08ffff", 16, 0);
     refuses("02ffff", 4, 0);
     refuses("0cffff", 13, 0);
 }
 
 #[test]
-fn a08_the_library_takes_any_length() {
+fn the_library_takes_any_length() {
     refuses_bytes(&[b'0'; 32769], 1, 0);
 }
 
 #[test]
-fn a09_programs_refuse_longer_input_first() {
+fn programs_refuse_longer_input_first() {
     assert_eq!(translator(&[b'0'; 32769]), b"ee110000\n");
     assert_eq!(translator(&[b'0'; 32768]), b"ee010000\n");
     assert_eq!(runner(&[b'0'; 32769]), b"ee110000\n");
@@ -59,25 +59,25 @@ fn a09_programs_refuse_longer_input_first() {
 }
 
 #[test]
-fn a10_the_ee_line_ends_with_lf() {
+fn the_ee_line_ends_with_lf() {
     assert_eq!(translator(b"05\n06\n"), b"ee030001\n");
 }
 
 #[test]
-fn a11_to_a13_early_size_lines() {
+fn to_a13_early_size_lines() {
     list_refused(b"900001\n0f0000\n", 1, 0);
     list_refused(b"900001\n9", 1, 0);
     list_refused(b"900001\n900001\n", 1, 0);
 }
 
 #[test]
-fn a14_missing_size_line() {
+fn missing_size_line() {
     list_refused(b"", 1, 0);
     list_refused(b"0f0000\n", 1, 1);
 }
 
 #[test]
-fn a15_to_a18_line_2048_of_a_list() {
+fn to_a18_line_2048_of_a_list() {
     let full = times(2048, "0f0000");
     list_refused(&full, 1, 2048);
     list_refused(&join(&[&full, b"90ffff\n"]), 1, 2048);
@@ -89,19 +89,19 @@ fn a15_to_a18_line_2048_of_a_list() {
 }
 
 #[test]
-fn a19_90_in_a_script() {
+fn gives_90_in_a_script() {
     refuses("900000", 1, 0);
     refuses_bytes(&join(&[&times(2048, "0f"), b"900000\n"]), 2, 2048);
 }
 
 #[test]
-fn a20_only_10_11_12_are_held_against_the_size() {
+fn only_10_11_12_are_held_against_the_size() {
     assert_eq!(machine(b"06ffff\n900000\n"), Ok(vec![]));
     list_refused(b"110000\n900000\n", 20, 0);
 }
 
 #[test]
-fn a21_drain_lines_of_any_length() {
+fn drain_lines_of_any_length() {
     let drained = join(&[b"0f0401", &b"0000".repeat(1025), b"\n900000\n"]);
     assert_eq!(machine(&drained), Ok(vec![]));
     list_refused(b"0f0001\n900000\n", 1, 0);
@@ -109,7 +109,7 @@ fn a21_drain_lines_of_any_length() {
 }
 
 #[test]
-fn a22_a_cell_never_written_is_zero() {
+fn a_cell_never_written_is_zero() {
     assert_eq!(machine(b"110000\n900001\n"), Ok(b"a00000\n".to_vec()));
 }
 
@@ -119,7 +119,7 @@ const SHORT: Result<Vec<u8>, Refusal> = Err(Refusal {
 });
 
 #[test]
-fn a23_room_exactly_the_answer() {
+fn room_exactly_the_answer() {
     assert_eq!(translate(b"06\n", 13), SHORT);
     assert_eq!(translate(b"06\n", 14), Ok(b"060000\n900001\n".to_vec()));
     let list = b"110000\n900001\n";
@@ -128,7 +128,7 @@ fn a23_room_exactly_the_answer() {
 }
 
 #[test]
-fn a24_a25_17_is_last() {
+fn gives_17_is_last() {
     let short = Err(SHORT.unwrap_err());
     assert_eq!(run(b"110000\n900001\n", &mut [], &mut []), short);
     let high = Err(Refusal {
@@ -143,7 +143,7 @@ fn a24_a25_17_is_last() {
 }
 
 #[test]
-fn a26_a27_bytes_beyond_the_answer_stay() {
+fn bytes_beyond_the_answer_stay() {
     let mut cells = [7; 5];
     let mut out = [9; 9];
     assert_eq!(run(b"110000\n900001\n", &mut cells, &mut out), Ok(7));
@@ -157,11 +157,11 @@ fn a26_a27_bytes_beyond_the_answer_stay() {
 }
 
 #[test]
-fn a28_the_run_program_lends_1024_cells() {
+fn the_run_program_lends_1024_cells() {
     assert_eq!(runner(b"1003ff0007\n1103ff\n900400\n"), b"a00007\n");
 }
 
 #[test]
-fn a48_a_line_number_has_four_digits() {
+fn a_line_number_has_four_digits() {
     assert_eq!(translator(&times(2049, "0f")), b"ee020800\n");
 }

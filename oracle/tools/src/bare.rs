@@ -20,7 +20,7 @@ pub enum End {
     Refused,
     /// an insert met H > L
     HeadAboveLength,
-    /// W-202: the original moves its head even when the slot was clear
+    /// the original moves its head even when the slot was clear
     ClearRemoved,
     Differs(usize, String),
 }

@@ -1,4 +1,4 @@
-//! 01, "Addresses and needs", held against the original: no script reaches needs before W-201.
+//! 01, "Addresses and needs", held against the original: no script reaches needs.
 //! No function of the original makes a need with a Local or a Dangling address, so 19 can't be asked of it.
 
 /// Written from 01. "refused" is 18.
