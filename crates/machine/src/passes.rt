@@ -54,19 +54,19 @@ fn load(cells: &[u8], a: u16) -> u16
     requires { ⌜ 2 * a + 1 < length (now cells) ⌝ }
     ensures { λ r. ⌜ r ≡ cellAt (now (cells .entry)) a ⌝ }
 {
-    let at = 2 * (a as usize);
-    let next = at + 1;
-    (cells[at] as u16) * 256 + (cells[next] as u16)
+    let high = 2 * (a as usize);
+    let low = high + 1;
+    (cells[high] as u16) * 256 + (cells[low] as u16)
 }
 
 fn store(cells: &mut [u8], a: u16, v: u16)
     requires { ⌜ 2 * a + 1 < length (now cells) ⌝ }
     ensures { λ _. ⌜ now (cells .exit) ≡ set (set (now (cells .entry)) (2 * a) (v / 256)) (2 * a + 1) (v % 256) ⌝ }
 {
-    let at = 2 * (a as usize);
-    let next = at + 1;
-    cells[at] = (v / 256) as u8;
-    cells[next] = (v % 256) as u8;
+    let high = 2 * (a as usize);
+    let low = high + 1;
+    cells[high] = (v / 256) as u8;
+    cells[low] = (v % 256) as u8;
 }
 
 // One entry: a store into the cells, or `a0` and the loaded value written at w. It answers the next w.

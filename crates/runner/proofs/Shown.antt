@@ -4,7 +4,7 @@ use mathlib.Core.List.{List, _∷_, _++_}
 use Prim.Native.Nat.{ℕ, zero, suc, _+_, _*_, _/_, _%_, _≤_, _<_}
 use native.Mathlib.Omega.{arith}
 use lib.ListN.{length, take, drop, replicate}
-use lib.Seq.{take-at}
+use lib.Seq.{take-at, length-take-le}
 use borrow.Author.Tests.{le-leb, lt-ltb, le-ltb}
 use Rattle.rules.specs.Notation.{if_then_else_}
 use Rattle.rules.specs.Sizes.{Room}
@@ -90,3 +90,10 @@ module _ (room : Room) (list : List ℕ) where
     numbered cells e r cells′ out′ l k =
         let q = number-of (room .lines) cells out wide small (ranOn room (cellsOf cells) list) (comes room (cellsOf cells) list) r cells′ out′ l k in
         (q .0 ∙ same cells e, q .1, q .2)
+
+-- any two results that the promise admits print the same
+pub prints-one : (text : List ℕ) (n n′ : ℕ) (out out′ : List ℕ) → Prints text n out → Prints text n′ out′ → (n ≡ n′) × (take n out ≡ take n′ out′)
+prints-one text n n′ out out′ p q =
+    let a : n ≡ length text = sym (length-take-le n out (p .count)) ∙ ap length (p .bytes) in
+    let b : n′ ≡ length text = sym (length-take-le n′ out′ (q .count)) ∙ ap length (q .bytes) in
+    (a ∙ sym b, p .bytes ∙ sym (q .bytes))

@@ -5,31 +5,29 @@ use borrow.Author.Needs.{needs}
 use Rattle.machine.proofs.passes.load.Statement.{statement}
 use Rattle.machine.proofs.passes.load.Tie as tie
 
-mul-at : tie.Need-mul-at
-mul-at c = search needs
+mul-high : tie.Need-mul-high
+mul-high c = search needs
 
-add-next : tie.Need-add-next
-add-next c = search needs
+add-low : tie.Need-add-low
+add-low c = search needs
 
 shared-slice-read-result : tie.Need-shared-slice-read-result
 shared-slice-read-result c = search needs
 
 cast-result : tie.Need-cast-result
-cast-result c = omega (arith, c .shared-slice-known .given (2 * c .before .args .a))
+cast-result c = let a = c .before .args .a in omega (arith, c .shared-slice-known .given (2 * a), c .shared-slice-known .given (2 * a + 1))
 
 mul-result : tie.Need-mul-result
-mul-result c = omega (arith, c .shared-slice-known .given (2 * c .before .args .a))
+mul-result c = let a = c .before .args .a in omega (arith, c .shared-slice-known .given (2 * a), c .shared-slice-known .given (2 * a + 1))
 
 shared-slice-read-result-2 : tie.Need-shared-slice-read-result-2
 shared-slice-read-result-2 c = search needs
 
 cast-result-2 : tie.Need-cast-result-2
-cast-result-2 c = omega (arith, c .shared-slice-known2 .given (2 * c .before .before .args .a + 1))
+cast-result-2 c = let a = c .before .before .args .a in omega (arith, c .shared-slice-known2 .given (2 * a), c .shared-slice-known2 .given (2 * a + 1))
 
 add-result : tie.Need-add-result
-add-result c =
-    let c2 = c .before .before in
-    omega (arith, c .before .shared-slice-known .given (2 * c2 .args .a), c .shared-slice-known2 .given (2 * c2 .args .a + 1))
+add-result c = let a = c .before .before .args .a in omega (arith, c .shared-slice-known2 .given (2 * a), c .shared-slice-known2 .given (2 * a + 1))
 
 returns : tie.Need-returns
 returns c = search needs
@@ -38,8 +36,8 @@ pub load-spec : {M : Type 1} → statement M
 load-spec =
     tie.close
     (tie.spec
-    mul-at
-    add-next
+    mul-high
+    add-low
     shared-slice-read-result
     cast-result
     mul-result

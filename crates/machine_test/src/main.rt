@@ -1,0 +1,185 @@
+// Runs lists on lent memory and prints, for each, the reading that it shows, what came of it, and the lent memory afterwards: docs/parts/text.md
+// says why each line is what it is.
+use text::writing::put_byte;
+use text::writing::put_refusal;
+ghost use Prim.Native.Nat.{_+_, _*_, _≤_};
+ghost use lib.ListN.{length};
+
+// What `run` answered: what the loads wrote, `-` where that is nothing, or the `ee` line.
+fn say(r: u64, out: &[u8]) {
+    if r < 4294967296 {
+        let n = io::count(r as isize, out);
+        if n == 0 {
+            io::write_all(1, b"-\n");
+        }
+        io::write_all(1, &out[..n]);
+        return;
+    }
+    let mut line = [0u8; 9];
+    put_refusal(
+        &mut line,
+        0,
+        (r / 4294967296 % 256) as u8,
+        (r % 65536) as u16,
+    );
+    io::write_all(1, &line);
+}
+
+fn show_byte(b: u8) {
+    let mut two = [0u8; 2];
+    put_byte(&mut two, 0, b);
+    io::write_all(1, &two);
+}
+
+fn show_cells(cells: &[u8]) {
+    let mut i: usize = 0;
+    while i < cells.len() {
+        show_byte(cells[i]);
+        i += 1;
+    }
+}
+
+// LF as /.
+fn show_char(b: u8) {
+    if b == 10 {
+        io::write_all(1, b"/");
+    } else {
+        io::write_all(1, &[b]);
+    }
+}
+
+fn show_out(out: &[u8]) {
+    let mut i: usize = 0;
+    while i < out.len() {
+        show_char(out[i]);
+        i += 1;
+    }
+}
+
+// Lends the first c bytes of cells and the first o bytes of out.
+fn lend(list: &[u8], cells: &mut [u8], c: usize, out: &mut [u8], o: usize) -> u64
+    requires { ⌜ c ≤ length (now cells) ⌝ }
+    requires { ⌜ o ≤ length (now out) ⌝ }
+{
+    machine::run(list, &mut cells[..c], &mut out[..o])
+}
+
+// The list on c of 9 bytes of cells that hold 55, and o of 17 bytes of output that hold dots.
+fn case(label: &[u8], list: &[u8], c: usize, o: usize) {
+    let mut cells = [0x55u8; 9];
+    let mut out = [b'.'; 17];
+    if c <= 9 {
+        if o <= 17 {
+            io::write_all(1, label);
+            let r = lend(list, &mut cells, c, &mut out, o);
+            say(r, &out);
+            show_cells(&cells);
+            io::write_all(1, b" ");
+            show_out(&out);
+            io::write_all(1, b"\n");
+        }
+    }
+}
+
+// n lines `0f0000` at the start of list.
+fn put_lines(list: &mut [u8], n: usize)
+    requires { ⌜ 7 * n ≤ length (now list) ⌝ }
+{
+    let line = b"0f0000\n";
+    let mut i: usize = 0;
+    while i < 7 * n {
+        list[i] = line[i % 7];
+        i += 1;
+    }
+}
+
+fn put_tail(list: &mut [u8], w: usize, tail: &[u8])
+    requires { ⌜ w + length (now tail) ≤ length (now list) ⌝ }
+{
+    let mut i: usize = 0;
+    while i < tail.len() {
+        list[w + i] = tail[i];
+        i += 1;
+    }
+}
+
+fn part(label: &[u8], list: &[u8], end: usize)
+    requires { ⌜ end ≤ length (now list) ⌝ }
+{
+    case(label, &list[..end], 6, 14);
+}
+
+// A list of n lines `0f0000`, and what follows them.
+fn long(label: &[u8], n: usize, tail: &[u8]) {
+    let mut list = [0u8; 14400];
+    if n <= 2048 {
+        let w = 7 * n;
+        if tail.len() <= 64 {
+            let end = w + tail.len();
+            put_lines(&mut list, n);
+            put_tail(&mut list, w, tail);
+            part(label, &list, end);
+        }
+    }
+}
+
+// The whole session of document 01.
+fn session() {
+    case(
+        b"C    ",
+        b"010001\n080000\n10000100ff\n09\n120001\n0e\n0c\n02\n0f0003000200000001\n060000\n05\n900003\n",
+        6,
+        14,
+    );
+}
+
+// The text: 1 and 2.
+fn texts() {
+    case(b"A01  ", b"0f0000\n900000", 6, 14);
+    case(b"A03  ", b"\n900000\n", 6, 14);
+    case(b"A04  ", b"zz\n0f0000\n", 6, 14);
+    case(b"hex  ", b"0F0000\n900000\n", 6, 14);
+    case(b"op   ", b"13\n900000\n", 6, 14);
+    case(b"A11  ", b"900001\n0f0000\n", 6, 14);
+    case(b"A12  ", b"900001\n9", 6, 14);
+    case(b"A13  ", b"900001\n900001\n", 6, 14);
+    case(b"A14  ", b"", 6, 14);
+    case(b"over ", b"900401\n", 6, 14);
+    case(b"A20  ", b"06ffff\n900000\n", 6, 14);
+    case(b"A21+ ", b"0f0001ffff\n900000\n", 6, 14);
+    case(b"A21- ", b"0f0002ffff\n900000\n", 6, 14);
+}
+
+// Line 2,048.
+fn late_lines() {
+    long(b"A15  ", 2048, b"");
+    long(b"A16  ", 2048, b"90ffff\n");
+    long(b"A17  ", 2048, b"900001\n0");
+    long(b"A18  ", 2048, b"90000A\n");
+    long(b"A18- ", 2048, b"900001");
+    long(b"A05  ", 2048, b"0");
+    long(b"2049 ", 2048, b"0f0000\n900001\n");
+    long(b"2048 ", 2048, b"900001\n");
+    long(b"2047 ", 2047, b"zz\n900001\n");
+}
+
+// 20, 17, and what is left in lent memory.
+fn memory() {
+    case(b"A22  ", b"110000\n900001\n", 6, 14);
+    case(b"10   ", b"100000abcd\n110000\n120000\n900001\n", 6, 14);
+    case(b"20   ", b"1000000005\n120001\n900001\n", 6, 14);
+    case(b"20,1 ", b"110001\n900001", 6, 14);
+    case(b"A23+ ", b"110000\n900001\n", 2, 7);
+    case(b"A23- ", b"110000\n900001\n", 2, 6);
+    case(b"A24  ", b"110000\n900001\n", 0, 0);
+    case(b"A25  ", b"110001\n900001\n", 0, 0);
+    case(b"A27+ ", b"1000000102\n110000\n900001\n", 3, 14);
+    case(b"A27- ", b"900002\n", 3, 14);
+}
+
+fn main() {
+    session();
+    texts();
+    late_lines();
+    memory();
+}
