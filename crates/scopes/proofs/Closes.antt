@@ -21,12 +21,11 @@ use Rattle.links.specs.Links.{Held, Ring, nextIn, prevIn, leaves, gains}
 use Rattle.links.specs.Follow.{Ahead}
 use Rattle.links.proofs.Walks.{without-first}
 use Rattle.scopes.specs.View.{held, index, view, bindingsOf, scopeOf, foundAt}
-use Rattle.scopes.specs.Sound.{Sound, Leads, root, up, Each, BoundOnce}
+use Rattle.scopes.specs.Sound.{Sound, Leads, root, up, Each, BoundOnce, Sized}
 use Rattle.scopes.specs.Leaves.{NoChild}
 use Rattle.scopes.specs.declared.Scopes.{Scopes}
 use Rattle.scopes.proofs.Tables.{put-ext, put-again}
 use Rattle.scopes.proofs.Finds.{in-range}
-use Rattle.scopes.proofs.Moves.{Sized}
 use Rattle.scopes.proofs.Marks.{leads-live, parent-live}
 use Rattle.scopes.proofs.Frees.{released, removed, back-sound, back-live, back-lists}
 

@@ -6,7 +6,7 @@ use borrow.Author.Needs.{needs}
 use lib.ListN.{length, getD}
 use Rattle.links.specs.Links.{Held, gains, leaves}
 use Rattle.scopes.specs.View.{held}
-use Rattle.scopes.proofs.Moves.{Sized}
+use Rattle.scopes.specs.Sound.{Sized}
 use Rattle.scopes.proofs.Closes.{Turn, turn, ended, Closing, closing-sound, closing-on, closing-less, gone-is, gone-sound}
 use Rattle.scopes.proofs.open.wide8.Reads as wide8-reads
 use Rattle.scopes.proofs.close.close.Statement.{statement}
