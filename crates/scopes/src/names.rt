@@ -7,7 +7,7 @@ ghost use Rattle.rules.specs.Sizes.{base};
 ghost use Rattle.rules.specs.Scopes as rule;
 ghost use Rattle.scopes.specs.View.{view, binding, bindingsOf, bound, defined, seen, told, toldOnly, replied};
 ghost use Rattle.scopes.specs.Sound.{Sound};
-ghost use Rattle.scopes.specs.Leaves.{Spot, Climbs};
+ghost use Rattle.scopes.specs.Leaves.{Spot, Climbs, Wiped};
 use crate::Bound;
 use crate::HandleNumber;
 use crate::Outcome;
@@ -193,10 +193,18 @@ pub fn forget_names(bindings: &mut [u64; 256], count: usize, i: usize) -> usize
         }
         j += 1;
     }
-    let n = w;
-    while w < count {
-        bindings[w] = 0;
-        w += 1;
+    wipe(bindings, w, count);
+    w
+}
+
+// The places from `from` up to `to` hold 0 then.
+fn wipe(bindings: &mut [u64; 256], from: usize, to: usize)
+    requires { ⌜ (from ≤ to) × (to ≤ 256) × (length (now bindings) ≡ 256) ⌝ }
+    ensures { λ r. ⌜ Wiped (now (bindings .entry)) from to (now (bindings .exit)) ⌝ }
+{
+    let mut j = from;
+    while j < to {
+        bindings[j] = 0;
+        j += 1;
     }
-    n
 }

@@ -5,7 +5,7 @@ use native.Mathlib.Omega.{arith}
 use borrow.Author.Needs.{needs}
 use lib.ListN.{length}
 use Rattle.scopes.specs.View.{held}
-use Rattle.scopes.proofs.Moves.{Sized}
+use Rattle.scopes.specs.Sound.{Sized}
 use Rattle.scopes.proofs.Closes.{Turn, turn, ended}
 use Rattle.scopes.proofs.Drains.{Draining, draining-none, on, has-room, draining-rings, draining-on, draining-less, drained}
 use Rattle.scopes.proofs.drain.drain.Statement.{statement}

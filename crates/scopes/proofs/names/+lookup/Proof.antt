@@ -79,7 +79,7 @@ lookup-find-requires : (t : ℕ) → lookup-lts.Need-find-requires (
   lookup-below t,
   lookup.Post,
 ) (lookup-at t) lookup.Post
-lookup-find-requires t c κs = let s = c .before .before .before .before in (s .pre .1 .0, c .before .before .if2 .left, s .pre .1 .1)
+lookup-find-requires t c κs = let s = c .before .before .before .before in (s .pre .1 .0, omega (arith, c .before .before .if2 .left), s .pre .1 .1)
 
 -- src/names.rt:59:9
 lookup-returns-4 : (t : ℕ) → lookup-lts.Need-returns-4 (

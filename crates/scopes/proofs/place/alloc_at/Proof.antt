@@ -3,7 +3,7 @@ use mathlib.Core.Path.{_≡_, sym, _∙_}
 use Prim.Native.Nat.{ℕ, _+_, _<_}
 use native.Mathlib.Omega.{arith}
 use Rattle.scopes.specs.View.{held}
-use Rattle.scopes.proofs.Moves.{Sized}
+use Rattle.scopes.specs.Sound.{Sized}
 use Rattle.scopes.proofs.Allocs.{alloc-full, small, alloc-gives}
 use borrow.Author.Needs.{needs}
 use Rattle.scopes.proofs.place.alloc_at.Statement.{statement}

@@ -4,7 +4,7 @@ use Prim.Native.Nat.{ℕ, _+_, _-_, _<_, _≤_}
 use native.Mathlib.Omega.{arith}
 use borrow.Author.Needs.{needs}
 use Rattle.scopes.specs.View.{held}
-use Rattle.scopes.proofs.Moves.{Sized}
+use Rattle.scopes.specs.Sound.{Sized}
 use Rattle.scopes.proofs.Runs.{Running, running-none, running-on, running-done, roomy-is}
 use Rattle.scopes.proofs.place.push_run.Statement.{statement}
 use Rattle.scopes.proofs.place.push_run.Tie as tie

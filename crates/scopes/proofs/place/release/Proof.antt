@@ -2,8 +2,8 @@
 use mathlib.Core.Path.{_≡_, refl, sym, _∙_}
 use native.Mathlib.Omega.{arith}
 use Rattle.scopes.specs.View.{held}
+use Rattle.scopes.specs.Sound.{Sized}
 use Rattle.scopes.proofs.Finds.{Topped, topped}
-use Rattle.scopes.proofs.Moves.{Sized}
 use Rattle.scopes.proofs.Frees.{on, gives-back, gives-quietly}
 use borrow.Author.Needs.{needs}
 use Rattle.scopes.proofs.place.release.Statement.{statement}
