@@ -1,21 +1,21 @@
--- The top scope: of a state that the arrays hold, and after an address went back. Assumes nothing.
+-- The top scope: what of it stays when an address goes back, and whether a kind's slot goes back. Assumes nothing.
 use mathlib.Core.Path.{_≡_, refl, sym, ap, subst, _∙_}
-use mathlib.Core.Logic.{⊎-elim}
-use mathlib.Core.Bool.{Bool, true, false, not, _&&_, true≢false}
+use mathlib.Core.Bool.{Bool, true, false, _&&_}
 use mathlib.Core.Option.{Option, none, some}
 use Prim.Native.Nat.{ℕ, _≤_, _<_}
 use native.Mathlib.Omega.{arith}
 use lib.Dec.{eqb, ltb}
 use lib.ListN.{getD}
-use borrow.Author.Tests.{ltb-true, ltb-false, lt-ltb, le-ltb, eq-eqb, ne-eqb}
+use borrow.Author.Tests.{lt-ltb, le-ltb, eq-eqb, ne-eqb}
 use Rattle.rules.specs.Notation.{Answer, given, refused, _>>=_, refuse_when_, refuse_unless_, put}
-use Rattle.rules.specs.AddressSets.{member}
 use Rattle.rules.specs.Scopes.{Scope, Scopes, Found, found, topScope, setScope}
 use Rattle.rules.specs.Needs as rule
-use Rattle.rules.proofs.Tables.{put-same}
+use Rattle.rules.proofs.Tables.{by-eqb, put-same}
 use Rattle.rules.proofs.Chains.{All, all-given, all-when, all-unless, none-some}
-use Rattle.scopes.specs.View.{view, held, index, onlyIf, scopeOf, foundAt}
+use Rattle.scopes.specs.View.{view, idOf}
 use Rattle.scopes.specs.Sound.{Sound}
+use Rattle.scopes.proofs.Finds.{no-top, Topped, topped}
+use Rattle.scopes.proofs.Frees.{far}
 use Rattle.scopes.specs.declared.Scopes as state
 use Rattle.needs.specs.Kinds.{kindOf}
 use Rattle.needs.specs.Leaves.{backFrom}
@@ -88,23 +88,7 @@ module _ (t i : ℕ) (b : Bool) where
 
 -- ---- of a sound state
 
-pub index-below : (n : ℕ) → n < 64 → index n ≡ some n
-index-below n h = ap (λ (b : Bool). elim b [ true ↦ some n | false ↦ none ]) (lt-ltb n 64 h)
-
-pub index-past : (n : ℕ) → 64 ≤ n → index n ≡ none
-index-past n h = ap (λ (b : Bool). elim b [ true ↦ some n | false ↦ none ]) (le-ltb n 64 h)
-
 module _ (s : state.Scopes) (sound : Sound s) where
-  pub top-live : s .top < 64 → topScope (view s) ≡ some (foundAt s (s .top))
-  top-live h =
-      ⊎-elim
-      (λ w. top-is (view s) (s .top) (scopeOf s (s .top)) (index-below (s .top) h) (ap (λ (b : Bool). onlyIf b (scopeOf s (s .top))) (w .1)))
-      (λ w. absurd (omega (arith, w .0)))
-      (sound .rooted .topped)
-
-  pub top-past : 64 ≤ s .top → topScope (view s) ≡ none
-  top-past h = top-none (view s) (index-past (s .top) h)
-
   -- the top's number is read off the arrays
   pub back-from : (k : AddressKind) → backFrom (s .number) (s .top) k ≡ rule.goesBack (view s) (kindOf k)
   unfolding rule.goesBack
@@ -112,25 +96,18 @@ module _ (s : state.Scopes) (sound : Sound s) where
   back-from kind.Dangling = refl
   back-from kind.Assigned = refl
   back-from kind.Freed = refl
-  back-from (kind.Scope id) = go (ltb (s .top) 64) refl
-    where
-      go : (b : Bool) → ltb (s .top) 64 ≡ b → backFrom (s .number) (s .top) (kind.Scope id) ≡ rule.goesBack (view s) (kindOf (kind.Scope id))
-      go true e =
-          ap (λ (b : Bool). b && eqb (s .top) (id .index) && eqb (getD (s .number) (s .top) 0) (id .number)) e
-          ∙ sym (ap (rule.isScope (record { index = id .index; number = id .number })) (top-live (ltb-true (s .top) 64 e)))
-      go false e =
-          ap (λ (b : Bool). b && eqb (s .top) (id .index) && eqb (getD (s .number) (s .top) 0) (id .number)) e
-          ∙ sym (ap (rule.isScope (record { index = id .index; number = id .number })) (top-past (ltb-false (s .top) 64 e)))
+  back-from (kind.Scope id) =
+      by-eqb (s .top) 64
+      (λ e. sym (top-far (s .top) (id .index) (eqb (getD (s .number) (s .top) 0) (id .number)) (omega arith)) ∙ sym (ap (rule.isScope (idOf id)) (no-top s e)))
+      (λ n.
+      let t : Topped s = topped s sound n in
+      sym (ap (λ (b : Bool). b && eqb (s .top) (id .index) && eqb (getD (s .number) (s .top) 0) (id .number)) (sym (lt-ltb (s .top) 64 (t .small))))
+      ∙ sym (ap (rule.isScope (idOf id)) (t .is)))
 
   -- 12: no scope owns what is no slot
   pub no-slot : (dangles : Bool) (a : ℕ) → 1024 ≤ a → rule.giveBack dangles a (view s) ≡ refused 12
   unfolding rule.giveBack _>>=_ refuse_unless_ refuse_when_
-  no-slot dangles a h = go (ltb (s .top) 64) refl
-    where
-      own : s .top < 64 → (b : Bool) → member a (held (s .links) (s .top)) ≡ b → member a (held (s .links) (s .top)) ≡ false
-      own p true e = absurd (omega (arith, sound .ringed .rings .ring (s .top) (omega arith) .addr a e))
-      own p false e = e
-
-      go : (b : Bool) → ltb (s .top) 64 ≡ b → rule.giveBack dangles a (view s) ≡ refused 12
-      go true e = rw (top-live (ltb-true (s .top) 64 e)) (rw (own (ltb-true (s .top) 64 e) (member a (held (s .links) (s .top))) refl))
-      go false e = rw (top-past (ltb-false (s .top) 64 e))
+  no-slot dangles a h =
+      by-eqb (s .top) 64
+      (λ e. rw (no-top s e))
+      (λ n. let t : Topped s = topped s sound n in rw (t .is, far (s .links) (s .owner) a (s .top) (sound .ringed) h (omega (arith, t .small))))
