@@ -1,9 +1,8 @@
 -- From what an operation on the state replied to the answer that is made of it. Assumes nothing.
 use mathlib.Core.Path.{_≡_, refl, sym, ap, subst⁻¹, _∙_}
-use mathlib.Core.Bool.{Bool, true, false, true≢false}
+use mathlib.Core.Bool.{Bool, true, false}
 use mathlib.Core.Option.{Option, none, some}
-use mathlib.Core.List.{List, map}
-use Prim.Native.Nat.{ℕ, zero, suc}
+use Prim.Native.Nat.{ℕ}
 use lib.Dec.{eqb}
 use Rattle.rules.specs.Notation.{Answer, given, refused, _>>=_, refuse_unless_, if_then_else_}
 use Rattle.rules.specs.Slots.{Placement}
@@ -13,13 +12,14 @@ use Rattle.rules.specs.Needs as rule
 use Rattle.rules.proofs.Chains.{none-some}
 use Rattle.scopes.specs.View as state
 use Rattle.scopes.specs.declared.Reply.{Reply}
-use Rattle.needs.specs.Kinds.{kindOf, addresses}
+use Rattle.scopes.specs.declared.Reply.the-variants as reply
+use Rattle.needs.specs.Kinds.{kindOf, addresses, Plain}
 use Rattle.needs.specs.Answers.{Seen, told, addressSays, runSays, PlainRun}
-use Rattle.needs.specs.Leaves.{placed, isDone, numberOf, kindFor, ranged}
+use Rattle.needs.specs.Leaves.{placed, kindFor, ranged, runFreedBy}
 use Rattle.needs.specs.declared.AddressKind.{AddressKind}
 use Rattle.needs.specs.declared.AddressKind.the-variants as kind
 use Rattle.needs.specs.declared.AddressAnswer.{AddressAnswer}
-use Rattle.needs.specs.declared.RunAnswer.{RunAnswer}
+use Rattle.needs.specs.declared.Run.{Run}
 
 -- the next state t and the reply r, as the state's operations tell them
 abbrev pub replied : Scopes → Reply → state.Seen
@@ -36,18 +36,21 @@ unfolding _>>=_
 placed-told k c t r a (given x) p e = ap (λ (b : AddressAnswer). answered t (addressSays b)) p ∙ ap (λ (s : state.Seen). answered (s .next) (addressSays (placed k (s .says)))) e
 placed-told k c t r a (refused n) p e = ap (λ (b : AddressAnswer). answered t (addressSays b)) p ∙ ap (λ (s : state.Seen). answered (s .next) (addressSays (placed k (s .says)))) e
 
--- ---- slots that went back, or a refusal: x is what is answered then
+-- ---- slots that went back, or a refusal: f is what is answered to a reply, x what Done stands for
 
-module _ {X : Type 0} (x : X) (c t : Scopes) (r : Reply) where
-  pub done-told : (m : Answer Scopes) → isDone r ≡ true → replied t r ≡ state.toldOnly c m → answered t (given x) ≡ told c (m >>= λ d. given (x, d))
-  unfolding _>>=_
-  done-told (given d) y e = ap (λ (s : state.Seen). answered (s .next) (given x)) e
-  done-told (refused n) y e = absurd (true≢false (sym y ∙ ap (λ (s : state.Seen). isDone (s .says)) e))
+pub freed-told : {X : Type 0} (f : Reply → Answer X) (x : X) → f reply.Done ≡ given x → ((n : ℕ) → f (reply.Refused n) ≡ refused n)
+    → (c t : Scopes) (r : Reply) (m : Answer Scopes) → replied t r ≡ state.toldOnly c m → answered t (f r) ≡ told c (m >>= λ d. given (x, d))
+unfolding _>>=_
+freed-told f x p q c t r (given d) e = ap (λ (s : state.Seen). answered (s .next) (f (s .says))) e ∙ ap (answered d) p
+freed-told f x p q c t r (refused n) e = ap (λ (s : state.Seen). answered (s .next) (f (s .says))) e ∙ ap (answered c) (q n)
 
-  pub refused-told : (m : Answer Scopes) → isDone r ≡ false → replied t r ≡ state.toldOnly c m → answered t (refused (numberOf r)) ≡ told c (m >>= λ d. given (x, d))
-  unfolding _>>=_
-  refused-told (given d) y e = absurd (true≢false (sym (ap (λ (s : state.Seen). isDone (s .says)) e) ∙ y))
-  refused-told (refused n) y e = ap (λ (s : state.Seen). answered (s .next) (refused (numberOf (s .says)))) e
+pub freed-plain : (f : Run) (r : Reply) → Plain f → PlainRun (runFreedBy f r)
+freed-plain f reply.Done p = p
+freed-plain f (reply.At a) p = tt
+freed-plain f reply.Empty p = tt
+freed-plain f (reply.Opened i) p = tt
+freed-plain f (reply.Found b) p = tt
+freed-plain f (reply.Refused n) p = tt
 
 -- ---- a run
 

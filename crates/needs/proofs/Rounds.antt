@@ -1,8 +1,8 @@
 -- The loop that gives a run's slots back, and freeing a run by cases. Assumes nothing.
-use mathlib.Core.Path.{_≡_, refl, sym, ap, subst, _∙_}
+use mathlib.Core.Path.{_≡_, refl, sym, ap, _∙_}
 use mathlib.Core.Bool.{Bool, true, false, true≢false}
-use mathlib.Core.List.{List, [], _∷_, map, reverse}
-use Prim.Native.Nat.{ℕ, zero, suc, _+_, _-_, _<_}
+use mathlib.Core.List.{List}
+use Prim.Native.Nat.{ℕ, suc, _+_, _-_, _<_}
 use native.Mathlib.Omega.{arith}
 use Rattle.rules.specs.Notation.{Answer, given, refused, _>>=_}
 use Rattle.rules.specs.AddressSets.{run}
@@ -13,12 +13,11 @@ use Rattle.scopes.specs.View.{view, toldOnly}
 use Rattle.scopes.specs.Sound.{Sound}
 use Rattle.scopes.specs.declared.Scopes as declared
 use Rattle.scopes.specs.declared.Reply.{Reply}
-use Rattle.scopes.specs.declared.Reply.the-variants.{Done}
 use Rattle.needs.specs.Kinds.{kindOf, addresses, runOf}
-use Rattle.needs.specs.Answers.{Seen, told}
-use Rattle.needs.specs.Leaves.{isDone, numberOf, backFrom, downFrom, backEach}
+use Rattle.needs.specs.Answers.{Seen, told, runSays}
+use Rattle.needs.specs.Leaves.{isDone, runFreedBy, backFrom, downFrom, backEach}
 use Rattle.needs.specs.declared.Run.{Run}
-use Rattle.needs.proofs.Replies.{replied, answered, done-told, refused-told}
+use Rattle.needs.proofs.Replies.{replied, answered, freed-told}
 use Rattle.needs.proofs.Tops.{back-from, no-slot}
 use Rattle.needs.proofs.Runs.{ofKind, run-down, each-spent, each-kept, each-back}
 
@@ -112,9 +111,7 @@ module _ (s : declared.Scopes) (sound : Sound s) (dangles : Bool) (r : Run) wher
     back-each : told (view s) (backEach dangles (downFrom (r .first .0) (r .count)) (view s) >>= λ d. given (rule.forgetRun (runOf r), d)) ≡ runTold
     back-each = sym (ap (told (view s)) (run-back dangles (kindOf (r .kind)) (r .first .0) (r .count) (view s) e (sym (back-from s sound (r .kind)) ∙ g)))
 
-    module _ (t : Scopes) (reply : Reply) (b : replied t reply ≡ toldOnly (view s) (backEach dangles (downFrom (r .first .0) (r .count)) (view s))) where
-      pub told-back : isDone reply ≡ true → answered t (given (rule.forgetRun (runOf r))) ≡ runTold
-      told-back y = done-told (rule.forgetRun (runOf r)) (view s) t reply _ y b ∙ back-each
-
-      pub told-stuck : isDone reply ≡ false → answered t (refused (numberOf reply)) ≡ runTold
-      told-stuck y = refused-told (rule.forgetRun (runOf r)) (view s) t reply _ y b ∙ back-each
+    pub told-back : (f : Run) → runOf f ≡ rule.forgetRun (runOf r) → (t : Scopes) (reply : Reply)
+        → replied t reply ≡ toldOnly (view s) (backEach dangles (downFrom (r .first .0) (r .count)) (view s))
+        → answered t (runSays (runFreedBy f reply)) ≡ runTold
+    told-back f p t reply b = freed-told (λ x. runSays (runFreedBy f x)) (rule.forgetRun (runOf r)) (ap given p) (λ n. refl) (view s) t reply _ b ∙ back-each

@@ -1,13 +1,13 @@
 -- The top scope: what of it stays when an address goes back, and whether a kind's slot goes back. Assumes nothing.
 use mathlib.Core.Path.{_≡_, refl, sym, ap, subst, _∙_}
-use mathlib.Core.Bool.{Bool, true, false, _&&_}
+use mathlib.Core.Bool.{Bool, false, _&&_}
 use mathlib.Core.Option.{Option, none, some}
 use Prim.Native.Nat.{ℕ, _≤_, _<_}
 use native.Mathlib.Omega.{arith}
 use lib.Dec.{eqb, ltb}
 use lib.ListN.{getD}
 use borrow.Author.Tests.{lt-ltb, le-ltb, eq-eqb, ne-eqb}
-use Rattle.rules.specs.Notation.{Answer, given, refused, _>>=_, refuse_when_, refuse_unless_, put}
+use Rattle.rules.specs.Notation.{refused, _>>=_, refuse_when_, refuse_unless_, put}
 use Rattle.rules.specs.Scopes.{Scope, Scopes, Found, found, topScope, setScope}
 use Rattle.rules.specs.Needs as rule
 use Rattle.rules.proofs.Tables.{by-eqb, put-same}

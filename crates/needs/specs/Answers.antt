@@ -1,5 +1,4 @@
 -- What each case of an answer says, in the numbers and values of document 01; and what an operation did and said. Assumes nothing.
-use mathlib.Core.Path.{_≡_}
 use mathlib.Core.Option.{Option, none, some}
 use mathlib.Core.List.{List}
 use Prim.Native.Nat.{ℕ}
@@ -29,8 +28,6 @@ use Rattle.needs.specs.declared.OutputOutcome.{OutputOutcome}
 use Rattle.needs.specs.declared.FreeOutcome.{FreeOutcome}
 use Rattle.needs.specs.declared.Taken.{Taken}
 use Rattle.needs.specs.declared.Assignment.{Assignment}
-use Rattle.needs.specs.declared.Need.{Need}
-use Rattle.needs.specs.declared.Run.{Run}
 
 -- ---- answers
 

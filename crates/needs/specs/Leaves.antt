@@ -4,7 +4,7 @@ use mathlib.Core.List.{List, [], _∷_}
 use Prim.Native.Nat.{ℕ, zero, suc, _+_}
 use lib.ListN.{getD}
 use lib.Dec.{eqb, ltb}
-use Rattle.rules.specs.Notation.{Answer, given, refused, _>>=_}
+use Rattle.rules.specs.Notation.{Answer, given, _>>=_}
 use Rattle.rules.specs.Scopes.{Scopes}
 use Rattle.rules.specs.Needs as rule
 use Rattle.scopes.specs.declared.Reply.{Reply}
@@ -12,6 +12,8 @@ use Rattle.scopes.specs.declared.Reply.the-variants.{Done, At, Empty, Opened, F
 use Rattle.needs.specs.Kinds.{emptyRun}
 use Rattle.needs.specs.declared.AddressKind.{AddressKind}
 use Rattle.needs.specs.declared.AddressKind.the-variants as kind
+use Rattle.needs.specs.declared.Address.{Address}
+use Rattle.needs.specs.declared.Run.{Run}
 use Rattle.needs.specs.declared.AddressAnswer.{AddressAnswer}
 use Rattle.needs.specs.declared.AddressAnswer.the-variants as address
 use Rattle.needs.specs.declared.RunAnswer.{RunAnswer}
@@ -40,13 +42,42 @@ isDone (Opened i) = false
 isDone (Found b) = false
 isDone (Refused n) = false
 
-abbrev pub numberOf : Reply → ℕ
-numberOf Done = 0
-numberOf (At a) = 0
-numberOf Empty = 0
-numberOf (Opened i) = 0
-numberOf (Found b) = 0
-numberOf (Refused n) = n
+-- the address a once its slot went back
+abbrev pub freedBy : Address → Reply → AddressAnswer
+freedBy a Done = address.Got a
+freedBy a (At b) = address.Refused 0
+freedBy a Empty = address.Refused 0
+freedBy a (Opened i) = address.Refused 0
+freedBy a (Found b) = address.Refused 0
+freedBy a (Refused n) = address.Refused n
+
+-- the run r once its slots went back
+abbrev pub runFreedBy : Run → Reply → RunAnswer
+runFreedBy r Done = run.Got r
+runFreedBy r (At b) = run.Refused 0
+runFreedBy r Empty = run.Refused 0
+runFreedBy r (Opened i) = run.Refused 0
+runFreedBy r (Found b) = run.Refused 0
+runFreedBy r (Refused n) = run.Refused n
+
+-- ".. (as output: discard)"
+abbrev pub outputFrom : SlotAnswer → OutputAnswer
+outputFrom (slot.At a) = output.Keep a
+outputFrom slot.Nothing = output.Discard
+outputFrom (slot.Refused n) = output.Refused n
+
+-- "a run of n ≥ 2 Dangling, a run of 1 Local"
+abbrev pub kindFor : ℕ → AddressKind
+kindFor n = elim (eqb n 1) [ true ↦ kind.Local | false ↦ kind.Dangling ]
+
+-- the run of n from the slot that was given
+abbrev pub ranged : ℕ → Reply → RunAnswer
+ranged n Done = run.Refused 0
+ranged n (At a) = run.Got (record { first = a; count = n; kind = kindFor n })
+ranged n Empty = run.Got emptyRun
+ranged n (Opened i) = run.Refused 0
+ranged n (Found b) = run.Refused 0
+ranged n (Refused m) = run.Refused m
 
 -- ---- which slots go back
 
@@ -69,22 +100,3 @@ backEach dangles [] c = given c
 backEach dangles (a ∷ more) c = do
   d ← rule.giveBack dangles a c
   backEach dangles more d
-
--- ".. (as output: discard)"
-abbrev pub outputFrom : SlotAnswer → OutputAnswer
-outputFrom (slot.At a) = output.Keep a
-outputFrom slot.Nothing = output.Discard
-outputFrom (slot.Refused n) = output.Refused n
-
--- "a run of n ≥ 2 Dangling, a run of 1 Local"
-abbrev pub kindFor : ℕ → AddressKind
-kindFor n = elim (eqb n 1) [ true ↦ kind.Local | false ↦ kind.Dangling ]
-
--- the run of n from the slot that was given
-abbrev pub ranged : ℕ → Reply → RunAnswer
-ranged n Done = run.Refused 0
-ranged n (At a) = run.Got (record { first = a; count = n; kind = kindFor n })
-ranged n Empty = run.Got emptyRun
-ranged n (Opened i) = run.Refused 0
-ranged n (Found b) = run.Refused 0
-ranged n (Refused m) = run.Refused m

@@ -1,7 +1,5 @@
 // One address: allocated, freed, forgotten.
 ghost use mathlib.Core.Path.{_≡_};
-ghost use Prim.Native.Nat.{_≤_};
-ghost use lib.ListN.{length};
 ghost use Rattle.rules.specs.Sizes.{base};
 ghost use Rattle.rules.specs.Slots.{edition1};
 ghost use Rattle.rules.specs.Needs as rule;
@@ -9,7 +7,7 @@ ghost use Rattle.scopes.specs.View.{view, idOf};
 ghost use Rattle.scopes.specs.Sound.{Sound};
 ghost use Rattle.needs.specs.Kinds.{kindOf, addressOf};
 ghost use Rattle.needs.specs.Answers.{seenAddress, told};
-ghost use Rattle.needs.specs.Leaves.{placed, isDone, numberOf, backFrom};
+ghost use Rattle.needs.specs.Leaves.{placed, isDone, freedBy, backFrom};
 use crate::Address;
 use crate::AddressAnswer;
 use crate::AddressKind;
@@ -48,16 +46,16 @@ pub fn is_done(reply: Reply) -> bool
     }
 }
 
-pub fn number_of(reply: Reply) -> u8
-    ensures { λ r. ⌜ r ≡ numberOf reply ⌝ }
+fn freed_by(reply: Reply, a: Address) -> AddressAnswer
+    ensures { λ r. ⌜ r ≡ freedBy a reply ⌝ }
 {
     match reply {
-        Reply::Refused(n) => n,
-        Reply::Done => 0,
-        Reply::At(_) => 0,
-        Reply::Empty => 0,
-        Reply::Opened(_) => 0,
-        Reply::Found(_) => 0,
+        Reply::Done => AddressAnswer::Got(a),
+        Reply::Refused(n) => AddressAnswer::Refused(n),
+        Reply::At(_) => AddressAnswer::Refused(0),
+        Reply::Empty => AddressAnswer::Refused(0),
+        Reply::Opened(_) => AddressAnswer::Refused(0),
+        Reply::Found(_) => AddressAnswer::Refused(0),
     }
 }
 
@@ -183,15 +181,9 @@ pub fn free(s: Scopes, a: Address, dangles: bool) -> AddressOutcome
     let o = place::give_back(s, slot, dangles);
     let t = o.state;
     let reply = o.reply;
-    if is_done(reply) {
-        return AddressOutcome {
-            state: t,
-            answer: AddressAnswer::Got(freed),
-        };
-    }
     AddressOutcome {
         state: t,
-        answer: AddressAnswer::Refused(number_of(reply)),
+        answer: freed_by(reply, freed),
     }
 }
 

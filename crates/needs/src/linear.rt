@@ -8,7 +8,7 @@ ghost use Rattle.scopes.specs.View.{view, seen, toldOnly};
 ghost use Rattle.scopes.specs.Sound.{Sound};
 ghost use Rattle.needs.specs.Kinds.{runOf, emptyRun, Plain};
 ghost use Rattle.needs.specs.Answers.{seenRun, told, PlainRun};
-ghost use Rattle.needs.specs.Leaves.{kindFor, ranged, downFrom, backEach};
+ghost use Rattle.needs.specs.Leaves.{kindFor, ranged, runFreedBy, downFrom, backEach};
 use crate::AddressKind;
 use crate::Run;
 use crate::RunAnswer;
@@ -115,6 +115,19 @@ fn give_back_run(s: Scopes, first: usize, count: usize, dangles: bool) -> Outcom
     }
 }
 
+fn freed_by(reply: Reply, run: Run) -> RunAnswer
+    ensures { λ r. ⌜ r ≡ runFreedBy run reply ⌝ }
+{
+    match reply {
+        Reply::Done => RunAnswer::Got(run),
+        Reply::Refused(n) => RunAnswer::Refused(n),
+        Reply::At(_) => RunAnswer::Refused(0),
+        Reply::Empty => RunAnswer::Refused(0),
+        Reply::Opened(_) => RunAnswer::Refused(0),
+        Reply::Found(_) => RunAnswer::Refused(0),
+    }
+}
+
 // 13, then where the slots go back 12.
 pub fn free_run(s: Scopes, run: Run, dangles: bool) -> RunOutcome
     requires { ⌜ Sound s ⌝ }
@@ -152,14 +165,8 @@ pub fn free_run(s: Scopes, run: Run, dangles: bool) -> RunOutcome
     let o = give_back_run(s, first, count, dangles);
     let t = o.state;
     let reply = o.reply;
-    if addresses::is_done(reply) {
-        return RunOutcome {
-            state: t,
-            answer: RunAnswer::Got(freed),
-        };
-    }
     RunOutcome {
         state: t,
-        answer: RunAnswer::Refused(addresses::number_of(reply)),
+        answer: freed_by(reply, freed),
     }
 }

@@ -4,20 +4,13 @@ use Rattle.needs.proofs.Replies.{placed-told}
 use borrow.Author.Needs.{needs}
 use Rattle.needs.proofs.addresses.alloc_in.Statement.{statement}
 use Rattle.needs.proofs.addresses.alloc_in.Tie as tie
-use Rattle.needs.proofs.addresses.alloc_in.Reads as reads
-use Rattle.needs.proofs.addresses.alloc_in.Lts as lts
-use Rattle.needs.proofs.addresses.placed.Reads as placed-reads
-use Rattle.scopes.proofs.place.alloc_in.Reads as alloc-in-reads
 
--- src/addresses.rt:85:9
 alloc-in-requires : tie.Need-alloc-in-requires
 alloc-in-requires c κs = search needs
 
--- src/addresses.rt:90:17
 placed-requires : tie.Need-placed-requires
 placed-requires c κs = search needs
 
--- src/addresses.rt:81:1
 returns : tie.Need-returns
 unfolding rule.allocAddressIn
 returns c = (placed-told (Scope _) _ _ _ _ _ (c .placed .ensures) (c .before .before .alloc-in .ensures .0), c .before .before .alloc-in .ensures .1)

@@ -5,19 +5,13 @@ use Rattle.needs.proofs.Frees.{allocated-local, allocated-same}
 use borrow.Author.Needs.{needs}
 use Rattle.needs.proofs.addresses.allocated.Statement.{statement}
 use Rattle.needs.proofs.addresses.allocated.Tie as tie
-use Rattle.needs.proofs.addresses.allocated.Reads as reads
-use Rattle.needs.proofs.addresses.allocated.Lts as lts
-use Rattle.needs.proofs.addresses.is_dangling.Reads as is-dangling-reads
 
--- src/addresses.rt:112:8
 is-dangling-requires : tie.Need-is-dangling-requires
 is-dangling-requires c κs = search needs
 
--- src/addresses.rt:113:9
 returns : tie.Need-returns
 returns c = ap (rule.address (c .before .before .before .args .a .slot .0)) (allocated-local (kindOf (c .before .before .before .args .a .kind)) (sym (c .before .is-dangling .ensures) ∙ c .if1 .taken))
 
--- src/addresses.rt:107:1
 returns-2 : tie.Need-returns-2
 returns-2 c = ap (rule.address (c .before .before .before .args .a .slot .0)) (allocated-same (kindOf (c .before .before .before .args .a .kind)) (sym (c .before .is-dangling .ensures) ∙ c .if1 .left))
 

@@ -2,30 +2,22 @@ use Rattle.needs.proofs.Tops.{top-same, top-other, top-far}
 use borrow.Author.Needs.{needs}
 use Rattle.needs.proofs.addresses.is_top.Statement.{statement}
 use Rattle.needs.proofs.addresses.is_top.Tie as tie
-use Rattle.needs.proofs.addresses.is_top.Reads as reads
-use Rattle.needs.proofs.addresses.is_top.Lts as lts
 
--- src/addresses.rt:131:19
 cast-if2 : tie.Need-cast-if2
 cast-if2 c = search needs
 
--- src/addresses.rt:132:20
 mul-result : tie.Need-mul-result
 mul-result c = search needs
 
--- src/addresses.rt:132:20
 element-copy-out-result : tie.Need-element-copy-out-result
 element-copy-out-result c = search needs
 
--- src/addresses.rt:132:13
 returns : tie.Need-returns
 returns c = top-same _ _ _ (c .before .before .before .before .if1 .taken) (c .before .before .if2 .taken)
 
--- src/addresses.rt:127:1
 returns-2 : tie.Need-returns-2
 returns-2 c = top-other _ _ _ (c .before .before .if1 .taken) (c .if2 .left)
 
--- src/addresses.rt:127:1
 returns-3 : tie.Need-returns-3
 returns-3 c = top-far _ _ _ (c .if1 .left)
 

@@ -1,56 +1,42 @@
-use mathlib.Core.Path.{_≡_, refl, sym, ap, _∙_}
+use mathlib.Core.Path.{sym, ap}
 use Rattle.needs.specs.Leaves.{placed}
 use borrow.Author.Needs.{needs}
 use Rattle.needs.proofs.addresses.placed.Statement.{statement}
 use Rattle.needs.proofs.addresses.placed.Tie as tie
-use Rattle.needs.proofs.addresses.placed.Reads as reads
-use Rattle.needs.proofs.addresses.placed.Lts as lts
 
--- src/addresses.rt:29:19
 enum-known-reply : tie.Need-enum-known-reply
 enum-known-reply c = search needs
 
--- src/addresses.rt:30:24
 enum-known-reply-2 : tie.Need-enum-known-reply-2
 enum-known-reply-2 c = search needs
 
--- src/addresses.rt:31:24
 enum-told : tie.Need-enum-told
 enum-told c = search needs
 
--- src/addresses.rt:32:25
 enum-told-2 : tie.Need-enum-told-2
 enum-told-2 c = search needs
 
--- src/addresses.rt:33:29
 enum-told-3 : tie.Need-enum-told-3
 enum-told-3 c = search needs
 
--- src/addresses.rt:34:28
 enum-told-4 : tie.Need-enum-told-4
 enum-told-4 c = search needs
 
--- src/addresses.rt:25:1
 returns : tie.Need-returns
 returns c = sym (ap (placed _) (c .before .reply .given .1))
 
--- src/addresses.rt:25:1
 returns-2 : tie.Need-returns-2
 returns-2 c = sym (ap (placed _) (c .before .reply2 .given .1))
 
--- src/addresses.rt:25:1
 returns-3 : tie.Need-returns-3
 returns-3 c = search needs
 
--- src/addresses.rt:25:1
 returns-4 : tie.Need-returns-4
 returns-4 c = search needs
 
--- src/addresses.rt:25:1
 returns-5 : tie.Need-returns-5
 returns-5 c = search needs
 
--- src/addresses.rt:25:1
 returns-6 : tie.Need-returns-6
 returns-6 c = search needs
 

@@ -1,45 +1,35 @@
-use mathlib.Core.Path.{_≡_, refl, sym, ap, _∙_}
+use mathlib.Core.Path.{sym, ap}
 use Rattle.rules.specs.Needs as rule
-use Rattle.needs.specs.Kinds.{kindOf, addressOf, needOf}
+use Rattle.needs.specs.Kinds.{needOf}
 use Rattle.needs.specs.declared.Need.{Need}
 use borrow.Author.Needs.{needs}
 use Rattle.needs.proofs.any.addr.Statement.{statement}
 use Rattle.needs.proofs.any.addr.Tie as tie
-use Rattle.needs.proofs.any.addr.Reads as reads
-use Rattle.needs.proofs.any.addr.Lts as lts
 
--- src/any.rt:49:23
 enum-known-need : tie.Need-enum-known-need
 enum-known-need c = search needs
 
--- src/any.rt:50:27
 enum-told : tie.Need-enum-told
 enum-told c = search needs
 
--- src/any.rt:51:25
 enum-told-2 : tie.Need-enum-told-2
 enum-told-2 c = search needs
 
--- src/any.rt:52:24
 enum-told-3 : tie.Need-enum-told-3
 enum-told-3 c = search needs
 
--- src/any.rt:45:1
 returns : tie.Need-returns
 unfolding rule.addrOf
 returns c = sym (ap (λ (d : Need). rule.addrOf (needOf d)) (c .before .need .given .1))
 
--- src/any.rt:45:1
 returns-2 : tie.Need-returns-2
 unfolding rule.addrOf
 returns-2 c = sym (ap (λ (d : Need). rule.addrOf (needOf d)) (c .enum-told .given .1))
 
--- src/any.rt:45:1
 returns-3 : tie.Need-returns-3
 unfolding rule.addrOf
 returns-3 c = sym (ap (λ (d : Need). rule.addrOf (needOf d)) (c .enum-told2 .given .1))
 
--- src/any.rt:45:1
 returns-4 : tie.Need-returns-4
 unfolding rule.addrOf
 returns-4 c = sym (ap (λ (d : Need). rule.addrOf (needOf d)) (c .enum-told3 .given .1))

@@ -6,7 +6,7 @@ use Rattle.rules.specs.Slots.{edition1}
 use Rattle.rules.specs.Needs as rule
 use Rattle.scopes.specs.View.{view, idOf}
 use Rattle.needs.specs.Kinds.{needOf}
-use Rattle.needs.specs.Answers.{SeenBoth, addressSays, toldBoth, allocatedSlot}
+use Rattle.needs.specs.Answers.{addressSays, toldBoth, allocatedSlot}
 use Rattle.needs.specs.declared.Need.{Need}
 use Rattle.needs.specs.declared.AddressAnswer.{AddressAnswer}
 use Rattle.needs.proofs.Replies.{answered}
@@ -14,44 +14,31 @@ use Rattle.needs.proofs.Asks.{served, served-told}
 use borrow.Author.Needs.{needs}
 use Rattle.needs.proofs.any.allocate.Statement.{statement}
 use Rattle.needs.proofs.any.allocate.Tie as tie
-use Rattle.needs.proofs.any.allocate.Reads as reads
-use Rattle.needs.proofs.any.allocate.Lts as lts
-use Rattle.needs.proofs.addresses.alloc_in.Reads as alloc-in-reads
-use Rattle.needs.proofs.addresses.allocated.Reads as allocated-reads
 
--- src/any.rt:155:21
 enum-known-need : tie.Need-enum-known-need
 enum-known-need c = search needs
 
--- src/any.rt:156:17
 alloc-in-requires : tie.Need-alloc-in-requires
 alloc-in-requires c κs = search needs
 
--- src/any.rt:160:36
 enum-known-answer : tie.Need-enum-known-answer
 enum-known-answer c = search needs
 
--- src/any.rt:168:40
 enum-known-answer-2 : tie.Need-enum-known-answer-2
 enum-known-answer-2 c = search needs
 
--- src/any.rt:175:23
 enum-known-need-2 : tie.Need-enum-known-need-2
 enum-known-need-2 c = search needs
 
--- src/any.rt:179:37
 allocated-requires : tie.Need-allocated-requires
 allocated-requires c κs = search needs
 
--- src/any.rt:186:21
 enum-told : tie.Need-enum-told
 enum-told c = search needs
 
--- src/any.rt:191:21
 enum-told-2 : tie.Need-enum-told-2
 enum-told-2 c = search needs
 
--- src/any.rt:150:1
 returns : tie.Need-returns
 returns c = (
   sym (ap (λ (a : AddressAnswer). served (rule.defer (idOf (c .before .before .before .before .before .before .before .need .given .0 .0))) (answered (view (c .before .before .before .before .before .alloc-in .result .state)) (addressSays a))) (c .before .before .answer .given .1))
@@ -61,7 +48,6 @@ returns c = (
   c .before .before .before .before .before .alloc-in .ensures .1,
 )
 
--- src/any.rt:150:1
 returns-2 : tie.Need-returns-2
 returns-2 c = (
   sym (ap (λ (a : AddressAnswer). served (rule.defer (idOf (c .before .before .before .before .before .before .need .given .0 .0))) (answered (view (c .before .before .before .before .alloc-in .result .state)) (addressSays a))) (c .before .answer2 .given .1))
@@ -71,7 +57,6 @@ returns-2 c = (
   c .before .before .before .before .alloc-in .ensures .1,
 )
 
--- src/any.rt:150:1
 returns-3 : tie.Need-returns-3
 unfolding rule.allocateNeed
 returns-3 c = (
@@ -80,12 +65,10 @@ returns-3 c = (
   c .before .before .before .before .before .pre,
 )
 
--- src/any.rt:150:1
 returns-4 : tie.Need-returns-4
 unfolding rule.allocateNeed
 returns-4 c = (rw (c .enum-told .given .1), c .before .before .pre)
 
--- src/any.rt:150:1
 returns-5 : tie.Need-returns-5
 unfolding rule.allocateNeed
 returns-5 c = (rw (c .enum-told2 .given .1), c .before .before .pre)

@@ -1,30 +1,22 @@
-use mathlib.Core.Path.{sym, ap, _∙_}
+use mathlib.Core.Path.{ap, _∙_}
 use Rattle.rules.specs.Notation.{Answer}
 use Rattle.rules.specs.Sizes.{base}
 use Rattle.rules.specs.Slots.{edition1}
 use Rattle.rules.specs.Needs as rule
 use Rattle.scopes.specs.View.{view}
 use Rattle.needs.specs.Kinds.{needOf}
-use Rattle.needs.specs.Answers.{SeenBoth, outputSays}
-use Rattle.needs.specs.declared.OutputAnswer.{OutputAnswer}
+use Rattle.needs.specs.Answers.{outputSays}
 use Rattle.needs.proofs.Asks.{output-says, outputSeen, output-told}
 use borrow.Author.Needs.{needs}
 use Rattle.needs.proofs.any.allocate_output.Statement.{statement}
 use Rattle.needs.proofs.any.allocate_output.Tie as tie
-use Rattle.needs.proofs.any.allocate_output.Reads as reads
-use Rattle.needs.proofs.any.allocate_output.Lts as lts
-use Rattle.needs.proofs.any.allocate.Reads as allocate-reads
-use Rattle.needs.proofs.any.as_output.Reads as as-output-reads
 
--- src/any.rt:211:9
 allocate-requires : tie.Need-allocate-requires
 allocate-requires c κs = search needs
 
--- src/any.rt:218:17
 as-output-requires : tie.Need-as-output-requires
 as-output-requires c κs = search needs
 
--- src/any.rt:207:1
 returns : tie.Need-returns
 returns c = (
   ap (λ (a : Answer rule.Output). record { next = view (c .before .before .allocate .result .state); need = needOf (c .before .before .allocate .result .need); says = a }) (ap outputSays (c .as-output .ensures) ∙ output-says (c .before .before .allocate .result .answer))

@@ -3,30 +3,22 @@ use Rattle.needs.specs.Leaves.{outputFrom}
 use borrow.Author.Needs.{needs}
 use Rattle.needs.proofs.any.as_output.Statement.{statement}
 use Rattle.needs.proofs.any.as_output.Tie as tie
-use Rattle.needs.proofs.any.as_output.Reads as reads
-use Rattle.needs.proofs.any.as_output.Lts as lts
 
--- src/any.rt:200:24
 enum-known-answer : tie.Need-enum-known-answer
 enum-known-answer c = search needs
 
--- src/any.rt:201:32
 enum-told : tie.Need-enum-told
 enum-told c = search needs
 
--- src/any.rt:202:29
 enum-known-answer-2 : tie.Need-enum-known-answer-2
 enum-known-answer-2 c = search needs
 
--- src/any.rt:196:1
 returns : tie.Need-returns
 returns c = sym (ap outputFrom (c .before .answer .given .1))
 
--- src/any.rt:196:1
 returns-2 : tie.Need-returns-2
 returns-2 c = search needs
 
--- src/any.rt:196:1
 returns-3 : tie.Need-returns-3
 returns-3 c = sym (ap outputFrom (c .before .answer2 .given .1))
 

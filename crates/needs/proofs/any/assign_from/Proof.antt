@@ -6,44 +6,33 @@ use Rattle.needs.proofs.Asks.{assign-same, assign-other}
 use borrow.Author.Needs.{needs}
 use Rattle.needs.proofs.any.assign_from.Statement.{statement}
 use Rattle.needs.proofs.any.assign_from.Tie as tie
-use Rattle.needs.proofs.any.assign_from.Reads as reads
-use Rattle.needs.proofs.any.assign_from.Lts as lts
 
--- src/any.rt:118:23
 enum-told : tie.Need-enum-told
 enum-told c = search needs
 
--- src/any.rt:122:23
 enum-known-need : tie.Need-enum-known-need
 enum-known-need c = search needs
 
--- src/any.rt:138:19
 enum-told-2 : tie.Need-enum-told-2
 enum-told-2 c = search needs
 
--- src/any.rt:142:19
 enum-told-3 : tie.Need-enum-told-3
 enum-told-3 c = search needs
 
--- src/any.rt:111:1
 returns : tie.Need-returns
 unfolding rule.assignFrom
 returns c = sym (ap (λ (d : Need). rule.assignFrom (c .before .before .args .x .0) (needOf d)) (c .enum-told .given .1))
 
--- src/any.rt:111:1
 returns-2 : tie.Need-returns-2
 returns-2 c = assign-same _ _ (c .if1 .taken) ∙ sym (ap (λ (d : Need). rule.assignFrom (c .before .before .before .before .before .before .before .args .x .0) (needOf d)) (c .before .before .before .before .before .need .given .1))
 
--- src/any.rt:111:1
 returns-3 : tie.Need-returns-3
 returns-3 c = assign-other _ _ (c .if1 .left) ∙ sym (ap (λ (d : Need). rule.assignFrom (c .before .before .before .before .before .before .before .args .x .0) (needOf d)) (c .before .before .before .before .before .need .given .1))
 
--- src/any.rt:111:1
 returns-4 : tie.Need-returns-4
 unfolding rule.assignFrom
 returns-4 c = rw (c .enum-told2 .given .1)
 
--- src/any.rt:111:1
 returns-5 : tie.Need-returns-5
 unfolding rule.assignFrom
 returns-5 c = rw (c .enum-told3 .given .1)

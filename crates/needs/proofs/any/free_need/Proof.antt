@@ -11,52 +11,37 @@ use Rattle.needs.proofs.Asks.{rid, rid-told}
 use borrow.Author.Needs.{needs}
 use Rattle.needs.proofs.any.free_need.Statement.{statement}
 use Rattle.needs.proofs.any.free_need.Tie as tie
-use Rattle.needs.proofs.any.free_need.Reads as reads
-use Rattle.needs.proofs.any.free_need.Lts as lts
-use Rattle.needs.proofs.addresses.free.Reads as free-reads
-use Rattle.needs.proofs.any.freed.Reads as freed-reads
 
--- src/any.rt:226:23
 enum-known-need : tie.Need-enum-known-need
 enum-known-need c = search needs
 
--- src/any.rt:227:17
 free-requires : tie.Need-free-requires
 free-requires c κs = search needs
 
--- src/any.rt:233:27
 enum-told : tie.Need-enum-told
 enum-told c = search needs
 
--- src/any.rt:236:40
 enum-known-answer : tie.Need-enum-known-answer
 enum-known-answer c = search needs
 
--- src/any.rt:243:27
 enum-told-2 : tie.Need-enum-told-2
 enum-told-2 c = search needs
 
--- src/any.rt:243:27
 freed-requires : tie.Need-freed-requires
 freed-requires c κs = search needs
 
--- src/any.rt:244:25
 enum-told-3 : tie.Need-enum-told-3
 enum-told-3 c = search needs
 
--- src/any.rt:244:25
 freed-requires-2 : tie.Need-freed-requires-2
 freed-requires-2 c κs = search needs
 
--- src/any.rt:245:24
 enum-told-4 : tie.Need-enum-told-4
 enum-told-4 c = search needs
 
--- src/any.rt:245:24
 freed-requires-3 : tie.Need-freed-requires-3
 freed-requires-3 c κs = search needs
 
--- src/any.rt:221:1
 returns : tie.Need-returns
 returns c = (
   sym (ap (λ (a : AddressAnswer). rid (rule.at (addressOf (c .before .before .before .before .before .need .given .0 .0))) (answered (view (c .before .before .before .free .result .state)) (addressSays a))) (c .enum-told .given .1))
@@ -66,7 +51,6 @@ returns c = (
   c .before .before .before .free .ensures .1,
 )
 
--- src/any.rt:221:1
 returns-2 : tie.Need-returns-2
 returns-2 c = (
   sym (ap (λ (a : AddressAnswer). rid (rule.at (addressOf (c .before .before .before .before .before .before .need .given .0 .0))) (answered (view (c .before .before .before .before .free .result .state)) (addressSays a))) (c .before .answer .given .1))
@@ -76,17 +60,14 @@ returns-2 c = (
   c .before .before .before .before .free .ensures .1,
 )
 
--- src/any.rt:221:1
 returns-3 : tie.Need-returns-3
 unfolding rule.freeNeed
 returns-3 c = (c .freed .ensures .0 ∙ sym (ap (λ (d : Need). toldBoth freedNeed (view (c .before .before .before .args .s)) (needOf d) (rule.freeNeed (needOf d) (view (c .before .before .before .args .s)))) (c .before .enum-told2 .given .1)), subst⁻¹ Sound (c .freed .ensures .1) (c .before .before .before .pre))
 
--- src/any.rt:221:1
 returns-4 : tie.Need-returns-4
 unfolding rule.freeNeed
 returns-4 c = (c .freed2 .ensures .0 ∙ sym (ap (λ (d : Need). toldBoth freedNeed (view (c .before .before .before .args .s)) (needOf d) (rule.freeNeed (needOf d) (view (c .before .before .before .args .s)))) (c .before .enum-told3 .given .1)), subst⁻¹ Sound (c .freed2 .ensures .1) (c .before .before .before .pre))
 
--- src/any.rt:221:1
 returns-5 : tie.Need-returns-5
 unfolding rule.freeNeed
 returns-5 c = (c .freed3 .ensures .0 ∙ sym (ap (λ (d : Need). toldBoth freedNeed (view (c .before .before .before .args .s)) (needOf d) (rule.freeNeed (needOf d) (view (c .before .before .before .args .s)))) (c .before .enum-told4 .given .1)), subst⁻¹ Sound (c .freed3 .ensures .1) (c .before .before .before .pre))

@@ -6,20 +6,14 @@ use Rattle.needs.proofs.Runs.{forget-kind, forget-empty}
 use borrow.Author.Needs.{needs}
 use Rattle.needs.proofs.linear.forget_run.Statement.{statement}
 use Rattle.needs.proofs.linear.forget_run.Tie as tie
-use Rattle.needs.proofs.linear.forget_run.Reads as reads
-use Rattle.needs.proofs.linear.forget_run.Lts as lts
-use Rattle.needs.proofs.linear.empty.Reads as empty-reads
 
--- src/linear.rt:80:9
 empty-requires : tie.Need-empty-requires
 empty-requires c κs = search needs
 
--- src/linear.rt:80:9
 returns : tie.Need-returns
 unfolding rule.forgetRun run
 returns c = (ap runOf (c .empty .ensures) ∙ forget-empty (kindOf (c .before .before .before .args .run .kind)) (c .before .before .before .args .run .first .0) (c .before .before .before .args .run .count) (c .before .if1 .taken), λ z. c .empty .ensures)
 
--- src/linear.rt:76:1
 returns-2 : tie.Need-returns-2
 unfolding rule.forgetRun
 returns-2 c = (forget-kind (kindOf (c .before .before .before .args .run .kind)) (run (c .before .before .before .args .run .first .0) (c .before .before .before .args .run .count)), λ z. absurd (c .before .if1 .left z))

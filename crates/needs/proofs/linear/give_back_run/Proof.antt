@@ -1,7 +1,6 @@
 use mathlib.Core.Path.{_≡_, refl, sym, ap, _∙_}
-use Prim.Native.Nat.{ℕ, suc, _+_, _-_, _≤_}
+use Prim.Native.Nat.{_-_, _≤_}
 use borrow.Author.Tests.{not-true, not-false}
-use Rattle.rules.specs.Needs as rule
 use Rattle.scopes.specs.View.{view, toldOnly}
 use Rattle.scopes.specs.Sound.{Sound}
 use Rattle.needs.specs.Leaves.{downFrom, backEach}
@@ -10,10 +9,6 @@ use borrow.Author.Needs.{needs}
 use native.Mathlib.Omega.{arith}
 use Rattle.needs.proofs.linear.give_back_run.Statement.{statement}
 use Rattle.needs.proofs.linear.give_back_run.Tie as tie
-use Rattle.needs.proofs.linear.give_back_run.Reads as reads
-use Rattle.needs.proofs.linear.give_back_run.Lts as lts
-use Rattle.needs.proofs.addresses.is_done.Reads as is-done-reads
-use Rattle.scopes.proofs.place.give_back.Reads as give-back-reads
 
 abbrev Inv-loop : tie.InvT-loop
 Inv-loop s first count dangles t₀ i₀ t i = (i ≤ count) × Sound t × (backEach dangles (downFrom first i) (view t) ≡ backEach dangles (downFrom first count) (view s))
@@ -21,31 +16,24 @@ Inv-loop s first count dangles t₀ i₀ t i = (i ≤ count) × Sound t × (back
 abbrev μ-loop : tie.MeasureT-loop
 μ-loop s first count dangles t₀ i₀ t i = i
 
--- src/linear.rt:103:5
 loop-holds : tie.Need-loop-holds Inv-loop μ-loop
 loop-holds c = (search needs, c .pre .0, refl)
 
--- src/linear.rt:104:9
 sub-i : tie.Need-sub-i Inv-loop μ-loop
 sub-i c = search needs
 
--- src/linear.rt:105:50
 add-t10 : tie.Need-add-t10 Inv-loop μ-loop
 add-t10 c = omega (arith, c .before .before .pre .1, c .before .loop .inv .0)
 
--- src/linear.rt:105:49
 cast-t11 : tie.Need-cast-t11 Inv-loop μ-loop
 cast-t11 c = omega (arith, c .before .before .pre .1, c .before .loop .inv .0)
 
--- src/linear.rt:105:13
 give-back-requires : tie.Need-give-back-requires Inv-loop μ-loop
 give-back-requires c κs = c .before .loop .inv .1
 
--- src/linear.rt:108:13
 is-done-requires : tie.Need-is-done-requires Inv-loop μ-loop
 is-done-requires c κs = search needs
 
--- src/linear.rt:109:13
 returns : tie.Need-returns Inv-loop μ-loop
 returns c = (
   turn-refused (backEach (c .before .before .before .before .before .before .args .dangles) (downFrom (c .before .before .before .before .before .before .args .first) ((c .before .before .before .before .before .loop .i) - 1))) _ _ _ (view (c .before .before .before .before .before .before .args .s)) _ _ (sym (c .before .is-done .ensures) ∙ not-true _ (c .if1 .taken)) (c .before .before .before .give-back .ensures .0)
@@ -53,11 +41,9 @@ returns c = (
   c .before .before .before .before .before .before .pre .0,
 )
 
--- src/linear.rt:103:5
 loop-less : tie.Need-loop-less Inv-loop μ-loop
 loop-less c = search needs
 
--- src/linear.rt:103:5
 loop-again : tie.Need-loop-again Inv-loop μ-loop
 loop-again c = (
   omega arith,
@@ -66,7 +52,6 @@ loop-again c = (
       ∙ sym (down-step (c .before .before .before .before .before .before .args .dangles) (c .before .before .before .before .before .before .args .first) (c .before .before .before .before .before .loop .i) ((c .before .before .before .before .before .loop .i) - 1) (view (c .before .before .before .before .before .loop .t)) (omega arith)) ∙ c .before .before .before .before .before .loop .inv .2,
 )
 
--- src/linear.rt:97:1
 returns-2 : tie.Need-returns-2 Inv-loop μ-loop
 returns-2 c = (ap (toldOnly (view (c .before .before .args .s))) (sym (down-none (c .before .before .args .dangles) (c .before .before .args .first) (c .before .loop .i) (view (c .before .loop .t)) (omega arith)) ∙ c .before .loop .inv .2), c .before .loop .inv .1)
 

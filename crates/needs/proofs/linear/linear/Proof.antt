@@ -1,4 +1,4 @@
-use mathlib.Core.Path.{sym, ap, subst⁻¹, _∙_}
+use mathlib.Core.Path.{ap, subst⁻¹, _∙_}
 use Rattle.scopes.specs.View.{view}
 use Rattle.needs.specs.Answers.{runSays, PlainRun}
 use Rattle.needs.specs.declared.RunAnswer.{RunAnswer}
@@ -6,20 +6,13 @@ use Rattle.needs.proofs.Replies.{answered, ranged-told, ranged-plain}
 use borrow.Author.Needs.{needs}
 use Rattle.needs.proofs.linear.linear.Statement.{statement}
 use Rattle.needs.proofs.linear.linear.Tie as tie
-use Rattle.needs.proofs.linear.linear.Reads as reads
-use Rattle.needs.proofs.linear.linear.Lts as lts
-use Rattle.needs.proofs.linear.ranged.Reads as ranged-reads
-use Rattle.scopes.proofs.place.alloc_run.Reads as alloc-run-reads
 
--- src/linear.rt:66:9
 alloc-run-requires : tie.Need-alloc-run-requires
 alloc-run-requires c κs = search needs
 
--- src/linear.rt:71:17
 ranged-requires : tie.Need-ranged-requires
 ranged-requires c κs = search needs
 
--- src/linear.rt:62:1
 returns : tie.Need-returns
 returns c = (
   ap (λ (a : RunAnswer). answered (view (c .before .before .alloc-run .result .state)) (runSays a)) (c .ranged .ensures) ∙ ranged-told _ _ _ _ _ (c .before .before .alloc-run .ensures .0),

@@ -1,69 +1,50 @@
 use mathlib.Core.Path.{sym, ap, _∙_}
 use Rattle.needs.specs.Leaves.{ranged}
 use Rattle.needs.specs.declared.AddressKind.{AddressKind}
-use Rattle.needs.specs.declared.Run.{Run}
 use Rattle.needs.specs.declared.RunAnswer.the-variants.{Got}
 use borrow.Author.Needs.{needs}
 use Rattle.needs.proofs.linear.ranged.Statement.{statement}
 use Rattle.needs.proofs.linear.ranged.Tie as tie
-use Rattle.needs.proofs.linear.ranged.Reads as reads
-use Rattle.needs.proofs.linear.ranged.Lts as lts
-use Rattle.needs.proofs.linear.empty.Reads as empty-reads
-use Rattle.needs.proofs.linear.run_kind.Reads as run-kind-reads
 
--- src/linear.rt:48:19
 enum-known-reply : tie.Need-enum-known-reply
 enum-known-reply c = search needs
 
--- src/linear.rt:51:19
 run-kind-requires : tie.Need-run-kind-requires
 run-kind-requires c κs = search needs
 
--- src/linear.rt:53:40
 enum-told : tie.Need-enum-told
 enum-told c = search needs
 
--- src/linear.rt:53:40
 empty-requires : tie.Need-empty-requires
 empty-requires c κs = search needs
 
--- src/linear.rt:54:24
 enum-known-reply-2 : tie.Need-enum-known-reply-2
 enum-known-reply-2 c = search needs
 
--- src/linear.rt:55:24
 enum-told-2 : tie.Need-enum-told-2
 enum-told-2 c = search needs
 
--- src/linear.rt:56:29
 enum-told-3 : tie.Need-enum-told-3
 enum-told-3 c = search needs
 
--- src/linear.rt:57:28
 enum-told-4 : tie.Need-enum-told-4
 enum-told-4 c = search needs
 
--- src/linear.rt:44:1
 returns : tie.Need-returns
 returns c = ap (λ (k : AddressKind). Got (record { first = c .before .before .reply .given .0 .0; count = c .before .before .before .before .args .n; kind = k })) (c .run-kind .ensures) ∙ sym (ap (ranged _) (c .before .before .reply .given .1))
 
--- src/linear.rt:44:1
 returns-2 : tie.Need-returns-2
 returns-2 c = ap Got (c .empty .ensures) ∙ sym (ap (ranged _) (c .before .enum-told .given .1))
 
--- src/linear.rt:44:1
 returns-3 : tie.Need-returns-3
 returns-3 c = sym (ap (ranged _) (c .before .reply2 .given .1))
 
--- src/linear.rt:44:1
 returns-4 : tie.Need-returns-4
 returns-4 c = search needs
 
--- src/linear.rt:44:1
 returns-5 : tie.Need-returns-5
 returns-5 c = search needs
 
--- src/linear.rt:44:1
 returns-6 : tie.Need-returns-6
 returns-6 c = search needs
 

@@ -4,14 +4,10 @@ use borrow.Author.Tests.{eq-eqb, ne-eqb}
 use Rattle.needs.specs.declared.AddressKind.the-variants.{Local, Dangling}
 use Rattle.needs.proofs.linear.run_kind.Statement.{statement}
 use Rattle.needs.proofs.linear.run_kind.Tie as tie
-use Rattle.needs.proofs.linear.run_kind.Reads as reads
-use Rattle.needs.proofs.linear.run_kind.Lts as lts
 
--- src/linear.rt:34:1
 returns : tie.Need-returns
 returns c = sym (ap (λ (b : Bool). elim b [ true ↦ Local | false ↦ Dangling ]) (eq-eqb _ 1 (c .if1 .taken)))
 
--- src/linear.rt:34:1
 returns-2 : tie.Need-returns-2
 returns-2 c = sym (ap (λ (b : Bool). elim b [ true ↦ Local | false ↦ Dangling ]) (ne-eqb _ 1 (c .if1 .left)))
 
