@@ -149,7 +149,7 @@ pub fn goes_back(number: &[u32; 64], top: usize, kind: AddressKind) -> bool
     match kind {
         AddressKind::Local => true,
         AddressKind::Dangling => true,
-        AddressKind::Assigned => false,
+        AddressKind::Assigned => false, // the slot is another's
         AddressKind::Freed => false,
         AddressKind::Scope(id) => is_top(number, top, id),
     }
@@ -194,6 +194,6 @@ pub fn forget(a: Address) -> Address
     let slot = a.slot;
     Address {
         slot,
-        kind: AddressKind::Freed,
+        kind: AddressKind::Freed, // and nothing goes back
     }
 }

@@ -59,7 +59,7 @@ pub fn into_addr(need: Need) -> Taken
 {
     match need {
         Need::Address(a) => Taken {
-            need: Need::Freed,
+            need: Need::Freed, // its address has left it
             answer: AddressAnswer::Got(a),
         },
         Need::Defer(_) => Taken {
@@ -155,7 +155,7 @@ pub fn allocate(s: Scopes, need: Need) -> SlotOutcome
                 }
                 AddressAnswer::Refused(n) => SlotOutcome {
                     state: t,
-                    need,
+                    need, // still deferred
                     answer: SlotAnswer::Refused(n),
                 },
             }
@@ -230,12 +230,12 @@ pub fn free_need(s: Scopes, need: Need) -> FreeOutcome
             match answer {
                 AddressAnswer::Got(_) => FreeOutcome {
                     state: t,
-                    need: Need::Freed,
+                    need: Need::Freed, // whatever its kind was
                     answer: FreeAnswer::Done,
                 },
                 AddressAnswer::Refused(n) => FreeOutcome {
                     state: t,
-                    need,
+                    need, // still to be freed
                     answer: FreeAnswer::Refused(n),
                 },
             }
