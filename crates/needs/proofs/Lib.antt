@@ -4,3 +4,4 @@ pub mod Frees
 pub mod Runs
 pub mod Asks
 pub mod Rounds
+pub mod Unique
