@@ -77,15 +77,15 @@ module _ (dangles : Bool) (k : rule.Kind) (a n : ℕ) (c : Scopes) where
   pub run-back : rule.isFreed k ≡ false → rule.goesBack c k ≡ true → rule.freeRun dangles (addresses k a n) c ≡ (backEach dangles (downFrom a n) c >>= freedRun)
   run-back e g = freed-each _ (each-back dangles k (downFrom a n) c e g)
 
-  -- the last address goes first, and is refused
-  pub run-last-refused : (z : ℕ) → (n ≡ 0 → ⊥) → rule.isFreed k ≡ false → rule.goesBack c k ≡ true → rule.giveBack dangles (a + (n - 1)) c ≡ refused z
-      → rule.freeRun dangles (addresses k a n) c ≡ refused z
-  unfolding _>>=_
-  run-last-refused z p e g r =
-      run-back e g
-      ∙ ap (λ (m : Answer Scopes). m >>= freedRun) (down-step dangles a n (n - 1) c (some-more p) ∙ ap (λ (m : Answer Scopes). m >>= backEach dangles (downFrom a (n - 1))) r)
+-- ---- of a sound state
 
--- ---- the same, as it is told of a sound state
+-- the last address goes first, and is no slot
+pub far-refused : (s : declared.Scopes) → Sound s → (dangles : Bool) (a n : ℕ) → a < 65536 → 65536 < a + n → refused 12 ≡ backEach dangles (downFrom a n) (view s)
+unfolding _>>=_
+far-refused s sound dangles a n l h =
+    sym
+    (down-step dangles a n (n - 1) (view s) (omega arith)
+    ∙ ap (λ (m : Answer Scopes). m >>= backEach dangles (downFrom a (n - 1))) (no-slot s sound dangles (a + (n - 1)) (omega arith)))
 
 module _ (s : declared.Scopes) (sound : Sound s) (dangles : Bool) (r : Run) where
   -- what freeing the run tells
@@ -103,11 +103,6 @@ module _ (s : declared.Scopes) (sound : Sound s) (dangles : Bool) (r : Run) wher
   told-kept e g = sym (ap (told (view s)) (run-kept dangles (kindOf (r .kind)) (r .first .0) (r .count) (view s) e (sym (back-from s sound (r .kind)) ∙ g)))
 
   module _ (e : rule.isFreed (kindOf (r .kind)) ≡ false) (g : backFrom (s .number) (s .top) (r .kind) ≡ true) where
-    pub told-far : (r .count ≡ 0 → ⊥) → 65536 < r .first .0 + r .count → answered (view s) (refused 12) ≡ runTold
-    told-far z h =
-        sym (ap (told (view s)) (run-last-refused dangles (kindOf (r .kind)) (r .first .0) (r .count) (view s) 12 z e (sym (back-from s sound (r .kind)) ∙ g)
-        (no-slot s sound dangles (r .first .0 + (r .count - 1)) (omega (arith, z)))))
-
     back-each : told (view s) (backEach dangles (downFrom (r .first .0) (r .count)) (view s) >>= λ d. given (rule.forgetRun (runOf r), d)) ≡ runTold
     back-each = sym (ap (told (view s)) (run-back dangles (kindOf (r .kind)) (r .first .0) (r .count) (view s) e (sym (back-from s sound (r .kind)) ∙ g)))
 

@@ -3,6 +3,8 @@ use mathlib.Core.Option.{Option, none, some}
 use mathlib.Core.List.{List}
 use Prim.Native.Nat.{ℕ}
 use Rattle.rules.specs.Notation.{Answer, given, refused}
+use Rattle.rules.specs.Sizes.{base}
+use Rattle.rules.specs.Slots.{edition1}
 use Rattle.rules.specs.Scopes.{Scopes}
 use Rattle.rules.specs.Needs as rule
 use Rattle.scopes.specs.View.{view}
@@ -129,3 +131,13 @@ allocatedOutput x = record { next = x .scopes; need = x .need; says = given (rul
 
 abbrev pub freedNeed : rule.Need × Scopes → SeenBoth (Unit {0})
 freedNeed x = record { next = x .1; need = x .0; says = given tt }
+
+-- what each operation on a state and a need does and says
+abbrev pub allocation : rule.Need → Scopes → SeenBoth (Option ℕ)
+allocation d c = toldBoth allocatedSlot c d (rule.allocateNeed base (edition1 (base .segments)) d c)
+
+abbrev pub outputAllocation : rule.Need → Scopes → SeenBoth rule.Output
+outputAllocation d c = toldBoth allocatedOutput c d (rule.allocateNeed base (edition1 (base .segments)) d c)
+
+abbrev pub freeing : rule.Need → Scopes → SeenBoth (Unit {0})
+freeing d c = toldBoth freedNeed c d (rule.freeNeed d c)

@@ -16,7 +16,6 @@ use scopes::Reply;
 use scopes::ScopeId;
 use scopes::Scopes;
 use scopes::place;
-use slots::SlotAddress;
 
 // ---- what is made of a reply
 

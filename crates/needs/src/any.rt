@@ -1,13 +1,11 @@
 // A need (`Any` in the original): a scope in which an address is still to be allocated, an address, nothing wanted, or freed.
 ghost use mathlib.Core.Path.{_≡_};
-ghost use Rattle.rules.specs.Sizes.{base};
-ghost use Rattle.rules.specs.Slots.{edition1};
 ghost use Rattle.rules.specs.Needs as rule;
-ghost use Rattle.scopes.specs.View.{view};
+ghost use Rattle.scopes.specs.View.{view, idOf};
 ghost use Rattle.scopes.specs.Sound.{Sound};
 ghost use Rattle.needs.specs.Kinds.{needOf};
 ghost use Rattle.needs.specs.Leaves.{outputFrom};
-ghost use Rattle.needs.specs.Answers.{outputSays, addressSays, triedSays, toldNeed, seenTaken, seenAssigned, toldBoth, seenSlot, seenOutput, seenFree, allocatedSlot, allocatedOutput, freedNeed};
+ghost use Rattle.needs.specs.Answers.{outputSays, addressSays, triedSays, toldNeed, seenTaken, seenAssigned, seenSlot, seenOutput, seenFree, allocation, outputAllocation, freeing, freedNeed};
 use crate::Address;
 use crate::AddressAnswer;
 use crate::AddressKind;
@@ -23,6 +21,7 @@ use crate::SlotOutcome;
 use crate::Taken;
 use crate::TriedAnswer;
 use crate::addresses;
+use scopes::ScopeId;
 use scopes::Scopes;
 use slots::SlotAddress;
 
@@ -134,32 +133,38 @@ pub fn assign_from(need: Need, x: SlotAddress) -> Assignment
 
 // ---- on a state
 
+// An address for a deferred need, on behalf of its scope; a refusal leaves it deferred.
+fn deferred(s: Scopes, id: ScopeId) -> SlotOutcome
+    requires { ⌜ Sound s ⌝ }
+    ensures { λ r. ⌜ (seenSlot r ≡ allocation (rule.defer (idOf id)) (view s)) × Sound (r .state) ⌝ }
+{
+    let o = addresses::alloc_in(s, id);
+    let t = o.state;
+    let answer = o.answer;
+    match answer {
+        AddressAnswer::Got(a) => {
+            let slot = a.slot;
+            SlotOutcome {
+                state: t,
+                need: Need::Address(a),
+                answer: SlotAnswer::At(slot),
+            }
+        }
+        AddressAnswer::Refused(n) => SlotOutcome {
+            state: t,
+            need: Need::Defer(id),
+            answer: SlotAnswer::Refused(n),
+        },
+    }
+}
+
 // 4, 7.
 pub fn allocate(s: Scopes, need: Need) -> SlotOutcome
     requires { ⌜ Sound s ⌝ }
-    ensures { λ r. ⌜ (seenSlot r ≡ toldBoth allocatedSlot (view s) (needOf need) (rule.allocateNeed base (edition1 (base .segments)) (needOf need) (view s))) × Sound (r .state) ⌝ }
+    ensures { λ r. ⌜ (seenSlot r ≡ allocation (needOf need) (view s)) × Sound (r .state) ⌝ }
 {
     match need {
-        Need::Defer(id) => {
-            let o = addresses::alloc_in(s, id);
-            let t = o.state;
-            let answer = o.answer;
-            match answer {
-                AddressAnswer::Got(a) => {
-                    let slot = a.slot;
-                    SlotOutcome {
-                        state: t,
-                        need: Need::Address(a),
-                        answer: SlotAnswer::At(slot),
-                    }
-                }
-                AddressAnswer::Refused(n) => SlotOutcome {
-                    state: t,
-                    need, // still deferred
-                    answer: SlotAnswer::Refused(n),
-                },
-            }
-        }
+        Need::Defer(id) => deferred(s, id),
         Need::Address(a) => {
             let slot = a.slot;
             SlotOutcome {
@@ -194,7 +199,7 @@ fn as_output(answer: SlotAnswer) -> OutputAnswer
 // As allocate; what has no address is discarded.
 pub fn allocate_output(s: Scopes, need: Need) -> OutputOutcome
     requires { ⌜ Sound s ⌝ }
-    ensures { λ r. ⌜ (seenOutput r ≡ toldBoth allocatedOutput (view s) (needOf need) (rule.allocateNeed base (edition1 (base .segments)) (needOf need) (view s))) × Sound (r .state) ⌝ }
+    ensures { λ r. ⌜ (seenOutput r ≡ outputAllocation (needOf need) (view s)) × Sound (r .state) ⌝ }
 {
     let o = allocate(s, need);
     let t = o.state;
@@ -220,7 +225,7 @@ fn freed(s: Scopes) -> FreeOutcome
 // 13, 12; a refusal leaves the need as it was.
 pub fn free_need(s: Scopes, need: Need) -> FreeOutcome
     requires { ⌜ Sound s ⌝ }
-    ensures { λ r. ⌜ (seenFree r ≡ toldBoth freedNeed (view s) (needOf need) (rule.freeNeed (needOf need) (view s))) × Sound (r .state) ⌝ }
+    ensures { λ r. ⌜ (seenFree r ≡ freeing (needOf need) (view s)) × Sound (r .state) ⌝ }
 {
     match need {
         Need::Address(a) => {

@@ -1,6 +1,6 @@
 // A run of addresses: allocated in one piece, freed last address first, forgotten.
 ghost use mathlib.Core.Path.{_≡_};
-ghost use Prim.Native.Nat.{_+_, _≤_};
+ghost use Prim.Native.Nat.{_<_};
 ghost use Rattle.rules.specs.Sizes.{base};
 ghost use Rattle.rules.specs.Slots.{edition1};
 ghost use Rattle.rules.specs.Needs as rule;
@@ -88,16 +88,23 @@ pub fn forget_run(run: Run) -> Run
 }
 
 fn wide(x: u16) -> usize
-    ensures { λ r. ⌜ r ≡ x ⌝ }
+    ensures { λ r. ⌜ (r ≡ x) × (r < 65536) ⌝ }
 {
     x as usize
 }
 
-// The slots go back, the last one first. On a refusal the state is the one that came in.
+// The slots go back, the last one first: where that one is past 65,535 it is no slot. On a refusal the state is the one that came in.
 fn give_back_run(s: Scopes, first: usize, count: usize, dangles: bool) -> Outcome
-    requires { ⌜ Sound s × (first + count ≤ 65536) ⌝ }
+    requires { ⌜ Sound s × (first < 65536) × (count < 65536) ⌝ }
     ensures { λ r. ⌜ (seen r ≡ toldOnly (view s) (backEach dangles (downFrom first count) (view s))) × Sound (r .state) ⌝ }
 {
+    if 65536 < first + count {
+        return Outcome {
+            state: s,
+            reply: Reply::Refused(12),
+        };
+    }
+    let before = s;
     let mut t = s;
     let mut i = count;
     while 0 < i {
@@ -106,7 +113,10 @@ fn give_back_run(s: Scopes, first: usize, count: usize, dangles: bool) -> Outcom
         t = o.state;
         let reply = o.reply;
         if !addresses::is_done(reply) {
-            return Outcome { state: s, reply };
+            return Outcome {
+                state: before,
+                reply,
+            };
         }
     }
     Outcome {
@@ -153,13 +163,6 @@ pub fn free_run(s: Scopes, run: Run, dangles: bool) -> RunOutcome
         return RunOutcome {
             state: s,
             answer: RunAnswer::Got(freed),
-        };
-    }
-    // its last address, which goes first, is no slot
-    if 65536 < first + count {
-        return RunOutcome {
-            state: s,
-            answer: RunAnswer::Refused(12),
         };
     }
     let o = give_back_run(s, first, count, dangles);
