@@ -104,7 +104,6 @@ fn give_back_run(s: Scopes, first: usize, count: usize, dangles: bool) -> Outcom
             reply: Reply::Refused(12),
         };
     }
-    let before = s;
     let mut t = s;
     let mut i = count;
     while 0 < i {
@@ -113,14 +112,11 @@ fn give_back_run(s: Scopes, first: usize, count: usize, dangles: bool) -> Outcom
         t = o.state;
         let reply = o.reply;
         if !addresses::is_done(reply) {
-            return Outcome {
-                state: before,
-                reply,
-            };
+            return Outcome { state: s, reply };
         }
     }
     Outcome {
-        state: t,
+        state: t, // all are back
         reply: Reply::Done,
     }
 }

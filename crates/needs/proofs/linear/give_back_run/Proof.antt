@@ -11,10 +11,10 @@ use Rattle.needs.proofs.linear.give_back_run.Statement.{statement}
 use Rattle.needs.proofs.linear.give_back_run.Tie as tie
 
 abbrev Inv-loop : tie.InvT-loop
-Inv-loop first count dangles before t₀ i₀ t i = (i ≤ count) × Sound t × (backEach dangles (downFrom first i) (view t) ≡ backEach dangles (downFrom first count) (view before))
+Inv-loop s first count dangles t₀ i₀ t i = (i ≤ count) × Sound t × (backEach dangles (downFrom first i) (view t) ≡ backEach dangles (downFrom first count) (view s))
 
 abbrev μ-loop : tie.MeasureT-loop
-μ-loop first count dangles before t₀ i₀ t i = i
+μ-loop s first count dangles t₀ i₀ t i = i
 
 add-if1 : tie.Need-add-if1 Inv-loop μ-loop
 add-if1 c = omega (arith, c .pre .1, c .pre .2)
