@@ -108,7 +108,8 @@ fn give_back_run(s: Scopes, first: usize, count: usize, dangles: bool) -> Outcom
     let mut i = count;
     while 0 < i {
         i -= 1;
-        let o = place::give_back(t, SlotAddress((first + i) as u16), dangles);
+        let a = (first + i) as u16;
+        let o = place::give_back(t, SlotAddress(a), dangles);
         t = o.state;
         let reply = o.reply;
         if !addresses::is_done(reply) {

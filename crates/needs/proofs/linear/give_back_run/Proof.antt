@@ -28,11 +28,11 @@ loop-holds c = (search needs, c .before .pre .0, refl)
 sub-i : tie.Need-sub-i Inv-loop μ-loop
 sub-i c = search needs
 
-add-t14 : tie.Need-add-t14 Inv-loop μ-loop
-add-t14 c = omega (arith, c .before .before .if1 .left, c .before .loop .inv .0)
+add-a : tie.Need-add-a Inv-loop μ-loop
+add-a c = omega (arith, c .before .before .if1 .left, c .before .loop .inv .0)
 
-cast-t15 : tie.Need-cast-t15 Inv-loop μ-loop
-cast-t15 c = omega (arith, c .before .before .if1 .left, c .before .loop .inv .0)
+cast-a : tie.Need-cast-a Inv-loop μ-loop
+cast-a c = omega (arith, c .before .before .if1 .left, c .before .loop .inv .0)
 
 give-back-requires : tie.Need-give-back-requires Inv-loop μ-loop
 give-back-requires c κs = c .before .loop .inv .1
@@ -71,8 +71,8 @@ give-back-run-spec =
     returns
     loop-holds
     sub-i
-    add-t14
-    cast-t15
+    add-a
+    cast-a
     give-back-requires
     is-done-requires
     returns-2
