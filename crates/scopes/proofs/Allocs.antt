@@ -22,11 +22,10 @@ use Rattle.slots.proofs.Finds.{clear-of}
 use Rattle.slots.proofs.Steps.{insert-within, insert-none, insert-some}
 use Rattle.links.specs.Links.{Held, leaves, gains}
 use Rattle.scopes.specs.View.{held, index, view, scopeOf, foundAt, at, atFirst, told}
-use Rattle.scopes.specs.Sound.{Slotted, Sound}
+use Rattle.scopes.specs.Sound.{Slotted, Sound, Sized}
 use Rattle.scopes.specs.declared.Scopes.{Scopes}
 use Rattle.scopes.specs.declared.Reply.the-variants.{Empty, Refused}
 use Rattle.scopes.proofs.Finds.{no-top, Topped, Known}
-use Rattle.scopes.proofs.Moves.{Sized}
 use Rattle.scopes.proofs.Places.{taken, at-64, live-is, sound}
 
 -- ---- the slots as the rules' test sees them

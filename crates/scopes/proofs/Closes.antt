@@ -21,12 +21,11 @@ use Rattle.links.specs.Links.{Held, Ring, nextIn, prevIn, leaves, gains}
 use Rattle.links.specs.Follow.{Ahead}
 use Rattle.links.proofs.Walks.{without-first}
 use Rattle.scopes.specs.View.{held, index, view, bindingsOf, scopeOf, foundAt}
-use Rattle.scopes.specs.Sound.{Sound, Leads, root, up, Each, BoundOnce}
+use Rattle.scopes.specs.Sound.{Sound, Leads, root, up, Each, BoundOnce, Sized}
 use Rattle.scopes.specs.Leaves.{NoChild}
 use Rattle.scopes.specs.declared.Scopes.{Scopes}
 use Rattle.scopes.proofs.Tables.{put-ext, put-again}
 use Rattle.scopes.proofs.Finds.{in-range}
-use Rattle.scopes.proofs.Moves.{Sized}
 use Rattle.scopes.proofs.Marks.{leads-live, parent-live}
 use Rattle.scopes.proofs.Frees.{released, removed, back-sound, back-live, back-lists}
 
@@ -127,8 +126,8 @@ module _ (i : ℕ) (t₀ t : Scopes) (a : ℕ) (hi : i < 64) (g : Closing i t₀
 
 -- ---- the scope goes
 
-abbrev pub gone : Scopes → ℕ → List ℕ → ℕ → Scopes
-gone t i bindings count =
+abbrev pub gone : Scopes → ℕ → List ℕ → ℕ → ℕ → Scopes
+gone t i bindings count top =
     record {
       halves = t .halves;
       links = t .links;
@@ -141,7 +140,7 @@ gone t i bindings count =
       count = count;
       segments = t .segments;
       head = t .head;
-      top = getD (t .parent) i 0;
+      top = top;
       counter = t .counter;
       size = t .size;
     }
@@ -176,19 +175,19 @@ module _ (live : List Bool) (parent : List ℕ) (i : ℕ) (nc : NoChild live par
 
 module _ (t : Scopes) (h : Sound t) (z : Sized t) (i : ℕ) (hi : i < 64) (li : getD (t .live) i false ≡ true) (nc : NoChild (t .live) (t .parent) i) (empty : held (t .links) i ≡ [])
     (bindings : List ℕ) (count : ℕ) (en : bindingsOf bindings count ≡ rule.unbound i (bindingsOf (t .bindings) (t .count))) (less : count ≤ t .count)
-    (clear : (j : ℕ) → count ≤ j → getD bindings j 0 ≡ 0) where
+    (clear : (j : ℕ) → count ≤ j → getD bindings j 0 ≡ 0) (top : ℕ) (et : top ≡ getD (t .parent) i 0) where
   off : getD (set (t .live) i false) i false ≡ false
   off = getD-set-same (t .live) i false false (omega (arith, z .live))
 
-  pub gone-is : view (gone t i bindings count) ≡ rule.closed (foundAt t i) (view t)
+  pub gone-is : view (gone t i bindings count top) ≡ rule.closed (foundAt t i) (view t)
   unfolding rule.closed removeAll addedAll
   gone-is =
-      let l : view (gone t i bindings count) .live ≡ put (view t .live) i none =
-      put-ext (view t .live) (view (gone t i bindings count) .live) i none (rw off)
+      let l : view (gone t i bindings count top) .live ≡ put (view t .live) i none =
+      put-ext (view t .live) (view (gone t i bindings count top) .live) i none (rw off)
       (λ j n. rw (getD-set-other (t .live) i j false false n, getD-set-other (t .dangled) i j false false n, getD-set-other (t .parent) i j 64 0 n, getD-set-other (t .number) i j 0 0 n)) in
       let s : view t .slots ≡ removeAll (held (t .links) i) (view t .slots) = sym (ap (λ (x : List ℕ). removeAll x (view t .slots)) empty) in
       let d : view t .dangling ≡ addedAll (held (t .links) i) (view t .dangling) = sym (ap (λ (x : List ℕ). addedAll x (view t .dangling)) empty) in
-      λ v. record { slots = s v; live = l v; top = index (getD (t .parent) i 0); counter = t .counter; bindings = en v; dangling = d v; size = t .size }
+      λ v. record { slots = s v; live = l v; top = index (et v); counter = t .counter; bindings = en v; dangling = d v; size = t .size }
 
   not-i : (a : ℕ) → a < 1024 → getD (t .owner) a 0 ≢ i
   unfolding member
@@ -197,14 +196,14 @@ module _ (t : Scopes) (h : Sound t) (z : Sized t) (i : ℕ) (hi : i < 64) (li : 
   still : (j : ℕ) → j ≢ i → getD (t .live) j false ≡ true → getD (set (t .live) i false) j false ≡ true
   still j n l = getD-set-other (t .live) i j false false n ∙ l
 
-  pub gone-sound : Sound (gone t i bindings count)
+  pub gone-sound : Sound (gone t i bindings count top)
   gone-sound =
       record {
         slotted = h .slotted;
         ringed = h .ringed;
         owned = record { taken = h .owned .taken; alive = λ a ha l. still _ (not-i a ha) (h .owned .alive a ha l); above = h .owned .above; most = h .owned .most };
         rooted = record {
-          topped = topped i refl (h .rooted .leads i li);
+          topped = rw et (topped i refl (h .rooted .leads i li));
           leads = λ j l. leads j l (ℕ-discrete j i);
           dead = λ j hj l. dead j hj l (ℕ-discrete j i);
           first = first (ℕ-discrete 0 i);

@@ -13,6 +13,7 @@ use lib.Dec.{eqb}
 use borrow.Author.Tests.{eq-eqb, ne-eqb}
 use Rattle.rules.specs.Scopes as rule
 use Rattle.scopes.specs.View.{binding, bindingsOf}
+use Rattle.scopes.specs.Leaves.{Wiped}
 
 abbrev unless : Bool → ℕ → List ℕ → List ℕ
 unless true x xs = xs
@@ -66,32 +67,26 @@ module _ (old : List ℕ) (count i : ℕ) (lo : length old ≡ 256) (hc : count 
         ahead = λ k l. h .ahead k (omega arith);
       }
 
--- n are kept, and those from there to w are cleared
-pub record Cleared (old : List ℕ) (count i n : ℕ) (new : List ℕ) (w : ℕ) : Type 0 where
-  pub long : length new ≡ 256
-  pub within : (n ≤ w) × (w ≤ count)
-  pub front : take n new ≡ kept i (take count old)
-  pub zeros : (k : ℕ) → n ≤ k → k < w → getD new k 0 ≡ 0
-  pub ahead : (k : ℕ) → count ≤ k → getD new k 0 ≡ getD old k 0
+-- ---- the places that are left over
 
-pub cleared-none : (old : List ℕ) (count i : ℕ) (new : List ℕ) (w j : ℕ) → count ≤ j → Passed old count i new w j → Cleared old count i w new w
-cleared-none old count i new w j l h =
-    let e : j ≡ count = omega (arith, h .within .1) in
-    record { long = h .long; within = (omega arith, omega (arith, h .within .0, h .within .1)); front = rw (← e) (h .front); zeros = λ k a b. absurd (omega arith); ahead = λ k a. h .ahead k (omega arith) }
+pub wiped-none : (old : List ℕ) (from : ℕ) → length old ≡ 256 → Wiped old from from old
+wiped-none old from l = record { long = l; front = refl; zeros = λ k a b. absurd (omega arith); ahead = λ k a. refl }
 
-pub cleared-more : (old : List ℕ) (count i n : ℕ) (new : List ℕ) (w : ℕ) → count ≤ 256 → w < count → Cleared old count i n new w → Cleared old count i n (set new w 0) (w + 1)
-cleared-more old count i n new w hc hw h =
+pub wiped-more : (old : List ℕ) (from w : ℕ) (new : List ℕ) → from ≤ w → w < 256 → Wiped old from w new → Wiped old from (w + 1) (set new w 0)
+wiped-more old from w new l hw h =
     record {
       long = length-set new w 0 ∙ h .long;
-      within = (omega (arith, h .within .0), omega arith);
-      front = take-set-le n new w 0 (h .within .0) ∙ h .front;
+      front = take-set-le from new w 0 l ∙ h .front;
       zeros = λ k a b. by-cases (ℕ-discrete k w) (λ e. rw (e, getD-set-same new w 0 0 (omega (arith, h .long)))) (λ q. getD-set-other new w k 0 0 q ∙ h .zeros k a (omega arith));
-      ahead = λ k a. getD-set-other new w k 0 0 (omega arith) ∙ h .ahead k a;
+      ahead = λ k a. getD-set-other new w k 0 0 (omega arith) ∙ h .ahead k (omega arith);
     }
 
-module _ (old : List ℕ) (count i n : ℕ) (new : List ℕ) (w : ℕ) (l : count ≤ w) (h : Cleared old count i n new w) where
-  pub bindings-left : bindingsOf new n ≡ rule.unbound i (bindingsOf old count)
-  bindings-left = ap (map binding) (h .front) ∙ kept-is i (take count old)
+-- all are passed, w are kept, and the places from there on are wiped
+module _ (old : List ℕ) (count i : ℕ) (new : List ℕ) (w j : ℕ) (l : count ≤ j) (h : Passed old count i new w j) (last : List ℕ) (g : Wiped new w count last) where
+  pub bindings-left : bindingsOf last w ≡ rule.unbound i (bindingsOf old count)
+  bindings-left =
+      let e : j ≡ count = omega (arith, h .within .1) in
+      ap (map binding) (g .front ∙ h .front ∙ ap (λ (k : ℕ). kept i (take k old)) e) ∙ kept-is i (take count old)
 
-  pub clear-left : ((j : ℕ) → count ≤ j → getD old j 0 ≡ 0) → (j : ℕ) → n ≤ j → getD new j 0 ≡ 0
-  clear-left c j a = by-cases (decLt j w) (λ b. h .zeros j a b) (λ b. h .ahead j (omega arith) ∙ c j (omega arith))
+  pub clear-left : ((k : ℕ) → count ≤ k → getD old k 0 ≡ 0) → (k : ℕ) → w ≤ k → getD last k 0 ≡ 0
+  clear-left c k a = by-cases (decLt k count) (λ b. g .zeros k a b) (λ b. g .ahead k (omega arith) ∙ h .ahead k (omega (arith, h .within .1)) ∙ c k (omega arith))

@@ -19,11 +19,11 @@ use Rattle.links.specs.Follow.{Ahead}
 use Rattle.links.proofs.Walks.{chains-lists, walk}
 use Rattle.links.proofs.Moves.{told-on, leaves-tells}
 use Rattle.scopes.specs.View.{held, index, view}
-use Rattle.scopes.specs.Sound.{Sound}
+use Rattle.scopes.specs.Sound.{Sound, Sized}
 use Rattle.scopes.specs.declared.Scopes.{Scopes}
 use Rattle.scopes.proofs.Tables.{put-nothing}
 use Rattle.scopes.proofs.Finds.{in-range}
-use Rattle.scopes.proofs.Moves.{Sized, owners, ringed, owned, scopes-other}
+use Rattle.scopes.proofs.Moves.{owners, ringed, owned, scopes-other}
 use Rattle.scopes.proofs.Closes.{Turn}
 
 abbrev pub lighter : Scopes → ℕ → List ℕ → Scopes

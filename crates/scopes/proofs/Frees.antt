@@ -22,11 +22,11 @@ use Rattle.links.specs.Links.{Held, On, leaves, gains}
 use Rattle.links.proofs.Walks.{chains-lists}
 use Rattle.links.proofs.Moves.{Tells, told-on, leaves-tells, places-tells}
 use Rattle.scopes.specs.View.{held, index, view, scopeOf, foundAt, toldOnly}
-use Rattle.scopes.specs.Sound.{Slotted, Ringed, Sound}
+use Rattle.scopes.specs.Sound.{Slotted, Ringed, Sound, Sized}
 use Rattle.scopes.specs.declared.Scopes.{Scopes}
 use Rattle.scopes.specs.declared.Reply.the-variants.{Done, Refused}
 use Rattle.scopes.proofs.Finds.{no-top, Topped, in-range}
-use Rattle.scopes.proofs.Moves.{Sized, owners, ringed, owned, scopes-put}
+use Rattle.scopes.proofs.Moves.{owners, ringed, owned, scopes-put}
 
 -- the state s with slot a clear, and on list o (65: on none)
 abbrev pub released : Scopes → ℕ → ℕ → List ℕ → List ℕ → Scopes

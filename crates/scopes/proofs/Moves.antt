@@ -20,19 +20,7 @@ use Rattle.links.proofs.Walks.{held-lists}
 use Rattle.links.proofs.Moves.{Tells, lists-tell}
 use Rattle.scopes.specs.View.{held, index, scopeAt, scopesFrom}
 use Rattle.scopes.specs.Sound.{Ringed, Owned}
-use Rattle.scopes.specs.declared.Scopes.{Scopes}
 use Rattle.scopes.proofs.Tables.{put-ext}
-
--- the lengths of the arrays
-pub record Sized (s : Scopes) : Type 0 where
-  pub halves : length (s .halves) ≡ 16
-  pub links : length (s .links) ≡ 2178
-  pub owner : length (s .owner) ≡ 1024
-  pub live : length (s .live) ≡ 64
-  pub dangled : length (s .dangled) ≡ 64
-  pub parent : length (s .parent) ≡ 64
-  pub number : length (s .number) ≡ 64
-  pub bindings : length (s .bindings) ≡ 256
 
 -- the owners as a table
 abbrev pub owners : List ℕ → ℕ → ℕ

@@ -18,10 +18,10 @@ use Rattle.links.specs.Links.{Held, leaves, gains}
 use Rattle.links.proofs.Walks.{chains-lists}
 use Rattle.links.proofs.Moves.{places-tells}
 use Rattle.scopes.specs.View.{held, scopeOf, view}
-use Rattle.scopes.specs.Sound.{Slotted, Sound}
+use Rattle.scopes.specs.Sound.{Slotted, Sound, Sized}
 use Rattle.scopes.specs.declared.Scopes.{Scopes}
 use Rattle.scopes.proofs.Finds.{in-range}
-use Rattle.scopes.proofs.Moves.{Sized, owners, ringed, owned, scopes-put}
+use Rattle.scopes.proofs.Moves.{owners, ringed, owned, scopes-put}
 
 -- the state s with slot a given to scope k
 abbrev pub taken : Scopes → ℕ → ℕ → List ℕ → List ℕ → ℕ → ℕ → ℕ → Scopes

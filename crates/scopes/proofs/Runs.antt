@@ -22,12 +22,11 @@ use Rattle.slots.specs.Halves.{occ, grownTo}
 use Rattle.slots.proofs.Finds.{past-of}
 use Rattle.links.specs.Links.{Held, leaves, gains}
 use Rattle.scopes.specs.View.{held, index, view, scopeOf, foundAt, at, atFirst, told, runFor}
-use Rattle.scopes.specs.Sound.{Slotted, Sound}
+use Rattle.scopes.specs.Sound.{Slotted, Sound, Sized}
 use Rattle.scopes.specs.declared.Scopes.{Scopes}
 use Rattle.scopes.specs.declared.Reply.the-variants.{Empty, Refused}
 use Rattle.scopes.proofs.Tables.{put-nothing, put-again}
 use Rattle.scopes.proofs.Finds.{no-top, Topped}
-use Rattle.scopes.proofs.Moves.{Sized}
 use Rattle.scopes.proofs.Places.{taken, at-k, at-64, live-is, sound, sized}
 
 -- ---- the rule, by the length of the run

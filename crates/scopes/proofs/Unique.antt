@@ -18,11 +18,10 @@ use Rattle.links.specs.Links.{Held}
 use Rattle.links.proofs.Rings.{chains-alike}
 use Rattle.links.proofs.Same.{same-cells}
 use Rattle.scopes.specs.View.{held, view, index, binding, bindingsOf, Seen, seen}
-use Rattle.scopes.specs.Sound.{Sound}
+use Rattle.scopes.specs.Sound.{Sound, Sized, Typed}
 use Rattle.scopes.specs.declared.Scopes.{Scopes}
 use Rattle.scopes.specs.declared.Outcome.{Outcome}
 use Rattle.scopes.specs.declared.drain.Drained.{Drained}
-use Rattle.scopes.proofs.Moves.{Sized}
 use Rattle.scopes.proofs.Opens.{owns-none}
 use Rattle.scopes.proofs.Closes.{parent-fits}
 
@@ -93,11 +92,6 @@ same-owner : (o p : ℕ) → o ≤ 65 → p ≤ 65 → ((i : ℕ) → i < 65 →
 same-owner o p ho hp f =
     by-cases (decLt o 65) (λ l. sym (eqb-true p o (sym (f o l) ∙ eq-eqb o o refl)))
     (λ n. by-cases (decLt p 65) (λ l. eqb-true o p (f p l ∙ eq-eqb p p refl)) (λ q. omega arith))
-
--- what the types of the arrays say: their lengths, and that a half has 64 bits
-pub record Typed (s : Scopes) : Type 0 where
-  pub sized : Sized s
-  pub halves : (i : ℕ) → getD (s .halves) i 0 < 2 ^ 64
 
 -- ---- equal views are equal states
 
