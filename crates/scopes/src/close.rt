@@ -59,6 +59,7 @@ fn close(s: Scopes, i: usize) -> Scopes
     t
 }
 
+// pop s: 4, 5 and 6 are looked at first.
 pub fn pop(s: Scopes, id: ScopeId) -> Outcome
     requires { ⌜ Sound s ⌝ }
     ensures { λ r. ⌜ (seen r ≡ toldOnly (view s) (rule.popScope base (rule.byId base (view s) (idOf id)) (view s))) × Sound (r .state) ⌝ }
@@ -96,6 +97,7 @@ pub fn pop(s: Scopes, id: ScopeId) -> Outcome
     }
 }
 
+// pop last: root is closed; then there is no top.
 pub fn pop_last(s: Scopes) -> Outcome
     requires { ⌜ Sound s ⌝ }
     ensures { λ r. ⌜ (seen r ≡ toldOnly (view s) (rule.popLastScope base (view s))) × Sound (r .state) ⌝ }

@@ -79,6 +79,7 @@ fn bound_of(b: u64) -> Bound
     }
 }
 
+// get: the nearest binding of the name, from the top up to root.
 pub fn get(s: Scopes, name: u16) -> Reply
     requires { ⌜ Sound s ⌝ }
     ensures { λ r. ⌜ r ≡ replied bound (rule.getName base name (view s)) ⌝ }
@@ -98,6 +99,7 @@ pub fn get(s: Scopes, name: u16) -> Reply
     Reply::Found(bound_of(b))
 }
 
+// take: the same, and the binding is marked moved where it stands.
 pub fn take(s: Scopes, name: u16) -> Outcome
     requires { ⌜ Sound s ⌝ }
     ensures { λ r. ⌜ (seen r ≡ told bound (view s) (rule.takeName base name (view s))) × Sound (r .state) ⌝ }
@@ -141,6 +143,7 @@ fn packed(i: usize, name: u16, address: SlotAddress, handle: HandleNumber) -> u6
     key * 8589934592 + place
 }
 
+// define: binds in the top, replacing an equal name there and its moved mark.
 pub fn define(s: Scopes, name: u16, address: SlotAddress, handle: HandleNumber) -> Outcome
     requires { ⌜ Sound s ⌝ }
     ensures { λ r. ⌜ (seen r ≡ toldOnly (view s) (defined name (address .0) (handle .0) (view s))) × Sound (r .state) ⌝ }

@@ -30,43 +30,33 @@ tn c = turn _ (c .before .loop .inv .sound) 64 _ (omega arith) (c .before .loop 
 room : (c : tie.In-loop Inv-loop μ-loop) → c .before .loop .n < 1024
 room c = let l = c .before .loop in has-room _ _ (l .t) (l .a) (l .n) (l .out) (l .inv) (tn c)
 
--- src/drain.rt:23:9
 first-requires : tie.Need-first-requires Inv-loop μ-loop
 first-requires c κs = search needs
 
--- src/drain.rt:24:5
 loop-holds : tie.Need-loop-holds Inv-loop μ-loop
 loop-holds c = let s = c .before .before .before in draining-none (s .args .s) _ _ (c .first .ensures (held (s .args .s .links)) (s .pre .0 .ringed .rings)) (s .pre .0) (sized s) (s .pre .1)
 
--- src/drain.rt:25:18
 cast-out : tie.Need-cast-out Inv-loop μ-loop
 cast-out c = omega (arith, tn c .small)
 
--- src/drain.rt:25:9
 mul-out : tie.Need-mul-out Inv-loop μ-loop
 mul-out c = omega (arith, room c)
 
--- src/drain.rt:25:9
 element-write-out : tie.Need-element-write-out Inv-loop μ-loop
 element-write-out c = room c
 
--- src/drain.rt:26:9
 add-n : tie.Need-add-n Inv-loop μ-loop
 add-n c = omega (arith, room c)
 
--- src/drain.rt:27:9
 unlink-requires : tie.Need-unlink-requires Inv-loop μ-loop
 unlink-requires c κs = let e = c .before in let l = e .before .loop in ((tn e .small, l .inv .sized .links), (held (l .t .links), l .inv .sound .ringed .rings, on _ _ (l .t) (l .a) (l .n) (l .out) (l .inv) (tn e)))
 
--- src/drain.rt:28:9
 element-write-t : tie.Need-element-write-t Inv-loop μ-loop
 element-write-t c = tn (c .before .before) .small
 
--- src/drain.rt:29:9
 first-requires-2 : tie.Need-first-requires-2 Inv-loop μ-loop
 first-requires-2 c κs = (omega arith, c .before .before .unlink .ensures .1)
 
--- src/drain.rt:24:5
 loop-less : tie.Need-loop-less Inv-loop μ-loop
 loop-less c =
     let u = c .before .before .before in
@@ -74,7 +64,6 @@ loop-less c =
     let l = e .before .loop in
     draining-less _ _ (l .t) (l .a) (l .n) (l .out) (l .inv) (tn e) (u .unlink .last .0) (u .unlink .ensures .1) (u .unlink .ensures .0 (held (l .t .links)) (l .inv .sound .ringed .rings) (on _ _ (l .t) (l .a) (l .n) (l .out) (l .inv) (tn e)))
 
--- src/drain.rt:24:5
 loop-again : tie.Need-loop-again Inv-loop μ-loop
 loop-again c =
     let u = c .before .before .before in
@@ -84,7 +73,6 @@ loop-again c =
     draining-on _ _ (l .t) (l .a) (l .n) (l .out) (l .inv) (tn e) (u .unlink .last .0) (u .unlink .ensures .1) x (c .first2 .result)
     (c .first2 .ensures (held (u .unlink .last .0)) (draining-rings _ _ (l .t) (l .a) (l .n) (l .out) (l .inv) (tn e) (u .unlink .last .0) (u .unlink .ensures .1) x))
 
--- src/drain.rt:16:1
 returns : tie.Need-returns Inv-loop μ-loop
 returns c =
     let l = c .before .loop in

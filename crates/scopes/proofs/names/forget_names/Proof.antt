@@ -17,39 +17,30 @@ Inv-loop bindings₀ count i w₀ j₀ bindings w j = Passed bindings₀ count i
 abbrev μ-loop : tie.MeasureT-loop
 μ-loop bindings₀ count i w₀ j₀ bindings w j = count - j
 
--- src/names.rt:188:5
 loop-holds : tie.Need-loop-holds Inv-loop μ-loop
 loop-holds c = passed-none _ _ _ (c .pre .1)
 
--- src/names.rt:189:17
 mul-b : tie.Need-mul-b Inv-loop μ-loop
 mul-b c = search needs
 
--- src/names.rt:189:17
 element-copy-out-b : tie.Need-element-copy-out-b Inv-loop μ-loop
 element-copy-out-b c = omega (arith, c .before .before .pre)
 
--- src/names.rt:191:13
 mul-bindings : tie.Need-mul-bindings Inv-loop μ-loop
 mul-bindings c = omega (arith, c .before .before .before .loop .inv .within)
 
--- src/names.rt:191:13
 element-write-bindings : tie.Need-element-write-bindings Inv-loop μ-loop
 element-write-bindings c = omega (arith, c .before .before .before .loop .inv .within, c .before .before .before .before .pre)
 
--- src/names.rt:192:13
 add-w : tie.Need-add-w Inv-loop μ-loop
 add-w c = omega (arith, c .before .before .before .loop .inv .within, c .before .before .before .before .pre)
 
--- src/names.rt:194:9
 add-j : tie.Need-add-j Inv-loop μ-loop
 add-j c = search needs
 
--- src/names.rt:188:5
 loop-less : tie.Need-loop-less Inv-loop μ-loop
 loop-less c = search needs
 
--- src/names.rt:188:5
 loop-again : tie.Need-loop-again Inv-loop μ-loop
 loop-again c =
     let s = c .before .before .before .before in
@@ -60,11 +51,9 @@ loop-again c =
     (λ x. rw (x .1, x .2) (passed-drop (s .args .bindings .now) (s .args .count) (s .args .i) (s .pre .1) (s .pre .0) (l .bindings) (l .w) (l .j) (l .inv) t (x .0 .left)))
     (c .if1 .came)
 
--- src/names.rt:196:5
 wipe-requires : tie.Need-wipe-requires Inv-loop μ-loop
 wipe-requires c κs = let l = c .before .before .loop in (omega (arith, l .inv .within), c .before .before .before .pre .0, l .inv .long)
 
--- src/names.rt:181:1
 returns : tie.Need-returns Inv-loop μ-loop
 returns c =
     let a = c .before .before in

@@ -29,47 +29,36 @@ long-live s = search needs
 wide : (s : tie.Start) (j : ℕ) → Fits w64 (getD (s .args .t1 .bindings) j 0)
 wide s j = search needs
 
--- src/names.rt:107:9
 returns : tie.Need-returns
 returns c = let s = c .before in (take-refused (s .args .t1) (s .args .name) 3 (get-no-top (s .args .t1) (s .args .name) (c .if1 .taken)), s .pre)
 
--- src/names.rt:112:9
 lookup-requires : tie.Need-lookup-requires
 lookup-requires c κs = let s = c .before .before .before .before .before in (s .pre .named .most, long s, long-live s)
 
--- src/names.rt:114:9
 returns-2 : tie.Need-returns-2
 returns-2 c = let e = c .before in let s = e .before .before .before .before .before .before in (take-refused (s .args .t1) (s .args .name) 10 (get-missing (s .args .t1) (s .args .name) (tops (e .before .before .before .before .before)) (e .lookup .result) (e .lookup .ensures) (c .if2 .taken)), s .pre)
 
--- src/names.rt:119:13
 mul-b : tie.Need-mul-b
 mul-b c = search needs
 
--- src/names.rt:119:13
 element-copy-out-b : tie.Need-element-copy-out-b
 element-copy-out-b c = search needs
 
--- src/names.rt:121:9
 returns-3 : tie.Need-returns-3
 returns-3 c = let e = c .before .before .before in let s = e .before .before .before .before .before .before in (take-refused (s .args .t1) (s .args .name) 11 (get-moved (s .args .t1) (s .args .name) (tops (e .before .before .before .before .before)) (e .lookup .result) (e .lookup .ensures) (c .before .before .if2 .left) (c .if3 .taken)), s .pre)
 
--- src/names.rt:127:21
 add-t : tie.Need-add-t
 add-t c = let e = c .before .before .before in omega (arith, wide (e .before .before .before .before .before .before) (e .lookup .result), c .if3 .left)
 
--- src/names.rt:127:5
 mul-t : tie.Need-mul-t
 mul-t c = search needs
 
--- src/names.rt:127:5
 element-write-t : tie.Need-element-write-t
 element-write-t c = search needs
 
--- src/names.rt:130:29
 bound-of-requires : tie.Need-bound-of-requires
 bound-of-requires c κs = search needs
 
--- src/names.rt:101:1
 returns-4 : tie.Need-returns-4
 returns-4 c =
     let e = c .before .before .before .before in

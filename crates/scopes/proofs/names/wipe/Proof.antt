@@ -16,31 +16,24 @@ Inv-loop bindings₀ from to j₀ bindings j = (from ≤ j) × (j ≤ to) × Wip
 abbrev μ-loop : tie.MeasureT-loop
 μ-loop bindings₀ from to j₀ bindings j = to - j
 
--- src/names.rt:206:5
 loop-holds : tie.Need-loop-holds Inv-loop μ-loop
 loop-holds c = (omega arith, c .pre .0, wiped-none _ _ (c .pre .2))
 
--- src/names.rt:207:9
 mul-bindings : tie.Need-mul-bindings Inv-loop μ-loop
 mul-bindings c = search needs
 
--- src/names.rt:207:9
 element-write-bindings : tie.Need-element-write-bindings Inv-loop μ-loop
 element-write-bindings c = omega (arith, c .before .before .pre)
 
--- src/names.rt:208:9
 add-j : tie.Need-add-j Inv-loop μ-loop
 add-j c = search needs
 
--- src/names.rt:206:5
 loop-less : tie.Need-loop-less Inv-loop μ-loop
 loop-less c = search needs
 
--- src/names.rt:206:5
 loop-again : tie.Need-loop-again Inv-loop μ-loop
 loop-again c = let l = c .before .loop in (omega (arith, l .inv .0), omega arith, wiped-more _ _ _ _ (l .inv .0) (omega (arith, c .before .before .pre .1, c .loop-test .taken)) (l .inv .2))
 
--- src/names.rt:201:1
 returns : tie.Need-returns Inv-loop μ-loop
 returns c = let l = c .before .loop in let s = c .before .before in subst (λ (k : ℕ). Wiped (s .args .bindings .now) (s .args .from) k (l .bindings)) (omega (arith, l .inv .1, c .loop-test .left)) (l .inv .2)
 

@@ -20,36 +20,29 @@ sized s = record { halves = search needs; links = search needs; owner = search n
 tops : (s : tie.Start) → Topped (s .args .s)
 tops s = topped _ (s .pre .0) (λ e. omega (arith, s .pre .2))
 
--- src/place.rt:167:5
 vacate-requires : tie.Need-vacate-requires
 vacate-requires c κs = search needs
 
--- src/place.rt:170:9
 place-requires : tie.Need-place-requires
 place-requires c κs = search needs
 
--- src/place.rt:171:9
 element-write-t : tie.Need-element-write-t
 element-write-t c = search needs
 
--- src/place.rt:172:9
 returns : tie.Need-returns
 returns c =
     let v = c .before .before .before in
     let s = v .before .before in
     gives-back (s .args .s) (s .pre .0) (sized s) (s .args .a) (s .args .s .top) (s .pre .1) (s .pre .2) (s .pre .3) (v .vacate .last .0) (v .vacate .ensures .0) (c .place .last .0) (c .place .ensures .0 (held (s .args .s .links)) (s .pre .0 .ringed .rings)) _ (c .before .before .if1 .taken) refl (tops s)
 
--- src/place.rt:174:5
 unlink-requires : tie.Need-unlink-requires
 unlink-requires c κs =
     let s = c .before .before .before .before in
     ((s .pre .1, search needs), (held (s .args .s .links), s .pre .0 .ringed .rings, on (s .args .s) (s .pre .0) (sized s) (s .args .a) (s .args .s .top) (s .pre .1) (s .pre .2) (s .pre .3)))
 
--- src/place.rt:175:5
 element-write-t-2 : tie.Need-element-write-t-2
 element-write-t-2 c = search needs
 
--- src/place.rt:162:1
 returns-2 : tie.Need-returns-2
 returns-2 c =
     let v = c .before .before .before in
