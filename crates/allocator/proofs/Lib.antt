@@ -4,3 +4,4 @@ pub mod Marked
 pub mod Climbs
 pub mod Places
 pub mod Keys
+pub mod Agrees
