@@ -3,7 +3,7 @@
 use mathlib.Core.Path.{_≡_, refl, sym, ap, _∙_, subst}
 use mathlib.Core.Logic.{inl, inr, ⊎-elim, by-cases}
 use mathlib.Core.Bool.{Bool, true, false}
-use mathlib.Core.Option.{Option, none}
+use mathlib.Core.Option.{Option, none, some}
 use mathlib.Core.List.{List, [], _∷_}
 use Prim.Native.Nat.{ℕ, zero, suc, _+_, _≤_, _<_}
 use native.Mathlib.Decide.{decLt}
@@ -51,7 +51,7 @@ of-unbound i name [] h = tt
 of-unbound i name (b ∷ l) h = go (isFor i name b) refl (of-unbound i name l)
   where
     go : (x : Bool) → isFor i name b ≡ x → (boundIn i name l ≡ none → Each (λ y. isFor i name y ≡ false) l) → Each (λ y. isFor i name y ≡ false) (b ∷ l)
-    go true e ih = none-some (sym h ∙ rw (e, boundIn))
+    go true e ih = let q : boundIn i name (b ∷ l) ≡ some b = rw (e, boundIn) in none-some (sym h ∙ q)
     go false e ih = (e, ih (rw (e, boundIn) at h))
 
 binds-of : (l : List Binding) → BoundOnce l → rule.BindsOnce l

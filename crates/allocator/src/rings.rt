@@ -16,7 +16,12 @@ pub fn wide16(x: u16) -> usize
 }
 
 // List i goes round, over addresses of owner i alone; they are marked.
-pub fn ring<'a>(links: &'a [u16; 2178], owner: &'a [u8; 1024], marks: &mut [u8; 1024], i: usize) -> bool
+pub fn ring<'a>(
+    links: &'a [u16; 2178],
+    owner: &'a [u8; 1024],
+    marks: &mut [u8; 1024],
+    i: usize,
+) -> bool
     requires { ⌜ (i < 65) × (length (now marks) ≡ 1024) ⌝ }
     ensures { λ r. ⌜ r ≡ round 1024 65 (now (links .entry)) (now (owner .entry)) i ⌝ }
     ensures { λ r. ⌜ (length (now (marks .exit)) ≡ 1024) × (r ≡ true → now (marks .exit) ≡ mark (lists 1024 (now (links .entry)) i) i (now (marks .entry))) ⌝ }

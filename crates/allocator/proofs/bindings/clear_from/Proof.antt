@@ -9,6 +9,7 @@ use borrow.Author.Needs.{needs}
 use Rattle.allocator.proofs.Tested.{no, yes, more-from}
 use Rattle.allocator.proofs.bindings.clear_from.Statement.{statement}
 use Rattle.allocator.proofs.bindings.clear_from.Tie as tie
+
 abbrev Inv-loop : tie.InvT-loop
 Inv-loop bindings count j₀ j = (count ≤ j) × ((k : ℕ) → count ≤ k → k < j → getD bindings k 0 ≡ 0)
 

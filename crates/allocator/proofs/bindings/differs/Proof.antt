@@ -9,6 +9,7 @@ use Rattle.allocator.specs.Parts.{key}
 use Rattle.allocator.proofs.Tested.{no, yes, more-from}
 use Rattle.allocator.proofs.bindings.differs.Statement.{statement}
 use Rattle.allocator.proofs.bindings.differs.Tie as tie
+
 abbrev Inv-loop : tie.InvT-loop
 Inv-loop bindings count j wanted k₀ k = (j < k) × (k ≤ count) × (wanted ≡ key (getD bindings j 0)) × ((m : ℕ) → j + 1 ≤ m → m < k → key (getD bindings m 0) ≢ key (getD bindings j 0))
 

@@ -10,6 +10,7 @@ use Rattle.allocator.proofs.Tested.{no, yes, fails, more}
 use Rattle.allocator.proofs.Keys.{named-of, of-named}
 use Rattle.allocator.proofs.bindings.named.Statement.{statement}
 use Rattle.allocator.proofs.bindings.named.Tie as tie
+
 abbrev Inv-loop : tie.InvT-loop
 Inv-loop bindings live count j₀ j = (count ≤ 256) × (j ≤ count) × ((k : ℕ) → count ≤ k → getD bindings k 0 ≡ 0) × Below j (NamedAt bindings live count)
 

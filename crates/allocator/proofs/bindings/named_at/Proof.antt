@@ -10,6 +10,7 @@ use Rattle.allocator.proofs.Tested.{no}
 use Rattle.allocator.proofs.Places.{name-dead, name-last}
 use Rattle.allocator.proofs.bindings.named_at.Statement.{statement}
 use Rattle.allocator.proofs.bindings.named_at.Tie as tie
+
 len : (s : tie.Start) → length (s .args .live .now) ≡ 64
 len s = s .pre .1
 

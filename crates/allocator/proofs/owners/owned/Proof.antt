@@ -8,6 +8,7 @@ use Rattle.allocator.proofs.Tested.{no, yes, fails, more}
 use Rattle.allocator.proofs.Places.{owned-of, of-owned}
 use Rattle.allocator.proofs.owners.owned.Statement.{statement}
 use Rattle.allocator.proofs.owners.owned.Tie as tie
+
 abbrev Inv-loop : tie.InvT-loop
 Inv-loop halves owner live size a₀ a = (size ≤ 1024) × (a ≤ 1024) × Below a (OwnedAt halves owner live size)
 

@@ -6,6 +6,7 @@ use Rattle.allocator.proofs.Tested.{no}
 use Rattle.allocator.proofs.Places.{own-none, own-clear, own-dead, own-last}
 use Rattle.allocator.proofs.owners.owned_at.Statement.{statement}
 use Rattle.allocator.proofs.owners.owned_at.Tie as tie
+
 occupied-requires : tie.Need-occupied-requires
 occupied-requires c κs = search needs
 

@@ -10,6 +10,7 @@ use Rattle.allocator.specs.Parts.{climb}
 use Rattle.allocator.proofs.Climbs.{climb-dead, root-at, up-at, climb-zero, beyond, climb-tells}
 use Rattle.allocator.proofs.parents.leads.Statement.{statement}
 use Rattle.allocator.proofs.parents.leads.Tie as tie
+
 abbrev Inv-loop : tie.InvT-loop
 Inv-loop live parent i k₀ n₀ k n = (n ≤ 64) × (climb live parent 64 i ≡ climb live parent n k)
 

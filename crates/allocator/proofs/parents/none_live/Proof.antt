@@ -10,6 +10,7 @@ use Rattle.allocator.specs.Parts.{Below}
 use Rattle.allocator.proofs.Tested.{no, yes, more}
 use Rattle.allocator.proofs.parents.none_live.Statement.{statement}
 use Rattle.allocator.proofs.parents.none_live.Tie as tie
+
 abbrev Inv-loop : tie.InvT-loop
 Inv-loop live i₀ i = (i ≤ 64) × Below i (λ j. getD live j false ≡ false)
 

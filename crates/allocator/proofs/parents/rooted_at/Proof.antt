@@ -7,6 +7,7 @@ use Rattle.allocator.proofs.Tested.{no}
 use Rattle.allocator.proofs.Places.{root-live, root-last}
 use Rattle.allocator.proofs.parents.rooted_at.Statement.{statement}
 use Rattle.allocator.proofs.parents.rooted_at.Tie as tie
+
 element-copy-out-if1 : tie.Need-element-copy-out-if1
 element-copy-out-if1 c = search needs
 

@@ -5,6 +5,7 @@ use Rattle.allocator.proofs.Tested.{no}
 use Rattle.allocator.proofs.Places.{top-in, top-out, top-none}
 use Rattle.allocator.proofs.parents.topped.Statement.{statement}
 use Rattle.allocator.proofs.parents.topped.Tie as tie
+
 element-copy-out-result : tie.Need-element-copy-out-result
 element-copy-out-result c = search needs
 

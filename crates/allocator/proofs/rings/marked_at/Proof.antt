@@ -6,6 +6,7 @@ use Rattle.allocator.proofs.Tested.{no}
 use Rattle.allocator.proofs.Marked.{mark-wrong, mark-next, mark-last}
 use Rattle.allocator.proofs.rings.marked_at.Statement.{statement}
 use Rattle.allocator.proofs.rings.marked_at.Tie as tie
+
 element-copy-out-wide8 : tie.Need-element-copy-out-wide8
 element-copy-out-wide8 c = search needs
 
