@@ -5,7 +5,7 @@ use mathlib.Core.Bool.{Bool, true, false, not, _&&_}
 use mathlib.Core.Option.{Option, none, some}
 use mathlib.Core.List.{List, [], _∷_, _++_}
 use Prim.Native.Nat.{ℕ, _-_, _≤_, _<_}
-use lib.ListN.{getD, set}
+use lib.ListN.{length, getD, set, take}
 use lib.Dec.{ltb, eqb}
 use Rattle.rules.specs.Notation.{orElse, first}
 use Rattle.rules.specs.Scopes as rule
@@ -62,3 +62,10 @@ pub record Climbs (live : List Bool) (parent bindings : List ℕ) (count name i 
   pub is : (c : rule.Scopes) (dangled : List Bool) (number : List ℕ) (owned : ℕ → List ℕ) → c .live ≡ scopesFrom live dangled parent number owned → c .bindings ≡ bindingsOf bindings count
       → rule.lookup left c name (index i) ≡ spotted bindings r
   pub spot : r < 256 → (k : ℕ) × There bindings count k name r
+
+-- the places from `from` up to `to` hold 0, and the others what they held
+pub record Wiped (old : List ℕ) (from to : ℕ) (new : List ℕ) : Type 0 where
+  pub long : length new ≡ 256
+  pub front : take from new ≡ take from old
+  pub zeros : (k : ℕ) → from ≤ k → k < to → getD new k 0 ≡ 0
+  pub ahead : (k : ℕ) → to ≤ k → getD new k 0 ≡ getD old k 0

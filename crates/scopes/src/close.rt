@@ -50,14 +50,16 @@ fn close(s: Scopes, i: usize) -> Scopes
     }
     let count = t.count;
     t.count = names::forget_names(&mut t.bindings, count, i);
-    t.top = t.parent[i] as usize;
+    let up = open::wide8(t.parent[i]);
     t.live[i] = false;
     t.dangled[i] = false;
     t.parent[i] = 64;
     t.number[i] = 0;
+    t.top = up;
     t
 }
 
+// pop s: 4, 5 and 6 are looked at first.
 pub fn pop(s: Scopes, id: ScopeId) -> Outcome
     requires { ⌜ Sound s ⌝ }
     ensures { λ r. ⌜ (seen r ≡ toldOnly (view s) (rule.popScope base (rule.byId base (view s) (idOf id)) (view s))) × Sound (r .state) ⌝ }
@@ -95,6 +97,7 @@ pub fn pop(s: Scopes, id: ScopeId) -> Outcome
     }
 }
 
+// pop last: root is closed; then there is no top.
 pub fn pop_last(s: Scopes) -> Outcome
     requires { ⌜ Sound s ⌝ }
     ensures { λ r. ⌜ (seen r ≡ toldOnly (view s) (rule.popLastScope base (view s))) × Sound (r .state) ⌝ }

@@ -7,7 +7,7 @@ ghost use Rattle.rules.specs.Sizes.{base};
 ghost use Rattle.rules.specs.Scopes as rule;
 ghost use Rattle.scopes.specs.View.{view, binding, bindingsOf, bound, defined, seen, told, toldOnly, replied};
 ghost use Rattle.scopes.specs.Sound.{Sound};
-ghost use Rattle.scopes.specs.Leaves.{Spot, Climbs};
+ghost use Rattle.scopes.specs.Leaves.{Spot, Climbs, Wiped};
 use crate::Bound;
 use crate::HandleNumber;
 use crate::Outcome;
@@ -79,6 +79,7 @@ fn bound_of(b: u64) -> Bound
     }
 }
 
+// get: the nearest binding of the name, from the top up to root.
 pub fn get(s: Scopes, name: u16) -> Reply
     requires { ⌜ Sound s ⌝ }
     ensures { λ r. ⌜ r ≡ replied bound (rule.getName base name (view s)) ⌝ }
@@ -98,6 +99,7 @@ pub fn get(s: Scopes, name: u16) -> Reply
     Reply::Found(bound_of(b))
 }
 
+// take: the same, and the binding is marked moved where it stands.
 pub fn take(s: Scopes, name: u16) -> Outcome
     requires { ⌜ Sound s ⌝ }
     ensures { λ r. ⌜ (seen r ≡ told bound (view s) (rule.takeName base name (view s))) × Sound (r .state) ⌝ }
@@ -141,6 +143,7 @@ fn packed(i: usize, name: u16, address: SlotAddress, handle: HandleNumber) -> u6
     key * 8589934592 + place
 }
 
+// define: binds in the top, replacing an equal name there and its moved mark.
 pub fn define(s: Scopes, name: u16, address: SlotAddress, handle: HandleNumber) -> Outcome
     requires { ⌜ Sound s ⌝ }
     ensures { λ r. ⌜ (seen r ≡ toldOnly (view s) (defined name (address .0) (handle .0) (view s))) × Sound (r .state) ⌝ }
@@ -193,10 +196,18 @@ pub fn forget_names(bindings: &mut [u64; 256], count: usize, i: usize) -> usize
         }
         j += 1;
     }
-    let n = w;
-    while w < count {
-        bindings[w] = 0;
-        w += 1;
+    wipe(bindings, w, count);
+    w
+}
+
+// The places from `from` up to `to` hold 0 then.
+fn wipe(bindings: &mut [u64; 256], from: usize, to: usize)
+    requires { ⌜ (from ≤ to) × (to ≤ 256) × (length (now bindings) ≡ 256) ⌝ }
+    ensures { λ r. ⌜ Wiped (now (bindings .entry)) from to (now (bindings .exit)) ⌝ }
+{
+    let mut j = from;
+    while j < to {
+        bindings[j] = 0;
+        j += 1;
     }
-    n
 }

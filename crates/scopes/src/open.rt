@@ -63,6 +63,7 @@ pub fn place_of<'a>(live: &'a [bool; 64], number: &'a [u32; 64], id: ScopeId) ->
     64
 }
 
+// child: the parent is the top; the new scope becomes the top.
 pub fn child(s: Scopes) -> Outcome
     requires { ⌜ Sound s ⌝ }
     ensures { λ r. ⌜ (seen r ≡ told opened (view s) (rule.openChild base (view s))) × Sound (r .state) ⌝ }
@@ -97,6 +98,7 @@ pub fn child(s: Scopes) -> Outcome
     }
 }
 
+// dangle s: marks it; top becomes its parent.
 pub fn dangle(s: Scopes, id: ScopeId) -> Outcome
     requires { ⌜ Sound s ⌝ }
     ensures { λ r. ⌜ (seen r ≡ toldOnly (view s) (rule.dangleScope (rule.byId base (view s) (idOf id)) (view s))) × Sound (r .state) ⌝ }
@@ -129,6 +131,7 @@ pub fn dangle(s: Scopes, id: ScopeId) -> Outcome
     }
 }
 
+// restore s: unmarks it; top becomes s.
 pub fn restore(s: Scopes, id: ScopeId) -> Outcome
     requires { ⌜ Sound s ⌝ }
     ensures { λ r. ⌜ (seen r ≡ toldOnly (view s) (rule.restoreScope (rule.byId base (view s) (idOf id)) (view s))) × Sound (r .state) ⌝ }

@@ -44,6 +44,7 @@ fn alloc_at(s: Scopes, k: usize) -> Outcome
     }
 }
 
+// alloc: a slot for the top.
 pub fn alloc(s: Scopes) -> Outcome
     requires { ⌜ Sound s ⌝ }
     ensures { λ r. ⌜ (seen r ≡ told at (view s) (rule.allocTop (edition1 (base .segments)) (view s))) × Sound (r .state) ⌝ }
@@ -58,6 +59,7 @@ pub fn alloc(s: Scopes) -> Outcome
     alloc_at(s, top)
 }
 
+// alloc in s: a slot for the scope with this id.
 pub fn alloc_in(s: Scopes, id: ScopeId) -> Outcome
     requires { ⌜ Sound s ⌝ }
     ensures { λ r. ⌜ (seen r ≡ told at (view s) (rule.allocIn (edition1 (base .segments)) (rule.byId base (view s) (idOf id)) (view s))) × Sound (r .state) ⌝ }
@@ -91,6 +93,7 @@ fn push_run(s: Scopes, k: usize, g: usize, n: usize) -> Scopes
     t
 }
 
+// linear n: 0 gives an empty run, 1 acts as alloc, more are pushed. The room is looked at before anything changes.
 pub fn alloc_run(s: Scopes, n: u16) -> Outcome
     requires { ⌜ Sound s ⌝ }
     ensures { λ r. ⌜ (seen r ≡ told atFirst (view s) (rule.allocRun (edition1 (base .segments)) n (view s))) × Sound (r .state) ⌝ }

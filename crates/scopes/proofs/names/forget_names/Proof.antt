@@ -1,83 +1,66 @@
+-- The bindings of a scope go. Assumes nothing.
+use mathlib.Core.Path.{_≡_, refl, sym, _∙_}
+use mathlib.Core.Logic.{⊎-elim}
+use Prim.Native.Nat.{ℕ, _+_, _-_, _/_, _<_, _≤_}
+use native.Mathlib.Omega.{arith}
+use borrow.Author.Needs.{needs}
+use Rattle.scopes.proofs.Compacts.{Passed, passed-none, passed-keep, passed-drop, bindings-left, clear-left}
 use Rattle.scopes.proofs.names.forget_names.Statement.{statement}
 use Rattle.scopes.proofs.names.forget_names.Tie as tie
 use Rattle.scopes.proofs.names.forget_names.Reads as reads
 use Rattle.scopes.proofs.names.forget_names.Lts as lts
+use Rattle.scopes.proofs.names.wipe.Reads as wipe-reads
 
 abbrev Inv-loop : tie.InvT-loop
-Inv-loop bindings₀ count i w₀ j₀ bindings w j = ?
+Inv-loop bindings₀ count i w₀ j₀ bindings w j = Passed bindings₀ count i bindings w j
 
 abbrev μ-loop : tie.MeasureT-loop
-μ-loop bindings₀ count i w₀ j₀ bindings w j = ?
+μ-loop bindings₀ count i w₀ j₀ bindings w j = count - j
 
-abbrev Inv-loop2 : tie.InvT-loop2
-Inv-loop2 bindings₀ count i w₀ j n bindings w = ?
+loop-holds : tie.Need-loop-holds Inv-loop μ-loop
+loop-holds c = passed-none _ _ _ (c .pre .1)
 
-abbrev μ-loop2 : tie.MeasureT-loop2
-μ-loop2 bindings₀ count i w₀ j n bindings w = ?
+mul-b : tie.Need-mul-b Inv-loop μ-loop
+mul-b c = search needs
 
--- src/names.rt:188:5
-loop-holds : tie.Need-loop-holds Inv-loop μ-loop Inv-loop2 μ-loop2
-loop-holds c = ?
+element-copy-out-b : tie.Need-element-copy-out-b Inv-loop μ-loop
+element-copy-out-b c = omega (arith, c .before .before .pre)
 
--- src/names.rt:189:17
-mul-b : tie.Need-mul-b Inv-loop μ-loop Inv-loop2 μ-loop2
-mul-b c = ?
+mul-bindings : tie.Need-mul-bindings Inv-loop μ-loop
+mul-bindings c = omega (arith, c .before .before .before .loop .inv .within)
 
--- src/names.rt:189:17
-element-copy-out-b : tie.Need-element-copy-out-b Inv-loop μ-loop Inv-loop2 μ-loop2
-element-copy-out-b c = ?
+element-write-bindings : tie.Need-element-write-bindings Inv-loop μ-loop
+element-write-bindings c = omega (arith, c .before .before .before .loop .inv .within, c .before .before .before .before .pre)
 
--- src/names.rt:191:13
-mul-bindings : tie.Need-mul-bindings Inv-loop μ-loop Inv-loop2 μ-loop2
-mul-bindings c = ?
+add-w : tie.Need-add-w Inv-loop μ-loop
+add-w c = omega (arith, c .before .before .before .loop .inv .within, c .before .before .before .before .pre)
 
--- src/names.rt:191:13
-element-write-bindings : tie.Need-element-write-bindings Inv-loop μ-loop Inv-loop2 μ-loop2
-element-write-bindings c = ?
+add-j : tie.Need-add-j Inv-loop μ-loop
+add-j c = search needs
 
--- src/names.rt:192:13
-add-w : tie.Need-add-w Inv-loop μ-loop Inv-loop2 μ-loop2
-add-w c = ?
+loop-less : tie.Need-loop-less Inv-loop μ-loop
+loop-less c = search needs
 
--- src/names.rt:194:9
-add-j : tie.Need-add-j Inv-loop μ-loop Inv-loop2 μ-loop2
-add-j c = ?
+loop-again : tie.Need-loop-again Inv-loop μ-loop
+loop-again c =
+    let s = c .before .before .before .before in
+    let l = c .before .before .before .loop in
+    let t = c .before .before .loop-test .taken in
+    ⊎-elim
+    (λ x. rw (x .1, x .2) (passed-keep (s .args .bindings .now) (s .args .count) (s .args .i) (s .pre .1) (s .pre .0) (l .bindings) (l .w) (l .j) (l .inv) t (x .0 .taken)))
+    (λ x. rw (x .1, x .2) (passed-drop (s .args .bindings .now) (s .args .count) (s .args .i) (s .pre .1) (s .pre .0) (l .bindings) (l .w) (l .j) (l .inv) t (x .0 .left)))
+    (c .if1 .came)
 
--- src/names.rt:188:5
-loop-less : tie.Need-loop-less Inv-loop μ-loop Inv-loop2 μ-loop2
-loop-less c = ?
+wipe-requires : tie.Need-wipe-requires Inv-loop μ-loop
+wipe-requires c κs = let l = c .before .before .loop in (omega (arith, l .inv .within), c .before .before .before .pre .0, l .inv .long)
 
--- src/names.rt:188:5
-loop-again : tie.Need-loop-again Inv-loop μ-loop Inv-loop2 μ-loop2
-loop-again c = ?
-
--- src/names.rt:197:5
-loop2-holds : tie.Need-loop2-holds Inv-loop μ-loop Inv-loop2 μ-loop2
-loop2-holds c = ?
-
--- src/names.rt:198:9
-mul-bindings-2 : tie.Need-mul-bindings-2 Inv-loop μ-loop Inv-loop2 μ-loop2
-mul-bindings-2 c = ?
-
--- src/names.rt:198:9
-element-write-bindings-2 : tie.Need-element-write-bindings-2 Inv-loop μ-loop Inv-loop2 μ-loop2
-element-write-bindings-2 c = ?
-
--- src/names.rt:199:9
-add-w-2 : tie.Need-add-w-2 Inv-loop μ-loop Inv-loop2 μ-loop2
-add-w-2 c = ?
-
--- src/names.rt:197:5
-loop2-less : tie.Need-loop2-less Inv-loop μ-loop Inv-loop2 μ-loop2
-loop2-less c = ?
-
--- src/names.rt:197:5
-loop2-again : tie.Need-loop2-again Inv-loop μ-loop Inv-loop2 μ-loop2
-loop2-again c = ?
-
--- src/names.rt:181:1
-returns : tie.Need-returns Inv-loop μ-loop Inv-loop2 μ-loop2
-returns c = ?
+returns : tie.Need-returns Inv-loop μ-loop
+returns c =
+    let a = c .before .before in
+    let l = a .before .loop in
+    let s = a .before .before in
+    let h = l .inv in
+    ((omega (arith, h .within), bindings-left (s .args .bindings .now) _ _ _ _ _ (a .loop-test .left) h _ (c .wipe .ensures)), clear-left (s .args .bindings .now) _ _ _ _ _ (a .loop-test .left) h _ (c .wipe .ensures))
 
 pub forget-names-spec : {M : Type 1} → statement M
 forget-names-spec =
@@ -85,8 +68,6 @@ forget-names-spec =
     (tie.spec
     Inv-loop
     μ-loop
-    Inv-loop2
-    μ-loop2
     loop-holds
     mul-b
     element-copy-out-b
@@ -96,10 +77,5 @@ forget-names-spec =
     add-j
     loop-less
     loop-again
-    loop2-holds
-    mul-bindings-2
-    element-write-bindings-2
-    add-w-2
-    loop2-less
-    loop2-again
+    wipe-requires
     returns)

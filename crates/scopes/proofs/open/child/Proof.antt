@@ -31,47 +31,36 @@ long-parent s = search needs
 long-number : (s : tie.Start) → length (s .args .t1 .number) ≡ 64
 long-number s = search needs
 
--- src/open.rt:72:9
 returns : tie.Need-returns
 returns c = (child-no-top (c .before .args .t1) (c .if1 .taken), c .before .pre)
 
--- src/open.rt:77:9
 free-index-requires : tie.Need-free-index-requires
 free-index-requires c κs = search needs
 
--- src/open.rt:79:9
 returns-2 : tie.Need-returns-2
 returns-2 c = let s = c .before .before .before .before .before in (child-full (s .args .t1) (s .pre) (tops (c .before .before .before .before)) _ (c .before .free-index .ensures) (c .if2 .taken), s .pre)
 
--- src/open.rt:86:5
 element-write-t : tie.Need-element-write-t
 element-write-t c = small c
 
--- src/open.rt:87:19
 cast-t : tie.Need-cast-t
 cast-t c = omega (arith, tops (c .before .before .before .before) .small)
 
--- src/open.rt:87:5
 element-write-t-2 : tie.Need-element-write-t-2
 element-write-t-2 c = small c
 
--- src/open.rt:88:5
 mul-t : tie.Need-mul-t
 mul-t c = omega (arith, small c)
 
--- src/open.rt:88:5
 element-write-t-3 : tie.Need-element-write-t-3
 element-write-t-3 c = small c
 
--- src/open.rt:90:17
 wrapping-add-u32-requires : tie.Need-wrapping-add-u32-requires
 wrapping-add-u32-requires c κs = search needs
 
--- src/open.rt:94:20
 cast-t16 : tie.Need-cast-t16
 cast-t16 c = omega (arith, small (c .before))
 
--- src/open.rt:66:1
 returns-3 : tie.Need-returns-3
 returns-3 c =
     let e = c .before in

@@ -28,31 +28,24 @@ long-live s = search needs
 long-dangled : (s : tie.Start) → length (s .args .t1 .dangled) ≡ 64
 long-dangled s = search needs
 
--- src/open.rt:136:9
 place-of-requires : tie.Need-place-of-requires
 place-of-requires c κs = search needs
 
--- src/open.rt:138:9
 returns : tie.Need-returns
 returns c = let s = start (c .before) in (restore-none (s .args .t1) _ (unknown (s .args .t1) (idOf (s .args .id)) _ (c .before .place-of .ensures) (c .if1 .taken)), s .pre)
 
--- src/open.rt:143:9
 element-copy-out-if2 : tie.Need-element-copy-out-if2
 element-copy-out-if2 c = meant c .small
 
--- src/open.rt:144:9
 returns-2 : tie.Need-returns-2
 returns-2 c = let e = c .before .before in let s = start (e .before) in (restore-undangled (s .args .t1) _ _ (meant e) (not-true _ (c .if2 .taken)), s .pre)
 
--- src/open.rt:150:9
 returns-3 : tie.Need-returns-3
 returns-3 c = let e = c .before .before .before in let s = start (e .before) in (restore-root (s .args .t1) _ _ (meant e) (not-false _ (c .before .if2 .left)) (c .if3 .taken), s .pre)
 
--- src/open.rt:156:5
 element-write-t : tie.Need-element-write-t
 element-write-t c = meant (c .before .before .before) .small
 
--- src/open.rt:132:1
 returns-4 : tie.Need-returns-4
 returns-4 c = let e = c .before .before .before in let s = start (e .before) in restore-unmarks (s .args .t1) _ _ (meant e) (s .pre) (long-dangled s) (long-live s) (c .if3 .left) (not-false _ (c .before .if2 .left))
 
