@@ -10,7 +10,7 @@ use lib.Dec.{leb, ltb}
 use lib.ListN.{length, drop, replicate}
 use borrow.Author.Tests.{leb-true}
 use Rattle.rules.specs.Notation.{if_then_else_}
-use Rattle.rules.specs.Sizes.{Room}
+use Rattle.rules.specs.Sizes.{Room, base}
 use Rattle.rules.specs.Frames.{Line, stores, loads, shows}
 use Rattle.rules.specs.Meaning.{Ran, obey, high}
 use Rattle.rules.specs.Text.{split, Listed, listed, unlisted, listFrom}
@@ -78,3 +78,8 @@ halves-of most h cells out _ (to-end {r = r} a) = go (leb (length (loadsText (r 
 pub run-halves : (room : Room) → room .lines ≤ 65535 → (list cells out : List ℕ) → Halves cells out (room .lines) (runEntry room list cells out)
 unfolding runEntry
 run-halves room h list cells out = halves-of (room .lines) h cells out _ (comes room (cellsOf cells) list)
+
+-- as `run` promises it
+pub run-answer : (list cells out : List ℕ) → Halves cells out 2048 (runEntry base list cells out)
+unfolding base
+run-answer list cells out = run-halves base (omega arith) list cells out

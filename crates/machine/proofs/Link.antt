@@ -25,74 +25,8 @@ use Rattle.machine.specs.declared.entries.Entry.{Entry}
 use Rattle.machine.specs.declared.entries.Entry.the-variants.{Skip, Store, Load}
 use Rattle.machine.specs.declared.passes.Survey.{Survey}
 use Rattle.machine.specs.declared.passes.Survey.the-variants.{High, Loads}
-
--- ---- the entry of a line
-
-abbrev ofLine : Line → Entry
-ofLine (stores a v) = Store a v
-ofLine (loads o a) = Load a
-ofLine (shows o l) = Skip
-
-plain-entry : (o : ℕ) (s l m : Entry) → isPlain o ≡ true → pick (eqb o 0x10) s (pick (eqb o 0x11) l (pick (eqb o 0x12) m Skip)) ≡ Skip
-plain-entry o s l m e = go (eqb o 0x10) (eqb o 0x11) (eqb o 0x12) (eqb o 0x90) e
-  where
-    go : (a b c d : Bool) → pick a false (pick b false (pick c false (pick d false true))) ≡ true → pick a s (pick b l (pick c m Skip)) ≡ Skip
-    go true b c d e = absurd (true≢false (sym e))
-    go false true c d e = absurd (true≢false (sym e))
-    go false false true d e = absurd (true≢false (sym e))
-    go false false false d e = refl
-
-load-entry : (o a : ℕ) → isLoad o ≡ true → entryOf (lined (some (loads o a))) ≡ Load a
-load-entry o a e = go (eqb o 0x11) refl
-  where
-    go : (b : Bool) → eqb o 0x11 ≡ b → entryOf (lined (some (loads o a))) ≡ Load a
-    go true q = rw (eqb-true o 0x11 q)
-    go false q = rw (eqb-true o 0x12 (rw q at e))
-
-entry-line : (x : Line) → told x ≡ true → entryOf (lined (some x)) ≡ ofLine x
-entry-line (stores a v) e = refl
-entry-line (loads o a) e = load-entry o a e
-entry-line (shows o l) e = plain-entry o _ _ _ e
-
--- ---- the lines of a list that is read, and the size line after them
-
-data Pairs : List Entry → List Line → Type 0 where
-  last : {e : Entry} → e ≡ Skip → Pairs (e ∷ []) []
-  step : {e : Entry} {l : Line} {es : List Entry} {ls : List Line} → e ≡ ofLine l → Pairs es ls → Pairs (e ∷ es) (l ∷ ls)
-
-not-listed : {P : Type 0} {m j n : ℕ} {ls : List Line} → unlisted m j ≡ listed ls n → P
-not-listed e = absurd (let z : _≡_ {A = ℕ} 0 1 = cc in omega arith)
-
-pair-last : (i k n : ℕ) (ls : List Line) (b : Bool) → elim b [ true ↦ listed [] k | false ↦ unlisted 1 i ] ≡ listed ls n → Pairs (Skip ∷ []) ls
-pair-last i k n ls true h = let a : [] ≡ ls = cc in subst (λ (x : List Line). Pairs (Skip ∷ []) x) a (last refl)
-pair-last i k n ls false h = not-listed h
-
-pair-on : (i n : ℕ) (ls : List Line) (e : Entry) (l : Line) (es : List Entry) (r : Listed) → e ≡ ofLine l → ((m : List Line) → r ≡ listed m n → Pairs es m) → lineBefore i (some l) r ≡ listed ls n → Pairs (e ∷ es) ls
-pair-on i n ls e l es (unlisted m j) q ih h = not-listed h
-pair-on i n ls e l es (listed m k) q ih h =
-    let a : l ∷ m ≡ ls = cc in
-    let b : k ≡ n = cc in
-    subst (λ (x : List Line). Pairs (e ∷ es) x) a (step q (ih m (ap (listed m) b)))
-
-module _ (room : Room) where
-  pair-one : (ks : List Split) (i n : ℕ) (ls : List Line) (a : Option ℕ) (o : Option Line) → ((x : Line) → o ≡ some x → told x ≡ true)
-      → ((m : List Line) → listFrom room (suc i) ks ≡ listed m n → Pairs (map entryAt ks) m)
-      → sizeOr room i a ks (elim (eqb i (room .lines)) [ true ↦ unlisted 2 i | false ↦ lineBefore i o (listFrom room (suc i) ks) ]) ≡ listed ls n
-      → Pairs (entryOf (sizedOr a (lined o)) ∷ map entryAt ks) ls
-  pair-one [] i n ls (some k) o t ih h = pair-last i k n ls (leb k (room .size)) h
-  pair-one (x ∷ ks) i n ls (some k) o t ih h = not-listed h
-  pair-one ks i n ls none o t ih h = go (eqb i (room .lines)) o t h
-    where
-      go : (b : Bool) (o : Option Line) → ((x : Line) → o ≡ some x → told x ≡ true) → elim b [ true ↦ unlisted 2 i | false ↦ lineBefore i o (listFrom room (suc i) ks) ] ≡ listed ls n
-          → Pairs (entryOf (lined o) ∷ map entryAt ks) ls
-      go true o t h = not-listed h
-      go false none t h = not-listed h
-      go false (some l) t h = pair-on i n ls (entryOf (lined (some l))) l (map entryAt ks) (listFrom room (suc i) ks) (entry-line l (t l refl)) ih h
-
-  pairs : (ks : List Split) (i n : ℕ) (ls : List Line) → listFrom room i ks ≡ listed ls n → Pairs (map entryAt ks) ls
-  unfolding listFrom lineReading
-  pairs [] i n ls h = not-listed h
-  pairs (k ∷ ks) i n ls h = pair-one ks i n ls (lineOf sizeTable k) (lineOf lineTable k) (told-line k) (λ m e. pairs ks (suc i) n m e) h
+use Rattle.machine.proofs.Pairs.{ofLine, Pairs, last, step, pairs}
+use Rattle.machine.proofs.Cells.{bytes-set, bytes-at, cells-length, zero-bytes}
 
 -- ---- 20, and the loads
 
@@ -124,26 +58,6 @@ surveys (step {l = loads o a} {ls = ls} q more) size i n = rw (q, add-one) (high
 surveys (step {l = shows o l} {ls = ls} q more) size i n =
     let e : n + 0 + linesLoads ls ≡ n + (0 + linesLoads ls) = omega arith in
     rw (q, add-one) (surveys more size (suc i) (n + 0) ∙ ap (ofHigh (high size (suc i) ls)) e)
-
--- ---- cells as two bytes
-
-bytes-set : (cs t : List ℕ) (a v : ℕ) → a < length cs → set (set (bytesOf cs ++ t) (2 * a) (v / 256)) (2 * a + 1) (v % 256) ≡ bytesOf (set cs a v) ++ t
-unfolding bytesOf
-bytes-set [] t a v h = absurd (omega arith)
-bytes-set (c ∷ cs) t zero v h = refl
-bytes-set (c ∷ cs) t (suc a) v h =
-    let e : 2 * suc a ≡ suc (suc (2 * a)) = omega arith in
-    let f : suc (suc (2 * a)) + 1 ≡ suc (suc (2 * a + 1)) = omega arith in
-    rw (e, f, bytes-set cs t a v (omega arith))
-
-bytes-at : (cs t : List ℕ) (a : ℕ) → a < length cs → cellAt (bytesOf cs ++ t) a ≡ getD cs a 0
-unfolding bytesOf
-bytes-at [] t a h = absurd (omega arith)
-bytes-at (c ∷ cs) t zero h = omega arith
-bytes-at (c ∷ cs) t (suc a) h =
-    let e : 2 * suc a ≡ suc (suc (2 * a)) = omega arith in
-    let f : suc (suc (2 * a)) + 1 ≡ suc (suc (2 * a + 1)) = omega arith in
-    rw (e, f) (bytes-at cs t a (omega arith))
 
 -- ---- the work
 
@@ -197,33 +111,6 @@ loads-most (shows o l ∷ ls) = omega (arith, loads-most ls)
 -- 7 bytes a load, at most one load a line
 pub text-most : (ls : List Line) (cs : List ℕ) → length (loadsText (obey cs ls .loaded)) ≤ 7 * length ls
 text-most ls cs = omega (arith, text-length ls cs, loads-most ls)
-
--- ---- the bytes lent
-
-cells-length : (bs : List ℕ) → length (cellsOf bs) ≡ length bs / 2
-unfolding cellsOf
-cells-length [] = refl
-cells-length (h ∷ []) = refl
-cells-length (h ∷ l ∷ bs) = omega (arith, cells-length bs)
-
-whole : (bs : List ℕ) → Bytes bs → bs ≡ bytesOf (cellsOf bs) ++ oddByte bs
-unfolding cellsOf bytesOf oddByte
-whole [] b = refl
-whole (h ∷ []) b = refl
-whole (h ∷ l ∷ bs) b =
-    let low : l < 256 = b 1 in
-    let e : (h * 256 + l) / 256 ≡ h = omega arith in
-    let f : (h * 256 + l) % 256 ≡ l = omega arith in
-    rw (e, f) (ap (λ (x : List ℕ). h ∷ l ∷ x) (whole bs (λ k. b (suc (suc k)))))
-
-zero-bytes : (size : ℕ) (bs : List ℕ) → Bytes bs → size ≤ length (cellsOf bs) → zeroed size bs ≡ bytesOf (replicate size 0 ++ drop size (cellsOf bs)) ++ oddByte bs
-unfolding cellsOf bytesOf oddByte
-zero-bytes zero bs b h = whole bs b
-zero-bytes (suc size) [] b h = absurd (omega arith)
-zero-bytes (suc size) (x ∷ []) b h = absurd (omega arith)
-zero-bytes (suc size) (x ∷ y ∷ bs) b h =
-    let e : 2 * suc size ≡ suc (suc (2 * size)) = omega arith in
-    rw e (ap (λ (l : List ℕ). 0 ∷ 0 ∷ l) (zero-bytes size bs (λ k. b (suc (suc k))) (omega arith)))
 
 -- ---- the entry
 

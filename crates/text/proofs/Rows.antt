@@ -13,7 +13,7 @@ use borrow.Author.Tests.{ne-eqb, eqb-true}
 use Rattle.rules.specs.Frames as rules
 use Rattle.rules.specs.Frames.{child, pop, dangle, restore, popLast, alloc, allocIn, linear, define, get, takeFrom, free, freeQuietly, forget, drain, write, read, readName, stores, loads, shows}
 use Rattle.rules.specs.Text.{Raw, raw, Row, rowed, lineOf, frameTable, lineTable, sizeTable, with0, with1, with2, counted, bare, adding}
-use Rattle.text.specs.Shapes.{pick, Shaped, shapeIn, scriptShapes, lineShapes, sizeShape, shapesOf, shapeOf, frame, readAs}
+use Rattle.text.specs.Shapes.{pick, Shaped, column, shapeIn, frameShapes, sizeShape, shapes, shapeOf, frame, readAs}
 use Rattle.text.specs.Lines.{wholeLine, ended, codeOf, frameOf, framed, frameReading, lined, sizedOr, lineReading, readingOf}
 use Rattle.text.specs.declared.lines.Frame.{Frame}
 use Rattle.text.specs.declared.lines.Reading.{Reading}
@@ -22,11 +22,11 @@ use Rattle.text.specs.declared.lines.Digits.the-variants.{Bad, Whole}
 
 -- ---- one row, and the rows after it
 
-shape-here : (w : Shaped) (ws : List Shaped) (o : ℕ) → eqb (w .opcode) o ≡ true → shapeIn (w ∷ ws) o ≡ w .shape
-shape-here w ws o e = rw (e, shapeIn)
+shape-here : (list : Bool) (w : Shaped) (ws : List Shaped) (o : ℕ) → eqb (w .opcode) o ≡ true → shapeIn list (w ∷ ws) o ≡ column list w
+shape-here list w ws o e = rw (e, shapeIn)
 
-shape-there : (w : Shaped) (ws : List Shaped) (o : ℕ) → eqb (w .opcode) o ≡ false → shapeIn (w ∷ ws) o ≡ shapeIn ws o
-shape-there w ws o e = rw (e, shapeIn)
+shape-there : (list : Bool) (w : Shaped) (ws : List Shaped) (o : ℕ) → eqb (w .opcode) o ≡ false → shapeIn list (w ∷ ws) o ≡ shapeIn list ws o
+shape-there list w ws o e = rw (e, shapeIn)
 
 rowed-here : {A : Type 0} (w : Row A) (ws : List (Row A)) (r : Raw) → eqb (w .opcode) (r .opcode) ≡ true → rowed (w ∷ ws) r ≡ w .made (r .operands)
 unfolding rowed
@@ -45,165 +45,159 @@ more n m x y h = rw (ne-eqb n m (λ e. omega (arith, e)))
 
 -- ---- a table of the rules whose rows have our shapes; `show` is what the reader answers of what a row makes
 
-module _ {A : Type 0} (show : Option A → Reading) where
-  pub record Same (w : Row A) (k : Shaped) : Type 0 where
-    pub opcode : w .opcode ≡ k .opcode
-    pub made : (l : List ℕ) → show (w .made l) ≡ asShape (k .shape) (k .opcode) l
-
+module _ {A : Type 0} (list : Bool) (show : Option A → Reading) where
+  -- `other`: a row of ours for an opcode that the rules' table hasn't
   pub data Sames : List (Row A) → List Shaped → Type 0 where
     no-rows : Sames [] []
-    rows : {w : Row A} {k : Shaped} {ws : List (Row A)} {ks : List Shaped} → Same w k → Sames ws ks → Sames (w ∷ ws) (k ∷ ks)
+    rows : {w : Row A} {k : Shaped} {ws : List (Row A)} {ks : List Shaped} → w .opcode ≡ k .opcode → ((l : List ℕ) → show (w .made l) ≡ asShape (column list k) (k .opcode) l) → Sames ws ks → Sames (w ∷ ws) (k ∷ ks)
+    other : {k : Shaped} {ws : List (Row A)} {ks : List Shaped} → column list k ≡ 0 → shapeIn list ks (k .opcode) ≡ 0 → Sames ws ks → Sames ws (k ∷ ks)
 
-  pub by-rows : show none ≡ Malformed → {ws : List (Row A)} {ks : List Shaped} → Sames ws ks → (r : Raw) → show (rowed ws r) ≡ asShape (shapeIn ks (r .opcode)) (r .opcode) (r .operands)
+  pub by-rows : show none ≡ Malformed → {ws : List (Row A)} {ks : List Shaped} → Sames ws ks → (r : Raw) → show (rowed ws r) ≡ asShape (shapeIn list ks (r .opcode)) (r .opcode) (r .operands)
   unfolding rowed
   by-rows z no-rows r = z
-  by-rows z (rows {w = w} {k = k} {ws = ws} {ks = ks} s rest) r = go (eqb (w .opcode) (r .opcode)) refl (by-rows z rest r)
+  by-rows z (rows {w = w} {k = k} {ws = ws} {ks = ks} code made rest) r = go (eqb (w .opcode) (r .opcode)) refl (by-rows z rest r)
     where
-      go : (b : Bool) → eqb (w .opcode) (r .opcode) ≡ b → show (rowed ws r) ≡ asShape (shapeIn ks (r .opcode)) (r .opcode) (r .operands)
-          → show (rowed (w ∷ ws) r) ≡ asShape (shapeIn (k ∷ ks) (r .opcode)) (r .opcode) (r .operands)
+      go : (b : Bool) → eqb (w .opcode) (r .opcode) ≡ b → show (rowed ws r) ≡ asShape (shapeIn list ks (r .opcode)) (r .opcode) (r .operands)
+          → show (rowed (w ∷ ws) r) ≡ asShape (shapeIn list (k ∷ ks) (r .opcode)) (r .opcode) (r .operands)
       go true e ih =
-          let q : eqb (k .opcode) (r .opcode) ≡ true = ap (λ (n : ℕ). eqb n (r .opcode)) (sym (s .opcode)) ∙ e in
-          ap show (rowed-here w ws r e) ∙ s .made (r .operands)
-          ∙ ap (λ (o : ℕ). asShape (k .shape) o (r .operands)) (eqb-true (k .opcode) (r .opcode) q)
-          ∙ ap (λ (d : ℕ). asShape d (r .opcode) (r .operands)) (sym (shape-here k ks (r .opcode) q))
+          let q : eqb (k .opcode) (r .opcode) ≡ true = ap (λ (n : ℕ). eqb n (r .opcode)) (sym code) ∙ e in
+          ap show (rowed-here w ws r e) ∙ made (r .operands)
+          ∙ ap (λ (o : ℕ). asShape (column list k) o (r .operands)) (eqb-true (k .opcode) (r .opcode) q)
+          ∙ ap (λ (d : ℕ). asShape d (r .opcode) (r .operands)) (sym (shape-here list k ks (r .opcode) q))
       go false e ih =
-          let q : eqb (k .opcode) (r .opcode) ≡ false = ap (λ (n : ℕ). eqb n (r .opcode)) (sym (s .opcode)) ∙ e in
+          let q : eqb (k .opcode) (r .opcode) ≡ false = ap (λ (n : ℕ). eqb n (r .opcode)) (sym code) ∙ e in
           ap show (rowed-there w ws r e) ∙ ih
-          ∙ ap (λ (d : ℕ). asShape d (r .opcode) (r .operands)) (sym (shape-there k ks (r .opcode) q))
+          ∙ ap (λ (d : ℕ). asShape d (r .opcode) (r .operands)) (sym (shape-there list k ks (r .opcode) q))
+  by-rows z (other {k = k} {ws = ws} {ks = ks} none-here none-there rest) r = by-rows z rest r ∙ ap (λ (d : ℕ). asShape d (r .opcode) (r .operands)) (go (eqb (k .opcode) (r .opcode)) refl)
+    where
+      go : (b : Bool) → eqb (k .opcode) (r .opcode) ≡ b → shapeIn list ks (r .opcode) ≡ shapeIn list (k ∷ ks) (r .opcode)
+      go true e =
+          ap (shapeIn list ks) (sym (eqb-true (k .opcode) (r .opcode) e)) ∙ none-there ∙ sym none-here ∙ sym (shape-here list k ks (r .opcode) e)
+      go false e = sym (shape-there list k ks (r .opcode) e)
 
-  -- rows of no, one and two operands
-  module _ (z : show none ≡ Malformed) (o : ℕ) where
-    pub none-of : (x : A) → show (some x) ≡ One (frame o 0 0) → Same (record { opcode = o; made = with0 x }) (record { opcode = o; shape = 1 })
-    none-of x e = record { opcode = refl; made = go }
-      where
-        go : (l : List ℕ) → show (with0 x l) ≡ asShape 1 o l
-        go [] = e
-        go (a ∷ l) = z ∙ sym (more (suc (length l)) 0 _ Malformed (omega arith))
+-- rows of no, one and two operands
+module _ {A : Type 0} (show : Option A → Reading) (z : show none ≡ Malformed) (o : ℕ) where
+  none-of : (x : A) → show (some x) ≡ One (frame o 0 0) → (l : List ℕ) → show (with0 x l) ≡ asShape 1 o l
+  none-of x e [] = e
+  none-of x e (a ∷ l) = z ∙ sym (more (suc (length l)) 0 _ Malformed (omega arith))
 
-    pub one-of : (f : ℕ → A) → ((a : ℕ) → show (some (f a)) ≡ One (frame o a 0)) → Same (record { opcode = o; made = with1 f }) (record { opcode = o; shape = 2 })
-    one-of f e = record { opcode = refl; made = go }
-      where
-        go : (l : List ℕ) → show (with1 f l) ≡ asShape 2 o l
-        go [] = z
-        go (a ∷ []) = e a
-        go (a ∷ b ∷ l) = z ∙ sym (more (suc (suc (length l))) 1 _ Malformed (omega arith))
+  one-of : (f : ℕ → A) → ((a : ℕ) → show (some (f a)) ≡ One (frame o a 0)) → (l : List ℕ) → show (with1 f l) ≡ asShape 2 o l
+  one-of f e [] = z
+  one-of f e (a ∷ []) = e a
+  one-of f e (a ∷ b ∷ l) = z ∙ sym (more (suc (suc (length l))) 1 _ Malformed (omega arith))
 
-    pub two-of : (f : ℕ → ℕ → A) → ((a b : ℕ) → show (some (f a b)) ≡ One (frame o a b)) → Same (record { opcode = o; made = with2 f }) (record { opcode = o; shape = 3 })
-    two-of f e = record { opcode = refl; made = go }
-      where
-        go : (l : List ℕ) → show (with2 f l) ≡ asShape 3 o l
-        go [] = z
-        go (a ∷ []) = z
-        go (a ∷ b ∷ []) = e a b
-        go (a ∷ b ∷ c ∷ l) = z ∙ sym (more (suc (suc (suc (length l)))) 2 _ Malformed (omega arith))
+  two-of : (f : ℕ → ℕ → A) → ((a b : ℕ) → show (some (f a b)) ≡ One (frame o a b)) → (l : List ℕ) → show (with2 f l) ≡ asShape 3 o l
+  two-of f e [] = z
+  two-of f e (a ∷ []) = z
+  two-of f e (a ∷ b ∷ []) = e a b
+  two-of f e (a ∷ b ∷ c ∷ l) = z ∙ sym (more (suc (suc (suc (length l)))) 2 _ Malformed (omega arith))
 
 -- ---- scripts
 
-bare-frame : (o : ℕ) (x : rules.Frame) → codeOf x ≡ frame o 0 0 → Same framed (record { opcode = o; made = with0 x }) (record { opcode = o; shape = 1 })
+bare-frame : (o : ℕ) (x : rules.Frame) → codeOf x ≡ frame o 0 0 → (l : List ℕ) → framed (with0 x l) ≡ asShape 1 o l
 bare-frame o x e = none-of framed refl o x (ap One e)
 
-frame-of-one : (o : ℕ) (f : ℕ → rules.Frame) → ((a : ℕ) → codeOf (f a) ≡ frame o a 0) → Same framed (record { opcode = o; made = with1 f }) (record { opcode = o; shape = 2 })
+frame-of-one : (o : ℕ) (f : ℕ → rules.Frame) → ((a : ℕ) → codeOf (f a) ≡ frame o a 0) → (l : List ℕ) → framed (with1 f l) ≡ asShape 2 o l
 frame-of-one o f e = one-of framed refl o f (λ a. ap One (e a))
 
-script-rows : Sames framed frameTable scriptShapes
-unfolding frameTable scriptShapes
+script-rows : Sames false framed frameTable shapes
+unfolding frameTable frameShapes
 script-rows =
-    rows (bare-frame 0x01 _ refl)
-    (rows (frame-of-one 0x02 _ (λ a. refl))
-    (rows (frame-of-one 0x03 _ (λ a. refl))
-    (rows (frame-of-one 0x04 _ (λ a. refl))
-    (rows (bare-frame 0x05 _ refl)
-    (rows (bare-frame 0x06 _ refl)
-    (rows (frame-of-one 0x07 _ (λ a. refl))
-    (rows (frame-of-one 0x08 _ (λ a. refl))
-    (rows (two-of framed refl 0x09 _ (λ a b. refl))
-    (rows (frame-of-one 0x0a _ (λ a. refl))
-    (rows (frame-of-one 0x0b _ (λ a. refl))
-    (rows (frame-of-one 0x0c _ (λ a. refl))
-    (rows (frame-of-one 0x0d _ (λ a. refl))
-    (rows (frame-of-one 0x0e _ (λ a. refl))
-    (rows (bare-frame 0x0f _ refl)
-    (rows (two-of framed refl 0x10 _ (λ a b. refl))
-    (rows (frame-of-one 0x11 _ (λ a. refl))
-    (rows (frame-of-one 0x12 _ (λ a. refl))
-    no-rows)))))))))))))))))
+    other refl refl
+    (rows refl (bare-frame 0x01 _ refl)
+    (rows refl (frame-of-one 0x02 _ (λ a. refl))
+    (rows refl (frame-of-one 0x03 _ (λ a. refl))
+    (rows refl (frame-of-one 0x04 _ (λ a. refl))
+    (rows refl (bare-frame 0x05 _ refl)
+    (rows refl (bare-frame 0x06 _ refl)
+    (rows refl (frame-of-one 0x07 _ (λ a. refl))
+    (rows refl (frame-of-one 0x08 _ (λ a. refl))
+    (rows refl (two-of framed refl 0x09 _ (λ a b. refl))
+    (rows refl (frame-of-one 0x0a _ (λ a. refl))
+    (rows refl (frame-of-one 0x0b _ (λ a. refl))
+    (rows refl (frame-of-one 0x0c _ (λ a. refl))
+    (rows refl (frame-of-one 0x0d _ (λ a. refl))
+    (rows refl (frame-of-one 0x0e _ (λ a. refl))
+    (rows refl (bare-frame 0x0f _ refl)
+    (rows refl (two-of framed refl 0x10 _ (λ a b. refl))
+    (rows refl (frame-of-one 0x11 _ (λ a. refl))
+    (rows refl (frame-of-one 0x12 _ (λ a. refl))
+    no-rows))))))))))))))))))
 
 -- ---- lists
 
-bare-line : (o : ℕ) → Same lined (record { opcode = o; made = bare o }) (record { opcode = o; shape = 1 })
+bare-line : (o : ℕ) (l : List ℕ) → lined (bare o l) ≡ asShape 1 o l
 bare-line o = none-of lined refl o (shows o []) refl
 
-adding-line : (o : ℕ) → Same lined (record { opcode = o; made = adding o }) (record { opcode = o; shape = 2 })
+adding-line : (o : ℕ) (l : List ℕ) → lined (adding o l) ≡ asShape 2 o l
 adding-line o = one-of lined refl o (λ a. shows o (a ∷ [])) (λ a. refl)
 
-counted-line : (o : ℕ) → Same lined (record { opcode = o; made = counted o }) (record { opcode = o; shape = 4 })
-counted-line o = record { opcode = refl; made = made }
+counted-line : (o : ℕ) (l : List ℕ) → lined (counted o l) ≡ asShape 4 o l
+counted-line o [] = refl
+counted-line o (n ∷ l) = rw (add-one, eqb·suc-suc) (go (eqb (length l) n))
   where
-    go : (n : ℕ) (l : List ℕ) (b : Bool) → lined (elim b [ true ↦ some (shows o (n ∷ l)) | false ↦ none ]) ≡ pick b (One (frame o n (getD l 0 0))) Malformed
-    go n l true = refl
-    go n l false = refl
+    go : (b : Bool) → lined (elim b [ true ↦ some (shows o (n ∷ l)) | false ↦ none ]) ≡ pick b (One (frame o n (getD l 0 0))) Malformed
+    go true = refl
+    go false = refl
 
-    made : (l : List ℕ) → lined (counted o l) ≡ asShape 4 o l
-    made [] = refl
-    made (n ∷ l) = rw (add-one, eqb·suc-suc) (go n l (eqb (length l) n))
-
-line-rows : Sames lined lineTable lineShapes
-unfolding lineTable lineShapes
+line-rows : Sames true lined lineTable frameShapes
+unfolding lineTable frameShapes
 line-rows =
-    rows (adding-line 0x01)
-    (rows (bare-line 0x02)
-    (rows (bare-line 0x03)
-    (rows (bare-line 0x04)
-    (rows (bare-line 0x05)
-    (rows (adding-line 0x06)
-    (rows (adding-line 0x07)
-    (rows (adding-line 0x08)
-    (rows (bare-line 0x09)
-    (rows (adding-line 0x0a)
-    (rows (adding-line 0x0b)
-    (rows (bare-line 0x0c)
-    (rows (bare-line 0x0d)
-    (rows (bare-line 0x0e)
-    (rows (counted-line 0x0f)
-    (rows (two-of lined refl 0x10 stores (λ a b. refl))
-    (rows (one-of lined refl 0x11 (loads 0x11) (λ a. refl))
-    (rows (one-of lined refl 0x12 (loads 0x12) (λ a. refl))
+    rows refl (adding-line 0x01)
+    (rows refl (bare-line 0x02)
+    (rows refl (bare-line 0x03)
+    (rows refl (bare-line 0x04)
+    (rows refl (bare-line 0x05)
+    (rows refl (adding-line 0x06)
+    (rows refl (adding-line 0x07)
+    (rows refl (adding-line 0x08)
+    (rows refl (bare-line 0x09)
+    (rows refl (adding-line 0x0a)
+    (rows refl (adding-line 0x0b)
+    (rows refl (bare-line 0x0c)
+    (rows refl (bare-line 0x0d)
+    (rows refl (bare-line 0x0e)
+    (rows refl (counted-line 0x0f)
+    (rows refl (two-of lined refl 0x10 stores (λ a b. refl))
+    (rows refl (one-of lined refl 0x11 (loads 0x11) (λ a. refl))
+    (rows refl (one-of lined refl 0x12 (loads 0x12) (λ a. refl))
     no-rows)))))))))))))))))
 
 -- the size line, whose opcode is no other's
 abbrev showSize : Option ℕ → Reading
 showSize n = sizedOr n Malformed
 
-size-row : Same showSize (record { opcode = 0x90; made = with1 (λ n. n) }) sizeShape
-size-row = one-of showSize refl 0x90 (λ n. n) (λ n. refl)
+size-row : Sames true showSize sizeTable (sizeShape ∷ [])
+unfolding sizeTable
+size-row = rows refl (one-of showSize refl 0x90 (λ n. n) (λ n. refl)) no-rows
 
 not-size : (r : Raw) → eqb 0x90 (r .opcode) ≡ true → lined (rowed lineTable r) ≡ Malformed
-unfolding lineShapes
-not-size r e = by-rows lined refl line-rows r ∙ ap (λ (o : ℕ). asShape (shapeIn lineShapes o) (r .opcode) (r .operands)) (sym (eqb-true 0x90 (r .opcode) e))
+unfolding frameShapes
+not-size r e = by-rows true lined refl line-rows r ∙ ap (λ (o : ℕ). asShape (shapeIn true frameShapes o) (r .opcode) (r .operands)) (sym (eqb-true 0x90 (r .opcode) e))
 
 on-size : (n : Option ℕ) (x : Reading) → x ≡ Malformed → sizedOr n x ≡ showSize n
 on-size none x e = e
 on-size (some n) x e = refl
 
-list-line : (r : Raw) → sizedOr (rowed sizeTable r) (lined (rowed lineTable r)) ≡ asShape (shapeIn (shapesOf true) (r .opcode)) (r .opcode) (r .operands)
+list-line : (r : Raw) → sizedOr (rowed sizeTable r) (lined (rowed lineTable r)) ≡ asShape (shapeIn true shapes (r .opcode)) (r .opcode) (r .operands)
 unfolding sizeTable rowed
 list-line r = go (eqb 0x90 (r .opcode)) refl
   where
-    go : (b : Bool) → eqb 0x90 (r .opcode) ≡ b → sizedOr (rowed sizeTable r) (lined (rowed lineTable r)) ≡ asShape (shapeIn (shapesOf true) (r .opcode)) (r .opcode) (r .operands)
+    go : (b : Bool) → eqb 0x90 (r .opcode) ≡ b → sizedOr (rowed sizeTable r) (lined (rowed lineTable r)) ≡ asShape (shapeIn true shapes (r .opcode)) (r .opcode) (r .operands)
     go true e =
         on-size (rowed sizeTable r) _ (not-size r e)
-        ∙ by-rows showSize refl (rows size-row no-rows) r
-        ∙ ap (λ (d : ℕ). asShape d (r .opcode) (r .operands)) (shape-here sizeShape [] (r .opcode) e ∙ sym (shape-here sizeShape lineShapes (r .opcode) e))
+        ∙ by-rows true showSize refl size-row r
+        ∙ ap (λ (d : ℕ). asShape d (r .opcode) (r .operands)) (shape-here true sizeShape [] (r .opcode) e ∙ sym (shape-here true sizeShape frameShapes (r .opcode) e))
     go false e =
         ap (λ (n : Option ℕ). sizedOr n (lined (rowed lineTable r))) (rowed-there (record { opcode = 0x90; made = with1 (λ n. n) }) [] r e)
-        ∙ by-rows lined refl line-rows r
-        ∙ ap (λ (d : ℕ). asShape d (r .opcode) (r .operands)) (sym (shape-there sizeShape lineShapes (r .opcode) e))
+        ∙ by-rows true lined refl line-rows r
+        ∙ ap (λ (d : ℕ). asShape d (r .opcode) (r .operands)) (sym (shape-there true sizeShape frameShapes (r .opcode) e))
 
 -- ---- a line that LF ends, by its digits
 
 reading-raw : (list : Bool) (t : List ℕ) (r : Raw) → raw t ≡ some r → readingOf list (ended t) ≡ asShape (shapeOf list (r .opcode)) (r .opcode) (r .operands)
 unfolding frameReading lineReading lineOf shapeOf
-reading-raw false t r e = rw (e, lineOf) (by-rows framed refl script-rows r)
+reading-raw false t r e = rw (e, lineOf) (by-rows false framed refl script-rows r)
 reading-raw true t r e = rw (e, lineOf) (list-line r)
 
 reading-none : (list : Bool) (t : List ℕ) → raw t ≡ none → readingOf list (ended t) ≡ Malformed
@@ -242,7 +236,7 @@ reading-open true t = refl
 -- ---- records of frames: each of the 18 opcodes is one frame of the rules
 
 pub frame-code : (f : rules.Frame) → frameOf (codeOf f) ≡ some f
-unfolding frameOf rowed frameTable shapeOf scriptShapes
+unfolding frameOf rowed frameTable shapeOf frameShapes
 frame-code child = refl
 frame-code (pop s) = refl
 frame-code (dangle s) = refl

@@ -14,72 +14,55 @@ pick false a b = b
 
 -- ---- rows: 0 no such opcode, 1 no operand, 2 one, 3 two, 4 a count and as many operands
 
+-- an opcode, and the shape of its operands in scripts and in lists
 pub record Shaped : Type 0 where
   pub opcode : ℕ
-  pub shape : ℕ
+  pub script : ℕ
+  pub list : ℕ
 
-abbrev shaped : ℕ → ℕ → Shaped
-shaped o d = record { opcode = o; shape = d }
+abbrev shaped : ℕ → ℕ → ℕ → Shaped
+shaped o s l = record { opcode = o; script = s; list = l }
 
-abbrev pub shapeIn : List Shaped → ℕ → ℕ
-shapeIn [] o = 0
-shapeIn (w ∷ ws) o = elim (eqb (w .opcode) o) [ true ↦ w .shape | false ↦ shapeIn ws o ]
+abbrev pub column : Bool → Shaped → ℕ
+column false w = w .script
+column true w = w .list
 
-unfoldable pub scriptShapes : List Shaped
-scriptShapes =
-    shaped 0x01 1
-    ∷ shaped 0x02 2
-    ∷ shaped 0x03 2
-    ∷ shaped 0x04 2
-    ∷ shaped 0x05 1
-    ∷ shaped 0x06 1
-    ∷ shaped 0x07 2
-    ∷ shaped 0x08 2
-    ∷ shaped 0x09 3
-    ∷ shaped 0x0a 2
-    ∷ shaped 0x0b 2
-    ∷ shaped 0x0c 2
-    ∷ shaped 0x0d 2
-    ∷ shaped 0x0e 2
-    ∷ shaped 0x0f 1
-    ∷ shaped 0x10 3
-    ∷ shaped 0x11 2
-    ∷ shaped 0x12 2
-    ∷ []
+abbrev pub shapeIn : Bool → List Shaped → ℕ → ℕ
+shapeIn list [] o = 0
+shapeIn list (w ∷ ws) o = elim (eqb (w .opcode) o) [ true ↦ column list w | false ↦ shapeIn list ws o ]
 
--- without the size line
-unfoldable pub lineShapes : List Shaped
-lineShapes =
-    shaped 0x01 2
-    ∷ shaped 0x02 1
-    ∷ shaped 0x03 1
-    ∷ shaped 0x04 1
-    ∷ shaped 0x05 1
-    ∷ shaped 0x06 2
-    ∷ shaped 0x07 2
-    ∷ shaped 0x08 2
-    ∷ shaped 0x09 1
-    ∷ shaped 0x0a 2
-    ∷ shaped 0x0b 2
-    ∷ shaped 0x0c 1
-    ∷ shaped 0x0d 1
-    ∷ shaped 0x0e 1
-    ∷ shaped 0x0f 4
-    ∷ shaped 0x10 3
-    ∷ shaped 0x11 2
-    ∷ shaped 0x12 2
+unfoldable pub frameShapes : List Shaped
+frameShapes =
+    shaped 0x01 1 2
+    ∷ shaped 0x02 2 1
+    ∷ shaped 0x03 2 1
+    ∷ shaped 0x04 2 1
+    ∷ shaped 0x05 1 1
+    ∷ shaped 0x06 1 2
+    ∷ shaped 0x07 2 2
+    ∷ shaped 0x08 2 2
+    ∷ shaped 0x09 3 1
+    ∷ shaped 0x0a 2 2
+    ∷ shaped 0x0b 2 2
+    ∷ shaped 0x0c 2 1
+    ∷ shaped 0x0d 2 1
+    ∷ shaped 0x0e 2 1
+    ∷ shaped 0x0f 1 4
+    ∷ shaped 0x10 3 3
+    ∷ shaped 0x11 2 2
+    ∷ shaped 0x12 2 2
     ∷ []
 
 abbrev pub sizeShape : Shaped
-sizeShape = shaped 0x90 2
+sizeShape = shaped 0x90 0 2
 
-abbrev pub shapesOf : Bool → List Shaped
-shapesOf false = scriptShapes
-shapesOf true = sizeShape ∷ lineShapes
+-- the whole table
+abbrev pub shapes : List Shaped
+shapes = sizeShape ∷ frameShapes
 
 -- the shape of an opcode, in a list or in a script
 unfoldable pub shapeOf : Bool → ℕ → ℕ
-shapeOf list o = shapeIn (shapesOf list) o
+shapeOf list o = shapeIn list shapes o
 
 -- the opcode's row in the code's table
 unfoldable pub rowOf : ℕ → ℕ

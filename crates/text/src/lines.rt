@@ -31,12 +31,7 @@ pub struct Taken {
 // The digits of a line: its opcode, how many operands it has, and the first two of them.
 pub enum Digits {
     Bad,
-    Whole {
-        opcode: u8,
-        count: usize,
-        a: u16,
-        b: u16,
-    },
+    Whole(u8, usize, u16, u16),
 }
 
 // Where the line that starts at p ends: its LF, or the end of the text.
@@ -104,29 +99,14 @@ fn digits_of(s: &[u8], p: usize, e: usize) -> Digits
     if all_hex(s, p, e) {
         let opcode = byte_at(s, p);
         if m == 0 {
-            return Digits::Whole {
-                opcode,
-                count: 0,
-                a: 0,
-                b: 0,
-            };
+            return Digits::Whole(opcode, 0, 0, 0);
         }
         let a = word_at(s, p + 2);
         if m == 4 {
-            return Digits::Whole {
-                opcode,
-                count: 1,
-                a,
-                b: 0,
-            };
+            return Digits::Whole(opcode, 1, a, 0);
         }
         let b = word_at(s, p + 6);
-        return Digits::Whole {
-            opcode,
-            count: m / 4,
-            a,
-            b,
-        };
+        return Digits::Whole(opcode, m / 4, a, b);
     }
     Digits::Bad
 }
@@ -207,12 +187,7 @@ fn line_of(s: &[u8], p: usize, e: usize, list: bool) -> Reading
 {
     match digits_of(s, p, e) {
         Digits::Bad => Reading::Malformed,
-        Digits::Whole {
-            opcode,
-            count,
-            a,
-            b,
-        } => read_as(shape_of(opcode, list), opcode, count, a, b),
+        Digits::Whole(opcode, count, a, b) => read_as(shape_of(opcode, list), opcode, count, a, b),
     }
 }
 

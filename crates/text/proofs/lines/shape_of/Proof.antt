@@ -1,4 +1,4 @@
--- `shape_of` meets its contract: the code's table and the two tables of specs/ agree at every opcode, by one computed test for each.
+-- `shape_of` meets its contract: the code's table and the table of specs/ agree at every opcode, by one computed test for each column.
 -- Assumes nothing.
 use mathlib.Core.Path.{_≡_, refl}
 use mathlib.Core.Bool.{Bool, true, false}
@@ -10,7 +10,7 @@ use lib.ListN.{getD}
 use borrow.Author.Needs.{needs}
 use borrow.Author.Tests.{ltb-true}
 use Rattle.rules.specs.Notation.{allBelow}
-use Rattle.text.specs.Shapes.{scriptShapes, lineShapes, shapeOf, rowOf}
+use Rattle.text.specs.Shapes.{frameShapes, shapeOf, rowOf}
 use Rattle.text.proofs.Computed.{at, same-at}
 use Rattle.text.proofs.lines.shape_of.Statement.{statement}
 use Rattle.text.proofs.lines.shape_of.Tie as tie
@@ -24,11 +24,11 @@ unfolding rowOf allBelow
 row-in o h = ltb-true (rowOf o) 20 (at (λ o. ltb (rowOf o) 20) 256 refl o h)
 
 in-script : (o : ℕ) → o < 256 → getD table (rowOf o) 0 / 16 ≡ shapeOf false o
-unfolding rowOf shapeOf scriptShapes allBelow
+unfolding rowOf shapeOf frameShapes allBelow
 in-script o h = same-at (λ o. getD table (rowOf o) 0 / 16) (shapeOf false) 256 refl o h
 
 in-list : (o : ℕ) → o < 256 → getD table (rowOf o) 0 % 16 ≡ shapeOf true o
-unfolding rowOf shapeOf lineShapes allBelow
+unfolding rowOf shapeOf frameShapes allBelow
 in-list o h = same-at (λ o. getD table (rowOf o) 0 % 16) (shapeOf true) 256 refl o h
 
 read-script : (list : Bool) (o r : ℕ) → o < 256 → list ≡ false → r ≡ rowOf o → getD table r 0 / 16 ≡ shapeOf list o

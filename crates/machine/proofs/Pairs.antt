@@ -1,0 +1,95 @@
+-- The entries of a list that is read are those of its lines: none, a store or a load. Assumes nothing.
+use mathlib.Core.Path.{_≡_, refl, sym, ap, subst, _∙_}
+use mathlib.Core.Bool.{Bool, true, false, true≢false}
+use mathlib.Core.Option.{Option, none, some}
+use mathlib.Core.List.{List, [], _∷_, _++_, map}
+use Prim.Native.Nat.{ℕ, zero, suc, _+_, _*_, _/_, _%_, _≤_, _<_}
+use native.Mathlib.Omega.{arith}
+use native.Mathlib.Numerals.{add-one}
+use lib.Dec.{eqb, leb, ltb}
+use lib.ListN.{length, getD, set, drop, replicate, length-append, length-set, length-replicate}
+use borrow.Author.Tests.{eqb-true, leb-false, leb-true, lt-leb, le-leb, ltb-true, ltb-false, lt-ltb, le-ltb}
+use Rattle.rules.specs.Notation.{if_then_else_}
+use Rattle.rules.specs.Sizes.{Room}
+use Rattle.rules.specs.Frames.{Line, stores, loads, shows}
+use Rattle.rules.specs.Meaning.{obey, high}
+use Rattle.rules.specs.Text.{hex2, hex4, Split, split, lineOf, lineTable, sizeTable, Listed, listed, unlisted, lineBefore, sizeOr, listFrom}
+use Rattle.rules.specs.Entries.{ran, stopped, runListed, ranOn, loadText, loadsText, cellsOf, oddByte, bytesOf, runLeft, runEntry}
+use Rattle.text.specs.Shapes.{pick}
+use Rattle.text.specs.Lines.{lineReading, lined, sizedOr}
+use Rattle.text.specs.Whole.{ofListed, listChecked}
+use Rattle.text.specs.declared.whole.Checked.the-variants.{Good, Refused}
+use Rattle.text.proofs.Told.{isLoad, isPlain, told, told-line}
+use Rattle.machine.specs.Machine.{entryOf, entryAt, entries, surveyOf, cellAt, obeyCells, obeyText, refusal, zeroed, done, roomOf, surveyLeft, Bytes}
+use Rattle.machine.specs.declared.entries.Entry.{Entry}
+use Rattle.machine.specs.declared.entries.Entry.the-variants.{Skip, Store, Load}
+use Rattle.machine.specs.declared.passes.Survey.{Survey}
+use Rattle.machine.specs.declared.passes.Survey.the-variants.{High, Loads}
+
+-- ---- the entry of a line
+
+abbrev pub ofLine : Line → Entry
+ofLine (stores a v) = Store a v
+ofLine (loads o a) = Load a
+ofLine (shows o l) = Skip
+
+plain-entry : (o : ℕ) (s l m : Entry) → isPlain o ≡ true → pick (eqb o 0x10) s (pick (eqb o 0x11) l (pick (eqb o 0x12) m Skip)) ≡ Skip
+plain-entry o s l m e = go (eqb o 0x10) (eqb o 0x11) (eqb o 0x12) (eqb o 0x90) e
+  where
+    go : (a b c d : Bool) → pick a false (pick b false (pick c false (pick d false true))) ≡ true → pick a s (pick b l (pick c m Skip)) ≡ Skip
+    go true b c d e = absurd (true≢false (sym e))
+    go false true c d e = absurd (true≢false (sym e))
+    go false false true d e = absurd (true≢false (sym e))
+    go false false false d e = refl
+
+load-entry : (o a : ℕ) → isLoad o ≡ true → entryOf (lined (some (loads o a))) ≡ Load a
+load-entry o a e = go (eqb o 0x11) refl
+  where
+    go : (b : Bool) → eqb o 0x11 ≡ b → entryOf (lined (some (loads o a))) ≡ Load a
+    go true q = rw (eqb-true o 0x11 q)
+    go false q = rw (eqb-true o 0x12 (rw q at e))
+
+entry-line : (x : Line) → told x ≡ true → entryOf (lined (some x)) ≡ ofLine x
+entry-line (stores a v) e = refl
+entry-line (loads o a) e = load-entry o a e
+entry-line (shows o l) e = plain-entry o _ _ _ e
+
+-- ---- the lines of a list that is read, and the size line after them
+
+pub data Pairs : List Entry → List Line → Type 0 where
+  last : {e : Entry} → e ≡ Skip → Pairs (e ∷ []) []
+  step : {e : Entry} {l : Line} {es : List Entry} {ls : List Line} → e ≡ ofLine l → Pairs es ls → Pairs (e ∷ es) (l ∷ ls)
+
+not-listed : {P : Type 0} {m j n : ℕ} {ls : List Line} → unlisted m j ≡ listed ls n → P
+not-listed e = absurd (let z : _≡_ {A = ℕ} 0 1 = cc in omega arith)
+
+pair-last : (i k n : ℕ) (ls : List Line) (b : Bool) → elim b [ true ↦ listed [] k | false ↦ unlisted 1 i ] ≡ listed ls n → Pairs (Skip ∷ []) ls
+pair-last i k n ls true h = let a : [] ≡ ls = cc in subst (λ (x : List Line). Pairs (Skip ∷ []) x) a (last refl)
+pair-last i k n ls false h = not-listed h
+
+pair-on : (i n : ℕ) (ls : List Line) (e : Entry) (l : Line) (es : List Entry) (r : Listed) → e ≡ ofLine l → ((m : List Line) → r ≡ listed m n → Pairs es m) → lineBefore i (some l) r ≡ listed ls n → Pairs (e ∷ es) ls
+pair-on i n ls e l es (unlisted m j) q ih h = not-listed h
+pair-on i n ls e l es (listed m k) q ih h =
+    let a : l ∷ m ≡ ls = cc in
+    let b : k ≡ n = cc in
+    subst (λ (x : List Line). Pairs (e ∷ es) x) a (step q (ih m (ap (listed m) b)))
+
+module _ (room : Room) where
+  pair-one : (ks : List Split) (i n : ℕ) (ls : List Line) (a : Option ℕ) (o : Option Line) → ((x : Line) → o ≡ some x → told x ≡ true)
+      → ((m : List Line) → listFrom room (suc i) ks ≡ listed m n → Pairs (map entryAt ks) m)
+      → sizeOr room i a ks (elim (eqb i (room .lines)) [ true ↦ unlisted 2 i | false ↦ lineBefore i o (listFrom room (suc i) ks) ]) ≡ listed ls n
+      → Pairs (entryOf (sizedOr a (lined o)) ∷ map entryAt ks) ls
+  pair-one [] i n ls (some k) o t ih h = pair-last i k n ls (leb k (room .size)) h
+  pair-one (x ∷ ks) i n ls (some k) o t ih h = not-listed h
+  pair-one ks i n ls none o t ih h = go (eqb i (room .lines)) o t h
+    where
+      go : (b : Bool) (o : Option Line) → ((x : Line) → o ≡ some x → told x ≡ true) → elim b [ true ↦ unlisted 2 i | false ↦ lineBefore i o (listFrom room (suc i) ks) ] ≡ listed ls n
+          → Pairs (entryOf (lined o) ∷ map entryAt ks) ls
+      go true o t h = not-listed h
+      go false none t h = not-listed h
+      go false (some l) t h = pair-on i n ls (entryOf (lined (some l))) l (map entryAt ks) (listFrom room (suc i) ks) (entry-line l (t l refl)) ih h
+
+  pub pairs : (ks : List Split) (i n : ℕ) (ls : List Line) → listFrom room i ks ≡ listed ls n → Pairs (map entryAt ks) ls
+  unfolding listFrom lineReading
+  pairs [] i n ls h = not-listed h
+  pairs (k ∷ ks) i n ls h = pair-one ks i n ls (lineOf sizeTable k) (lineOf lineTable k) (told-line k) (λ m e. pairs ks (suc i) n m e) h
