@@ -133,42 +133,58 @@ fn session() {
     );
 }
 
-// The text: 1 and 2.
-fn texts() {
+// Lines that are malformed.
+fn malformed() {
     case(b"A01  ", b"0f0000\n900000", 6, 14);
     case(b"A03  ", b"\n900000\n", 6, 14);
     case(b"A04  ", b"zz\n0f0000\n", 6, 14);
     case(b"hex  ", b"0F0000\n900000\n", 6, 14);
     case(b"op   ", b"13\n900000\n", 6, 14);
+}
+
+// The size line.
+fn sized() {
     case(b"A11  ", b"900001\n0f0000\n", 6, 14);
     case(b"A12  ", b"900001\n9", 6, 14);
     case(b"A13  ", b"900001\n900001\n", 6, 14);
     case(b"A14  ", b"", 6, 14);
     case(b"over ", b"900401\n", 6, 14);
+}
+
+// Lines that the machine passes over.
+fn shown() {
     case(b"A20  ", b"06ffff\n900000\n", 6, 14);
     case(b"A21+ ", b"0f0001ffff\n900000\n", 6, 14);
     case(b"A21- ", b"0f0002ffff\n900000\n", 6, 14);
 }
 
-// Line 2,048.
-fn late_lines() {
+// Line 2,048, as a size line or not.
+fn late() {
     long(b"A15  ", 2048, b"");
     long(b"A16  ", 2048, b"90ffff\n");
     long(b"A17  ", 2048, b"900001\n0");
     long(b"A18  ", 2048, b"90000A\n");
     long(b"A18- ", 2048, b"900001");
+}
+
+// The last lines.
+fn last() {
     long(b"A05  ", 2048, b"0");
     long(b"2049 ", 2048, b"0f0000\n900001\n");
     long(b"2048 ", 2048, b"900001\n");
     long(b"2047 ", 2047, b"zz\n900001\n");
 }
 
-// 20, 17, and what is left in lent memory.
-fn memory() {
+// Stores and loads, and 20.
+fn obeyed() {
     case(b"A22  ", b"110000\n900001\n", 6, 14);
     case(b"10   ", b"100000abcd\n110000\n120000\n900001\n", 6, 14);
     case(b"20   ", b"1000000005\n120001\n900001\n", 6, 14);
     case(b"20,1 ", b"110001\n900001", 6, 14);
+}
+
+// 17, and half a cell.
+fn lent() {
     case(b"A23+ ", b"110000\n900001\n", 2, 7);
     case(b"A23- ", b"110000\n900001\n", 2, 6);
     case(b"A24  ", b"110000\n900001\n", 0, 0);
@@ -179,7 +195,11 @@ fn memory() {
 
 fn main() {
     session();
-    texts();
-    late_lines();
-    memory();
+    malformed();
+    sized();
+    shown();
+    late();
+    last();
+    obeyed();
+    lent();
 }
