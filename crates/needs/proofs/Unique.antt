@@ -10,9 +10,9 @@ use Rattle.rules.specs.AddressSets.{run}
 use Rattle.rules.specs.Needs as rule
 use Rattle.rules.proofs.Tables.{by-eqb}
 use Rattle.scopes.specs.View.{view}
-use Rattle.scopes.specs.Sound.{Sound}
+use Rattle.scopes.specs.Sound.{Sound, Typed}
 use Rattle.scopes.specs.declared.Scopes as state
-use Rattle.scopes.proofs.Unique.{Typed, same-state}
+use Rattle.scopes.proofs.Unique.{same-state}
 use Rattle.needs.specs.Kinds.{kindOf, addressOf, addresses, runOf, Plain, needOf}
 use Rattle.needs.specs.Answers.{addressSays, runSays, PlainRun, slotSays, outputSays, triedSays, freeSays, copySays, Seen, seenAddress, seenRun, SeenNeed, seenTaken, seenAssigned, SeenBoth, seenSlot, seenOutput, seenFree}
 use Rattle.needs.specs.declared.AddressKind.{AddressKind}

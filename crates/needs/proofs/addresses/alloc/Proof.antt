@@ -1,15 +1,14 @@
 use Rattle.rules.specs.Needs as rule
 use Rattle.needs.specs.declared.AddressKind.the-variants.{Local}
 use Rattle.needs.proofs.Replies.{placed-told}
-use borrow.Author.Needs.{needs}
 use Rattle.needs.proofs.addresses.alloc.Statement.{statement}
 use Rattle.needs.proofs.addresses.alloc.Tie as tie
 
 alloc-requires : tie.Need-alloc-requires
-alloc-requires c κs = search needs
+alloc-requires c κs = c .pre
 
 placed-requires : tie.Need-placed-requires
-placed-requires c κs = search needs
+placed-requires c κs = tt
 
 returns : tie.Need-returns
 unfolding rule.allocAddress

@@ -1,15 +1,14 @@
 use Rattle.rules.specs.Needs as rule
 use Rattle.needs.specs.declared.AddressKind.the-variants.{Scope}
 use Rattle.needs.proofs.Replies.{placed-told}
-use borrow.Author.Needs.{needs}
 use Rattle.needs.proofs.addresses.alloc_in.Statement.{statement}
 use Rattle.needs.proofs.addresses.alloc_in.Tie as tie
 
 alloc-in-requires : tie.Need-alloc-in-requires
-alloc-in-requires c κs = search needs
+alloc-in-requires c κs = c .pre
 
 placed-requires : tie.Need-placed-requires
-placed-requires c κs = search needs
+placed-requires c κs = tt
 
 returns : tie.Need-returns
 unfolding rule.allocAddressIn

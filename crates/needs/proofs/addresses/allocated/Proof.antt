@@ -2,12 +2,11 @@ use mathlib.Core.Path.{sym, ap, _∙_}
 use Rattle.rules.specs.Needs as rule
 use Rattle.needs.specs.Kinds.{kindOf}
 use Rattle.needs.proofs.Frees.{allocated-local, allocated-same}
-use borrow.Author.Needs.{needs}
 use Rattle.needs.proofs.addresses.allocated.Statement.{statement}
 use Rattle.needs.proofs.addresses.allocated.Tie as tie
 
 is-dangling-requires : tie.Need-is-dangling-requires
-is-dangling-requires c κs = search needs
+is-dangling-requires c κs = tt
 
 returns : tie.Need-returns
 returns c = ap (rule.address (c .before .before .before .args .a .slot .0)) (allocated-local (kindOf (c .before .before .before .args .a .kind)) (sym (c .before .is-dangling .ensures) ∙ c .if1 .taken))

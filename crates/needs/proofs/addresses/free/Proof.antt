@@ -9,27 +9,26 @@ use Rattle.needs.specs.declared.AddressKind.the-variants.{Freed}
 use Rattle.needs.proofs.Frees.{free-spent, free-kept, free-back}
 use Rattle.needs.proofs.Replies.{answered, freed-told}
 use Rattle.needs.proofs.Tops.{back-from}
-use borrow.Author.Needs.{needs}
 use Rattle.needs.proofs.addresses.free.Statement.{statement}
 use Rattle.needs.proofs.addresses.free.Tie as tie
 
 is-freed-requires : tie.Need-is-freed-requires
-is-freed-requires c κs = search needs
+is-freed-requires c κs = tt
 
 returns : tie.Need-returns
 returns c = (sym (ap (told (view (c .before .before .before .args .t1))) (free-spent (c .before .before .before .args .dangles) _ _ _ (sym (c .before .is-freed .ensures) ∙ c .if1 .taken))), c .before .before .before .pre)
 
 goes-back-requires : tie.Need-goes-back-requires
-goes-back-requires c κs = search needs
+goes-back-requires c κs = tt
 
 returns-2 : tie.Need-returns-2
 returns-2 c = (sym (ap (told (view (c .before .before .before .before .before .before .before .args .t1))) (free-kept (c .before .before .before .before .before .before .before .args .dangles) _ _ _ (sym (c .before .before .before .before .before .is-freed .ensures) ∙ c .before .before .before .before .if1 .left) (sym (back-from _ (c .before .before .before .before .before .before .before .pre) (c .before .before .before .before .before .before .before .args .a .kind)) ∙ sym (c .before .goes-back .ensures) ∙ not-true _ (c .if2 .taken)))), c .before .before .before .before .before .before .before .pre)
 
 give-back-requires : tie.Need-give-back-requires
-give-back-requires c κs = search needs
+give-back-requires c κs = c .before .before .before .before .before .before .before .pre
 
 freed-by-requires : tie.Need-freed-by-requires
-freed-by-requires c κs = search needs
+freed-by-requires c κs = tt
 
 returns-3 : tie.Need-returns-3
 returns-3 c = (

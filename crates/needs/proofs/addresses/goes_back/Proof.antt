@@ -20,7 +20,7 @@ enum-known-kind : tie.Need-enum-known-kind
 enum-known-kind c = search needs
 
 is-top-requires : tie.Need-is-top-requires
-is-top-requires c κs = search needs
+is-top-requires c κs = tt
 
 returns : tie.Need-returns
 returns c = search needs

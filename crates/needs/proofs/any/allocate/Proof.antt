@@ -14,13 +14,13 @@ enum-known-need : tie.Need-enum-known-need
 enum-known-need c = search needs
 
 deferred-requires : tie.Need-deferred-requires
-deferred-requires c κs = search needs
+deferred-requires c κs = c .before .before .before .pre
 
 enum-known-need-2 : tie.Need-enum-known-need-2
 enum-known-need-2 c = search needs
 
 allocated-requires : tie.Need-allocated-requires
-allocated-requires c κs = search needs
+allocated-requires c κs = tt
 
 enum-told : tie.Need-enum-told
 enum-told c = search needs

@@ -7,15 +7,14 @@ use Rattle.scopes.specs.View.{view}
 use Rattle.needs.specs.Kinds.{needOf}
 use Rattle.needs.specs.Answers.{outputSays}
 use Rattle.needs.proofs.Asks.{output-says, outputSeen, output-told}
-use borrow.Author.Needs.{needs}
 use Rattle.needs.proofs.any.allocate_output.Statement.{statement}
 use Rattle.needs.proofs.any.allocate_output.Tie as tie
 
 allocate-requires : tie.Need-allocate-requires
-allocate-requires c κs = search needs
+allocate-requires c κs = c .pre
 
 as-output-requires : tie.Need-as-output-requires
-as-output-requires c κs = search needs
+as-output-requires c κs = tt
 
 returns : tie.Need-returns
 returns c = (

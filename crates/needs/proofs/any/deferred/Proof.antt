@@ -10,7 +10,7 @@ use Rattle.needs.proofs.any.deferred.Statement.{statement}
 use Rattle.needs.proofs.any.deferred.Tie as tie
 
 alloc-in-requires : tie.Need-alloc-in-requires
-alloc-in-requires c κs = search needs
+alloc-in-requires c κs = c .pre
 
 enum-known-answer : tie.Need-enum-known-answer
 enum-known-answer c = search needs

@@ -16,7 +16,7 @@ enum-known-need : tie.Need-enum-known-need
 enum-known-need c = search needs
 
 free-requires : tie.Need-free-requires
-free-requires c κs = search needs
+free-requires c κs = c .before .before .before .pre
 
 enum-told : tie.Need-enum-told
 enum-told c = search needs
@@ -28,19 +28,19 @@ enum-told-2 : tie.Need-enum-told-2
 enum-told-2 c = search needs
 
 freed-requires : tie.Need-freed-requires
-freed-requires c κs = search needs
+freed-requires c κs = tt
 
 enum-told-3 : tie.Need-enum-told-3
 enum-told-3 c = search needs
 
 freed-requires-2 : tie.Need-freed-requires-2
-freed-requires-2 c κs = search needs
+freed-requires-2 c κs = tt
 
 enum-told-4 : tie.Need-enum-told-4
 enum-told-4 c = search needs
 
 freed-requires-3 : tie.Need-freed-requires-3
-freed-requires-3 c κs = search needs
+freed-requires-3 c κs = tt
 
 returns : tie.Need-returns
 returns c = (

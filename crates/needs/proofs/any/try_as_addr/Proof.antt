@@ -11,7 +11,7 @@ enum-known-need : tie.Need-enum-known-need
 enum-known-need c = search needs
 
 is-dangling-requires : tie.Need-is-dangling-requires
-is-dangling-requires c κs = search needs
+is-dangling-requires c κs = tt
 
 enum-told : tie.Need-enum-told
 enum-told c = search needs

@@ -3,12 +3,11 @@ use Rattle.rules.specs.AddressSets.{run}
 use Rattle.rules.specs.Needs as rule
 use Rattle.needs.specs.Kinds.{kindOf, runOf}
 use Rattle.needs.proofs.Runs.{forget-kind, forget-empty}
-use borrow.Author.Needs.{needs}
 use Rattle.needs.proofs.linear.forget_run.Statement.{statement}
 use Rattle.needs.proofs.linear.forget_run.Tie as tie
 
 empty-requires : tie.Need-empty-requires
-empty-requires c κs = search needs
+empty-requires c κs = tt
 
 returns : tie.Need-returns
 unfolding rule.forgetRun run

@@ -10,30 +10,29 @@ use Rattle.needs.specs.Answers.{runSays, PlainRun}
 use Rattle.needs.specs.declared.RunAnswer.{RunAnswer}
 use Rattle.needs.proofs.Replies.{replied, answered, freed-plain}
 use Rattle.needs.proofs.Rounds.{told-empty, told-spent, told-kept, told-back}
-use borrow.Author.Needs.{needs}
 use Rattle.needs.proofs.linear.free_run.Statement.{statement}
 use Rattle.needs.proofs.linear.free_run.Tie as tie
 
 wide-requires : tie.Need-wide-requires
-wide-requires c κs = search needs
+wide-requires c κs = tt
 
 wide-requires-2 : tie.Need-wide-requires-2
-wide-requires-2 c κs = search needs
+wide-requires-2 c κs = tt
 
 forget-run-requires : tie.Need-forget-run-requires
-forget-run-requires c κs = search needs
+forget-run-requires c κs = tt
 
 returns : tie.Need-returns
 returns c = (ap (λ (l : List rule.Address). answered (view (c .before .before .before .before .args .t1)) (given l)) (c .before .forget-run .ensures .0) ∙ told-empty (c .before .before .before .before .args .t1) (c .before .before .before .before .pre) (c .before .before .before .before .args .dangles) (c .before .before .before .before .args .run) (sym (c .before .before .wide2 .ensures .0) ∙ c .if1 .taken), c .before .forget-run .ensures .1, c .before .before .before .before .pre)
 
 is-freed-requires : tie.Need-is-freed-requires
-is-freed-requires c κs = search needs
+is-freed-requires c κs = tt
 
 returns-2 : tie.Need-returns-2
 returns-2 c = (told-spent (c .before .before .before .before .before .before .args .t1) (c .before .before .before .before .before .before .pre) (c .before .before .before .before .before .before .args .dangles) (c .before .before .before .before .before .before .args .run) (λ z. c .before .before .if1 .left (c .before .before .before .before .wide2 .ensures .0 ∙ z)) (sym (c .before .is-freed .ensures) ∙ c .if2 .taken), tt, c .before .before .before .before .before .before .pre)
 
 goes-back-requires : tie.Need-goes-back-requires
-goes-back-requires c κs = search needs
+goes-back-requires c κs = tt
 
 returns-3 : tie.Need-returns-3
 returns-3 c = (ap (λ (l : List rule.Address). answered (view (c .before .before .before .before .before .before .before .before .before .before .args .t1)) (given l)) (c .before .before .before .before .before .before .before .forget-run .ensures .0) ∙ told-kept (c .before .before .before .before .before .before .before .before .before .before .args .t1) (c .before .before .before .before .before .before .before .before .before .before .pre) (c .before .before .before .before .before .before .before .before .before .before .args .dangles) (c .before .before .before .before .before .before .before .before .before .before .args .run) (sym (c .before .before .before .before .before .is-freed .ensures) ∙ c .before .before .before .before .if2 .left) (sym (c .before .goes-back .ensures) ∙ not-true _ (c .if3 .taken)), c .before .before .before .before .before .before .before .forget-run .ensures .1, c .before .before .before .before .before .before .before .before .before .before .pre)
@@ -42,7 +41,7 @@ give-back-run-requires : tie.Need-give-back-run-requires
 give-back-run-requires c κs = (c .before .before .before .before .before .before .before .before .before .before .pre, c .before .before .before .before .before .before .before .before .before .wide .ensures .1, c .before .before .before .before .before .before .before .before .wide2 .ensures .1)
 
 freed-by-requires : tie.Need-freed-by-requires
-freed-by-requires c κs = search needs
+freed-by-requires c κs = tt
 
 returns-4 : tie.Need-returns-4
 returns-4 c = (

@@ -38,7 +38,7 @@ give-back-requires : tie.Need-give-back-requires Inv-loop μ-loop
 give-back-requires c κs = c .before .loop .inv .1
 
 is-done-requires : tie.Need-is-done-requires Inv-loop μ-loop
-is-done-requires c κs = search needs
+is-done-requires c κs = tt
 
 returns-2 : tie.Need-returns-2 Inv-loop μ-loop
 returns-2 c = (

@@ -3,15 +3,14 @@ use Rattle.scopes.specs.View.{view}
 use Rattle.needs.specs.Answers.{runSays, PlainRun}
 use Rattle.needs.specs.declared.RunAnswer.{RunAnswer}
 use Rattle.needs.proofs.Replies.{answered, ranged-told, ranged-plain}
-use borrow.Author.Needs.{needs}
 use Rattle.needs.proofs.linear.linear.Statement.{statement}
 use Rattle.needs.proofs.linear.linear.Tie as tie
 
 alloc-run-requires : tie.Need-alloc-run-requires
-alloc-run-requires c κs = search needs
+alloc-run-requires c κs = c .pre
 
 ranged-requires : tie.Need-ranged-requires
-ranged-requires c κs = search needs
+ranged-requires c κs = tt
 
 returns : tie.Need-returns
 returns c = (

@@ -10,13 +10,13 @@ enum-known-reply : tie.Need-enum-known-reply
 enum-known-reply c = search needs
 
 run-kind-requires : tie.Need-run-kind-requires
-run-kind-requires c κs = search needs
+run-kind-requires c κs = tt
 
 enum-told : tie.Need-enum-told
 enum-told c = search needs
 
 empty-requires : tie.Need-empty-requires
-empty-requires c κs = search needs
+empty-requires c κs = tt
 
 enum-known-reply-2 : tie.Need-enum-known-reply-2
 enum-known-reply-2 c = search needs
