@@ -3,3 +3,4 @@ pub mod Tables
 pub mod Sets
 pub mod Sessions
 pub mod Sound
+pub mod Lengths
