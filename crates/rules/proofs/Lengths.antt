@@ -1,11 +1,12 @@
 -- No accepted script's list is longer than 11 bytes a frame, 4 for each handle, and 7. The one line that may be long is a drain's, and
 -- each slot that is drained was allocated since it was last drained. Assumes nothing.
 use mathlib.Core.Path.{_≡_, refl, sym, ap, subst, _∙_}
-use mathlib.Core.Bool.{Bool, true, false, not, true≢false}
-use mathlib.Core.Option.{Option, none, some}
+use mathlib.Core.Bool.{Bool, true, false, true≢false}
+use mathlib.Core.Logic.{by-cases}
 use mathlib.Core.List.{List, [], _∷_, _++_}
 use Prim.Native.Nat.{ℕ, zero, suc, _+_, _*_, _-_, _≤_, _<_}
 use native.Mathlib.Omega.{arith}
+use native.Mathlib.Decide.{decLt}
 use lib.Dec.{eqb}
 use lib.ListN.{length, length-append}
 use Rattle.rules.specs.Notation.{put}
@@ -58,20 +59,27 @@ unfolding run
 run-length zero a = refl
 run-length (suc n) a = ap suc (run-length n (suc a))
 
--- ---- sums
+-- ---- sums over a table
 
-sum-other : (f : ℕ → ℕ) (i x n : ℕ) → n ≤ i → sumBelow (put f i x) n ≡ sumBelow f n
-unfolding sumBelow
-sum-other f i x zero h = refl
-sum-other f i x (suc n) h = rw (sum-other f i x n (omega arith), put-other f i x n (omega arith))
+module _ {A : Type 0} (P : A → ℕ) (f : ℕ → A) (i : ℕ) (x : A) where
+  sum-other : (n : ℕ) → n ≤ i → sumBelow (λ j. P (put f i x j)) n ≡ sumBelow (λ j. P (f j)) n
+  unfolding sumBelow
+  sum-other zero h = refl
+  sum-other (suc n) h = rw (sum-other n (omega arith), put-other f i x n (omega arith))
 
-pub sum-put : (f : ℕ → ℕ) (i x n : ℕ) → i < n → sumBelow (put f i x) n + f i ≡ sumBelow f n + x
-unfolding sumBelow
-sum-put f i x zero h = absurd (omega arith)
-sum-put f i x (suc n) h =
-    by-eqb i n
-    (λ e. subst (λ (m : ℕ). sumBelow (put f i x) m + put f i x m + f i ≡ sumBelow f m + f m + x) e (rw (sum-other f i x i (omega arith), put-same f i x) (omega arith)))
-    (λ ne. rw (put-other f i x n ne) (omega (arith, sum-put f i x n (omega arith))))
+  pub sum-put : (n : ℕ) → i < n → sumBelow (λ j. P (put f i x j)) n + P (f i) ≡ sumBelow (λ j. P (f j)) n + P x
+  unfolding sumBelow
+  sum-put zero h = absurd (omega arith)
+  sum-put (suc n) h =
+      by-eqb i n
+      (λ e.
+      subst (λ (m : ℕ). sumBelow (λ j. P (put f i x j)) m + P (put f i x m) + P (f i) ≡ sumBelow (λ j. P (f j)) m + P (f m) + P x) e
+      (rw (sum-other i (omega arith), put-same f i x) (omega arith)))
+      (λ ne. rw (put-other f i x n ne) (omega (arith, sum-put n (omega arith))))
+
+  -- by as much as the entry grows, at most
+  pub sum-grows : (d n : ℕ) → P x ≤ P (f i) + d → sumBelow (λ j. P (put f i x j)) n ≤ sumBelow (λ j. P (f j)) n + d
+  sum-grows d n h = by-cases (decLt i n) (λ l. omega (arith, sum-put n l)) (λ l. omega (arith, sum-other n (omega arith)))
 
 -- ---- lines
 

@@ -6,3 +6,4 @@ pub mod Placing
 pub mod Sessions
 pub mod Sound
 pub mod Lengths
+pub mod Pages
