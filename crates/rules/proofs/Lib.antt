@@ -1,6 +1,8 @@
 pub mod Chains
 pub mod Tables
 pub mod Sets
+pub mod Searches
+pub mod Placing
 pub mod Sessions
 pub mod Sound
 pub mod Tells
@@ -13,3 +15,5 @@ pub mod Removing
 pub mod Naming
 pub mod Parents
 pub mod Owners
+pub mod Lengths
+pub mod Pages
