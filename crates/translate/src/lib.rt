@@ -1,0 +1,1 @@
+// Scripts into lists: handles, one step for each frame, and translate.
