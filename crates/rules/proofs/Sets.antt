@@ -92,7 +92,7 @@ pub data Once : List ℕ → Type 0 where
   once-nil : Once []
   once : {a : ℕ} {l : List ℕ} → member a l ≡ false → Once l → Once (a ∷ l)
 
-no-member : (a : ℕ) (l : List ℕ) → (member a l ≡ true → ⊥) → member a l ≡ false
+pub no-member : (a : ℕ) (l : List ℕ) → (member a l ≡ true → ⊥) → member a l ≡ false
 no-member a l n = go (member a l) refl
   where
     go : (x : Bool) → member a l ≡ x → member a l ≡ false
@@ -137,7 +137,7 @@ once-withoutAll [] l o = o
 once-withoutAll (a ∷ gone) l o = once-withoutAll gone (without a l) (once-without a l o)
 
 -- taking one number out of such a list shortens it by one at most
-without-none : (a : ℕ) (l : List ℕ) → member a l ≡ false → without a l ≡ l
+pub without-none : (a : ℕ) (l : List ℕ) → member a l ≡ false → without a l ≡ l
 unfolding without
 without-none a [] n = refl
 without-none a (b ∷ l) n =

@@ -1,5 +1,5 @@
 -- Tables and sets: what `put`, `grant`, `letGo` and `remove` leave where they were, and what they change. Assumes nothing.
-use mathlib.Core.Path.{_≡_, refl, sym, ap, subst, _∙_}
+use mathlib.Core.Path.{_≡_, refl, sym, ap, subst, _∙_, fun-ext}
 use mathlib.Core.Bool.{Bool, true, false, not, _&&_, true≢false}
 use mathlib.Core.List.{List, [], _∷_}
 use Prim.Native.Nat.{ℕ, zero, suc, _+_, _-_, _/_, _≤_, _<_}
@@ -35,6 +35,13 @@ module _ {A : Type 0} (f : ℕ → A) (i : ℕ) (x : A) where
       by-eqb i j
       (λ q. subst (λ (k : ℕ). P (put f i x k) ≡ P (f k)) q (ap P put-same ∙ e))
       (λ ne. ap P (put-other j ne))
+
+  -- a table that has x at i and is f elsewhere
+  pub put-ext : (g : ℕ → A) → g i ≡ x → ((j : ℕ) → (i ≡ j → ⊥) → g j ≡ f j) → g ≡ put f i x
+  put-ext g here other =
+      fun-ext (λ j. by-eqb i j
+      (λ q. subst (λ (k : ℕ). g k ≡ put f i x k) q (here ∙ sym put-same))
+      (λ ne. other j ne ∙ sym (put-other j ne)))
 
 -- a handle of the n new ones, or as it was
 module _ (next n a : ℕ) (k : Kind) (f : ℕ → Handle) (h : ℕ) where

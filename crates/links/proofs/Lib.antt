@@ -1,0 +1,10 @@
+pub mod Lists
+pub mod Stores
+pub mod Rings
+pub mod Unlinks
+pub mod Appends
+pub mod Cells
+pub mod Empty
+pub mod Same
+pub mod Walks
+pub mod Moves

@@ -1,0 +1,4 @@
+pub mod Tables
+pub mod Finds
+pub mod Opens
+pub mod Marks

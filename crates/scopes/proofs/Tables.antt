@@ -1,0 +1,94 @@
+-- Tables, searches and tests in the forms that the operations meet. Assumes nothing.
+use mathlib.Core.Path.{_≡_, refl, sym, ap, _∙_, subst}
+use mathlib.Core.Logic.{_≢_, by-cases}
+use mathlib.Core.Bool.{Bool, true, false, _&&_, true≢false}
+use mathlib.Core.Option.{Option, none, some}
+use mathlib.Core.List.{List}
+use Prim.Native.Nat.{ℕ, zero, suc, _+_, _-_, _≤_, _<_}
+use native.Mathlib.Decide.{ℕ-discrete}
+use native.Mathlib.Omega.{arith}
+use Rattle.rules.specs.Notation.{put, first, orElse}
+use Rattle.rules.proofs.Tables.{put-same, put-other}
+use Rattle.rules.proofs.Searches.{Least, first-found, first-none, first-is, first-is-none}
+use Rattle.scopes.specs.Leaves.{lowest}
+
+pub clash {ℓ} : {A : Type ℓ} {b : Bool} → b ≡ true → b ≡ false → A
+clash p q = absurd (true≢false (sym p ∙ q))
+
+pub and-left : (a b : Bool) → (a && b) ≡ true → a ≡ true
+and-left true b e = refl
+and-left false b e = e
+
+pub and-right : (a b : Bool) → (a && b) ≡ true → b ≡ true
+and-right true b e = e
+and-right false b e = absurd (true≢false (sym e))
+
+pub and-both : (a b : Bool) → a ≡ true → b ≡ true → (a && b) ≡ true
+and-both a b p q = rw (p, q)
+
+pub and-false : (a : Bool) → (a && false) ≡ false
+and-false true = refl
+and-false false = refl
+
+-- a table that is f but for x at i
+pub put-ext : {A : Type 0} (f g : ℕ → A) (i : ℕ) (x : A) → g i ≡ x → ((j : ℕ) → j ≢ i → g j ≡ f j) → g ≡ put f i x
+put-ext f g i x same other = λ t j. at j (ℕ-discrete j i) t
+  where
+    at : (j : ℕ) → Dec (j ≡ i) → g j ≡ put f i x j
+    at j (yes e) = ap g e ∙ same ∙ sym (ap (put f i x) e ∙ put-same f i x)
+    at j (no n) = other j n ∙ sym (put-other f i x j (λ e. n (sym e)))
+
+-- a change that changes nothing, and a second one at the same place
+pub put-nothing : {A : Type 0} (f : ℕ → A) (i : ℕ) (x : A) → f i ≡ x → put f i x ≡ f
+put-nothing f i x e = sym (put-ext f f i x e (λ j n. refl))
+
+pub put-again : {A : Type 0} (f : ℕ → A) (i : ℕ) (x y : A) → put (put f i x) i y ≡ put f i y
+put-again f i x y = put-ext f (put (put f i x) i y) i y (put-same (put f i x) i y) (λ j n. put-other (put f i x) i y j (λ e. n (sym e)) ∙ put-other f i x j (λ e. n (sym e)))
+
+-- ---- the first below 64 that passes
+
+-- one place more is passed
+pub more : (f : ℕ → Bool) (i : ℕ) (k : ℕ) → ((j : ℕ) → k ≤ j → j < i → f j ≡ false) → f i ≡ false → (j : ℕ) → k ≤ j → j < i + 1 → f j ≡ false
+more f i k h e j a l = by-cases (ℕ-discrete j i) (λ q. rw q e) (λ q. h j a (omega arith))
+
+module _ (f : ℕ → Bool) (k : ℕ) (hk : k ≤ 64) where
+  pub lowest-here : (i : ℕ) → k ≤ i → i < 64 → ((j : ℕ) → k ≤ j → j < i → f j ≡ false) → f i ≡ true → i ≡ lowest f k
+  lowest-here i l h before e = sym (ap (λ (o : Option ℕ). orElse o 64) (first-is f k (64 - k) i (record { low = l; high = omega arith; before = before; passes = e })))
+
+  pub lowest-none : ((j : ℕ) → k ≤ j → j < 64 → f j ≡ false) → 64 ≡ lowest f k
+  lowest-none before = sym (ap (λ (o : Option ℕ). orElse o 64) (first-is-none f k (64 - k) (λ j a b. before j a (omega arith))))
+
+  -- what the answer says of the rules' search
+  pub record Low (r : ℕ) : Type 0 where
+    pub most : r ≤ 64
+    pub above : k ≤ r
+    pub before : (j : ℕ) → k ≤ j → j < r → f j ≡ false
+    pub at : r < 64 → f r ≡ true
+    pub is : r < 64 → first f k (64 - k) ≡ some r
+    pub none : 64 ≤ r → first f k (64 - k) ≡ none
+
+  pub low : (r : ℕ) → r ≡ lowest f k → Low r
+  low r e = go (first f k (64 - k)) refl
+    where
+      go : (o : Option ℕ) → first f k (64 - k) ≡ o → Low r
+      go none q =
+          let d : r ≡ 64 = e ∙ ap (λ (o : Option ℕ). orElse o 64) q in
+          record {
+            most = omega arith;
+            above = omega arith;
+            before = λ j a b. first-none f k (64 - k) q j a (omega arith);
+            at = λ l. absurd (omega arith);
+            is = λ l. absurd (omega arith);
+            none = λ l. q;
+          }
+      go (some a) q =
+          let d : r ≡ a = e ∙ ap (λ (o : Option ℕ). orElse o 64) q in
+          let l = first-found f k (64 - k) a q in
+          record {
+            most = omega (arith, l .high);
+            above = omega (arith, l .low);
+            before = λ j x y. l .before j x (omega arith);
+            at = λ x. subst (λ (b : ℕ). f b ≡ true) (sym d) (l .passes);
+            is = λ x. q ∙ ap some (sym d);
+            none = λ x. absurd (omega (arith, l .high));
+          }

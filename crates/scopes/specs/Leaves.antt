@@ -1,0 +1,64 @@
+-- What the leaves answer: functions that borrow some of the arrays. Assumes nothing.
+use mathlib.Core.Path.{_≡_}
+use mathlib.Core.Logic.{_≢_}
+use mathlib.Core.Bool.{Bool, true, false, not, _&&_}
+use mathlib.Core.Option.{Option, none, some}
+use mathlib.Core.List.{List, [], _∷_, _++_}
+use Prim.Native.Nat.{ℕ, _-_, _≤_, _<_}
+use lib.ListN.{getD, set}
+use lib.Dec.{ltb, eqb}
+use Rattle.rules.specs.Notation.{orElse, first}
+use Rattle.rules.specs.Scopes as rule
+use Rattle.scopes.specs.View.{index, scopesFrom, binding, bindingsOf}
+
+-- ---- which scope
+
+-- the first below 64, from i on, that passes, or 64
+abbrev pub lowest : (ℕ → Bool) → ℕ → ℕ
+lowest f i = orElse (first f i (64 - i)) 64
+
+abbrev pub isFree : List Bool → ℕ → Bool
+isFree live j = not (getD live j false)
+
+abbrev pub hasNumber : List Bool → List ℕ → ℕ → ℕ → Bool
+hasNumber live number n j = getD live j false && eqb (getD number j 0) n
+
+abbrev pub childOf : List Bool → List ℕ → ℕ → ℕ → Bool
+childOf live parent i j = getD live j false && eqb (getD parent j 0) i
+
+-- no live scope has i as its parent
+abbrev pub NoChild : List Bool → List ℕ → ℕ → Type 0
+NoChild live parent i = (j : ℕ) → getD live j false ≡ true → getD parent j 0 ≢ i
+
+-- the index of the live scope that has this id, or 64
+abbrev pub placeOf : List Bool → List ℕ → ℕ → ℕ → ℕ
+placeOf live number i n = elim (ltb i 64 && hasNumber live number n i) [ true ↦ i | false ↦ 64 ]
+
+-- ---- which binding
+
+-- place r has the binding of `name` in the scope at index i
+pub record There (bindings : List ℕ) (count i name r : ℕ) : Type 0 where
+  pub inside : r < count
+  pub is : rule.boundIn i name (bindingsOf bindings count) ≡ some (binding (getD bindings r 0))
+  pub in-scope : binding (getD bindings r 0) .scope ≡ i
+  pub of-name : binding (getD bindings r 0) .name ≡ name
+  pub replaced : (b : ℕ) → binding b .scope ≡ i → binding b .name ≡ name → bindingsOf (set bindings r b) count ≡ rule.rebound (binding b) (bindingsOf bindings count)
+
+pub record Missing (bindings : List ℕ) (count i name : ℕ) : Type 0 where
+  pub is : rule.boundIn i name (bindingsOf bindings count) ≡ none
+  pub appended : (b : ℕ) → binding b .scope ≡ i → binding b .name ≡ name → rule.rebound (binding b) (bindingsOf bindings count) ≡ bindingsOf bindings count ++ (binding b ∷ [])
+
+-- r is the place of the binding, or 256
+pub record Spot (bindings : List ℕ) (count i name r : ℕ) : Type 0 where
+  pub most : r ≤ 256
+  pub there : r < 256 → There bindings count i name r
+  pub missing : 256 ≤ r → Missing bindings count i name
+
+abbrev pub spotted : List ℕ → ℕ → Option rule.Binding
+spotted bindings r = elim (ltb r 256) [ true ↦ some (binding (getD bindings r 0)) | false ↦ none ]
+
+-- from the scope at index i upwards, over `left` scopes at most, the nearest binding is at r (256: there is none), whatever else the state has
+pub record Climbs (live : List Bool) (parent bindings : List ℕ) (count name i left r : ℕ) : Type 0 where
+  pub is : (c : rule.Scopes) (dangled : List Bool) (number : List ℕ) (owned : ℕ → List ℕ) → c .live ≡ scopesFrom live dangled parent number owned → c .bindings ≡ bindingsOf bindings count
+      → rule.lookup left c name (index i) ≡ spotted bindings r
+  pub spot : r < 256 → (k : ℕ) × There bindings count k name r

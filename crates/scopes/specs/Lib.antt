@@ -1,0 +1,3 @@
+pub mod View
+pub mod Sound
+pub mod Leaves

@@ -1,0 +1,130 @@
+-- The state as the rules see it, and what an operation did and said in the rules' terms. Assumes nothing.
+use mathlib.Core.Bool.{Bool, true, false}
+use mathlib.Core.Option.{Option, none, some}
+use mathlib.Core.List.{List, map}
+use Prim.Native.Nat.{ℕ, _+_, _/_, _%_, max}
+use lib.ListN.{getD, take}
+use lib.Dec.{ltb, eqb}
+use Rattle.rules.specs.Notation.{Answer, given, refused, _>>=_, refuse_unless_, _▹_}
+use Rattle.rules.specs.Sizes.{base}
+use Rattle.rules.specs.Slots.{pushes}
+use Rattle.rules.specs.AddressSets.{addedAll, withoutAll, run}
+use Rattle.rules.specs.Scopes as rule
+use Rattle.slots.specs.Halves.{slotsOf}
+use Rattle.links.specs.Follow.{lists}
+use Rattle.scopes.specs.declared.Scopes.{Scopes}
+use Rattle.scopes.specs.declared.ScopeId.{ScopeId}
+use Rattle.scopes.specs.declared.Reply.{Reply}
+use Rattle.scopes.specs.declared.Reply.the-variants.{Done, At, Empty, Opened, Found, Refused}
+use Rattle.scopes.specs.declared.Outcome.{Outcome}
+
+-- ---- the state
+
+-- the 65 lists: those of the scopes, and at 64 the dangling list
+abbrev pub held : List ℕ → ℕ → List ℕ
+held links = lists 1024 links
+
+-- an index below 64, or none
+abbrev pub index : ℕ → Option ℕ
+index n = elim (ltb n 64) [ true ↦ some n | false ↦ none ]
+
+abbrev pub onlyIf : Bool → rule.Scope → Option rule.Scope
+onlyIf true k = some k
+onlyIf false k = none
+
+abbrev pub scopeAt : List Bool → List ℕ → List ℕ → (ℕ → List ℕ) → ℕ → rule.Scope
+scopeAt dangled parent number owned i =
+    record { number = getD number i 0; parent = index (getD parent i 0); dangled = getD dangled i false; owned = owned i }
+
+abbrev pub scopesFrom : List Bool → List Bool → List ℕ → List ℕ → (ℕ → List ℕ) → ℕ → Option rule.Scope
+scopesFrom live dangled parent number owned i = onlyIf (getD live i false) (scopeAt dangled parent number owned i)
+
+-- a binding in one number: scope, name, address, handle, moved, from the top
+abbrev pub binding : ℕ → rule.Binding
+binding b =
+    record {
+      scope = b / 562949953421312;
+      name = b / 8589934592 % 65536;
+      address = b / 131072 % 65536;
+      handle = b / 2 % 65536;
+      moved = eqb (b % 2) 1;
+    }
+
+abbrev pub bindingsOf : List ℕ → ℕ → List rule.Binding
+bindingsOf bindings n = map binding (take n bindings)
+
+abbrev pub view : Scopes → rule.Scopes
+view s =
+    record {
+      slots = slotsOf (s .halves) (s .segments) (s .head);
+      live = scopesFrom (s .live) (s .dangled) (s .parent) (s .number) (held (s .links));
+      top = index (s .top);
+      counter = s .counter;
+      bindings = bindingsOf (s .bindings) (s .count);
+      dangling = held (s .links) 64;
+      size = s .size;
+    }
+
+abbrev pub idOf : ScopeId → rule.Id
+idOf i = record { index = i .index; number = i .number }
+
+-- the scope at index i, and where it was found
+abbrev pub scopeOf : Scopes → ℕ → rule.Scope
+scopeOf s i = scopeAt (s .dangled) (s .parent) (s .number) (held (s .links)) i
+
+abbrev pub foundAt : Scopes → ℕ → rule.Found
+foundAt s i = record { index = i; scope = scopeOf s i }
+
+-- ---- replies: for each case of the enum the numbers that document 01 has for it
+
+abbrev pub at : ℕ → Reply
+at a = At (record { 0 = a })
+
+abbrev pub atFirst : Option ℕ → Reply
+atFirst none = Empty
+atFirst (some a) = at a
+
+abbrev pub opened : rule.Id → Reply
+opened i = Opened (record { index = i .index; number = i .number })
+
+abbrev pub bound : rule.Binding → Reply
+bound b = Found (record { address = record { 0 = b .address }; handle = record { 0 = b .handle } })
+
+-- ---- what an operation did and said
+
+pub record Seen : Type 0 where
+  pub next : rule.Scopes
+  pub says : Reply
+
+abbrev pub seen : Outcome → Seen
+seen o = record { next = view (o .state); says = o .reply }
+
+-- the same of a rule's answer, in the state c; "All leave state and lent memory unchanged"
+abbrev pub told : {A : Type 0} → (A → Reply) → rule.Scopes → Answer (A × rule.Scopes) → Seen
+told f c (given x) = record { next = x .1; says = f (x .0) }
+told f c (refused n) = record { next = c; says = Refused n }
+
+-- where the rule gives the next state alone
+abbrev pub toldOnly : rule.Scopes → Answer rule.Scopes → Seen
+toldOnly c (given x) = record { next = x; says = Done }
+toldOnly c (refused n) = record { next = c; says = Refused n }
+
+-- a question's reply
+abbrev pub replied : {A : Type 0} → (A → Reply) → Answer A → Reply
+replied f (given x) = f x
+replied f (refused n) = Refused n
+
+-- define, with the handle that the binding remembers: 3, 9
+abbrev pub defined : ℕ → ℕ → ℕ → rule.Scopes → Answer rule.Scopes
+defined name address handle c = do
+  t ← refuse 3 unless (rule.topScope c)
+  rule.bindIn base t name address handle c
+
+-- what n pushes for the scope at index k leave, of which the first gives g
+abbrev pub runFor : Scopes → ℕ → ℕ → ℕ → rule.Scopes
+runFor s k g n =
+    view s
+    ▹ rule.slots≔ (pushes g n (view s .slots))
+    ▹ rule.setScope (foundAt s k) (rule.owned≔ (addedAll (run g n) (held (s .links) k)) (scopeOf s k))
+    ▹ rule.dangling≔ (withoutAll (run g n) (held (s .links) 64))
+    ▹ rule.size≔ (max (s .size) (g + n))

@@ -1,0 +1,202 @@
+// Names are bound in the top scope, and looked for from there up to root.
+ghost use mathlib.Core.Path.{_≡_};
+ghost use mathlib.Core.Bool.{false};
+ghost use Prim.Native.Nat.{ℕ, _≤_, _<_};
+ghost use lib.ListN.{length, getD};
+ghost use Rattle.rules.specs.Sizes.{base};
+ghost use Rattle.rules.specs.Scopes as rule;
+ghost use Rattle.scopes.specs.View.{view, binding, bindingsOf, bound, defined, seen, told, toldOnly, replied};
+ghost use Rattle.scopes.specs.Sound.{Sound};
+ghost use Rattle.scopes.specs.Leaves.{Spot, Climbs};
+use crate::Bound;
+use crate::HandleNumber;
+use crate::Outcome;
+use crate::Reply;
+use crate::Scopes;
+use crate::open::wide8;
+use slots::SlotAddress;
+
+// The place of the binding of `name` in scope i, or 256.
+pub fn find(bindings: &[u64; 256], count: usize, i: usize, name: u16) -> usize
+    requires { ⌜ (count ≤ 256) × (i < 64) × (length (now bindings) ≡ 256) ⌝ }
+    ensures { λ r. ⌜ Spot (now (bindings .entry)) count i name r ⌝ }
+{
+    let key = (i as u64) * 65536 + (name as u64);
+    let mut j: usize = 0;
+    while j < count {
+        if bindings[j] / 8589934592 == key {
+            return j;
+        }
+        j += 1;
+    }
+    256
+}
+
+// Looked for in scope i, then in its parent, `left` scopes at most.
+pub fn lookup<'a>(
+    live: &'a [bool; 64],
+    parent: &'a [u8; 64],
+    bindings: &'a [u64; 256],
+    count: usize,
+    name: u16,
+    i: usize,
+    left: usize,
+) -> usize
+    requires { ⌜ (count ≤ 256) × (length (now bindings) ≡ 256) × (length (now live) ≡ 64) ⌝ }
+    ensures { λ r. ⌜ Climbs (now (live .entry)) (now (parent .entry)) (now (bindings .entry)) count name i left r ⌝ }
+{
+    if left == 0 {
+        return 256;
+    }
+    if 64 <= i {
+        return 256;
+    }
+    if !live[i] {
+        return 256;
+    }
+    let j = find(bindings, count, i, name);
+    if j < 256 {
+        return j;
+    }
+    lookup(
+        live,
+        parent,
+        bindings,
+        count,
+        name,
+        wide8(parent[i]),
+        left - 1,
+    )
+}
+
+// What a binding says.
+fn bound_of(b: u64) -> Bound
+    ensures { λ r. ⌜ (r .address .0 ≡ binding b .address) × (r .handle .0 ≡ binding b .handle) ⌝ }
+{
+    Bound {
+        address: SlotAddress((b / 131072 % 65536) as u16),
+        handle: HandleNumber((b / 2 % 65536) as u16),
+    }
+}
+
+pub fn get(s: Scopes, name: u16) -> Reply
+    requires { ⌜ Sound s ⌝ }
+    ensures { λ r. ⌜ r ≡ replied bound (rule.getName base name (view s)) ⌝ }
+{
+    let top = s.top;
+    if top == 64 {
+        return Reply::Refused(3);
+    }
+    let j = lookup(&s.live, &s.parent, &s.bindings, s.count, name, top, 64);
+    if 256 <= j {
+        return Reply::Refused(10);
+    }
+    let b = s.bindings[j];
+    if b % 2 == 1 {
+        return Reply::Refused(11);
+    }
+    Reply::Found(bound_of(b))
+}
+
+pub fn take(s: Scopes, name: u16) -> Outcome
+    requires { ⌜ Sound s ⌝ }
+    ensures { λ r. ⌜ (seen r ≡ told bound (view s) (rule.takeName base name (view s))) × Sound (r .state) ⌝ }
+{
+    let top = s.top;
+    if top == 64 {
+        return Outcome {
+            state: s,
+            reply: Reply::Refused(3),
+        };
+    }
+    let j = lookup(&s.live, &s.parent, &s.bindings, s.count, name, top, 64);
+    if 256 <= j {
+        return Outcome {
+            state: s,
+            reply: Reply::Refused(10),
+        };
+    }
+    let b = s.bindings[j];
+    if b % 2 == 1 {
+        return Outcome {
+            state: s,
+            reply: Reply::Refused(11),
+        };
+    }
+    let mut t = s;
+    t.bindings[j] = b + 1;
+    Outcome {
+        state: t,
+        reply: Reply::Found(bound_of(b)),
+    }
+}
+
+// A binding in one number.
+fn packed(i: usize, name: u16, address: SlotAddress, handle: HandleNumber) -> u64
+    requires { ⌜ i < 64 ⌝ }
+    ensures { λ r. ⌜ binding r ≡ record { scope = i; name = name; address = address .0; handle = handle .0; moved = false } ⌝ }
+{
+    let key = (i as u64) * 65536 + (name as u64);
+    let place = (address.0 as u64) * 131072 + (handle.0 as u64) * 2;
+    key * 8589934592 + place
+}
+
+pub fn define(s: Scopes, name: u16, address: SlotAddress, handle: HandleNumber) -> Outcome
+    requires { ⌜ Sound s ⌝ }
+    ensures { λ r. ⌜ (seen r ≡ toldOnly (view s) (defined name (address .0) (handle .0) (view s))) × Sound (r .state) ⌝ }
+{
+    let top = s.top;
+    let count = s.count;
+    if top == 64 {
+        return Outcome {
+            state: s,
+            reply: Reply::Refused(3),
+        };
+    }
+    let j = find(&s.bindings, count, top, name);
+    let b = packed(top, name, address, handle);
+    let mut t = s;
+    if j < 256 {
+        t.bindings[j] = b;
+        return Outcome {
+            state: t,
+            reply: Reply::Done,
+        };
+    }
+    if count == 256 {
+        return Outcome {
+            state: s,
+            reply: Reply::Refused(9),
+        };
+    }
+    t.bindings[count] = b;
+    t.count = count + 1;
+    Outcome {
+        state: t,
+        reply: Reply::Done,
+    }
+}
+
+// The bindings of scope i go; the others keep their order. How many are left.
+pub fn forget_names(bindings: &mut [u64; 256], count: usize, i: usize) -> usize
+    requires { ⌜ (count ≤ 256) × (length (now bindings) ≡ 256) ⌝ }
+    ensures { λ r. ⌜ (r ≤ count) × (bindingsOf (now (bindings .exit)) r ≡ rule.unbound i (bindingsOf (now (bindings .entry)) count)) ⌝ }
+    ensures { λ r. ⌜ (((j : ℕ) → count ≤ j → getD (now (bindings .entry)) j 0 ≡ 0) → (j : ℕ) → r ≤ j → getD (now (bindings .exit)) j 0 ≡ 0) ⌝ }
+{
+    let mut w: usize = 0;
+    let mut j: usize = 0;
+    while j < count {
+        let b = bindings[j];
+        if b / 562949953421312 != i as u64 {
+            bindings[w] = b;
+            w += 1;
+        }
+        j += 1;
+    }
+    let n = w;
+    while w < count {
+        bindings[w] = 0;
+        w += 1;
+    }
+    n
+}

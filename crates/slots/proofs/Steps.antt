@@ -1,0 +1,175 @@
+-- What the code finds, as the rules say it: the test of soundness by the greatest slot; insert, push and remove from an address.
+-- `n` is the most segments there may be. Assumes nothing.
+use mathlib.Core.Path.{_≡_, refl, sym, ap, _∙_}
+use mathlib.Core.Bool.{Bool, true, false, _&&_}
+use mathlib.Core.Option.{Option, none, some}
+use Prim.Native.Nat.{ℕ, zero, suc, _+_, _-_, _*_, _/_, _%_, _≤_, _<_, max}
+use native.Mathlib.Omega.{arith}
+use lib.Dec.{eqb, leb, ltb}
+use borrow.Author.Tests.{eq-eqb, ne-eqb, lt-ltb, le-ltb, not-true, not-false}
+use Rattle.rules.specs.Notation.{Answer, given, put, pastLast}
+use Rattle.rules.specs.Sound.{soundSlots}
+use Rattle.rules.specs.Slots.{Slots, Placed, placed, startOf, insertNew, insert, pastGreatest, pushAt, push, removes, remove}
+use Rattle.rules.proofs.Searches.{first-found, first-none, past-within, past-above, past-last}
+use Rattle.rules.proofs.Placing.{clear, leastClear, insertShort, insert-short}
+use Rattle.rules.proofs.Sound.{SlotsSound}
+use Rattle.rules.proofs.Tells.{Tells, is-false, clash, tells-as, tells-and, tells-lt, tells-le}
+use Rattle.rules.proofs.Tests.{tells-slots}
+use Rattle.slots.specs.Halves.{firstClear, grownTo}
+use Rattle.slots.specs.Promises.{Seen, refusing, placing, removal, checked}
+use Rattle.slots.proofs.Finds.{clear-is, clear-of}
+
+-- two tests that tell one fact are equal
+told-same : {P : Type 0} (a b : Bool) → Tells a P → Tells b P → a ≡ b
+told-same true b s t = sym (t .shows (s .holds refl))
+told-same false b s t = sym (is-false b (λ e. clash (s .shows (t .holds e)) refl))
+
+-- two calls show the same where their slots, L and answers are equal
+shown : {A : Type 0} {f g : ℕ → Bool} {l k h : ℕ} {a : Answer A} → f ≡ g → l ≡ k
+    → _≡_ {A = Seen A} (record { next = record { occupied = f; segments = l; head = h }; says = a }) (record { next = record { occupied = g; segments = k; head = h }; says = a })
+shown {h = h} {a = a} p q = λ i. record { next = record { occupied = p i; segments = q i; head = h }; says = a }
+
+module _ (n : ℕ) (s : Slots) where
+  -- ---- soundness
+
+  abbrev test : Bool
+  test = leb (s .segments) n && ltb (s .head) n && leb (pastLast (s .occupied) (128 * n)) (128 * s .segments)
+
+  -- no slot from segment L on is occupied exactly where one past the greatest is at most 128·L
+  pub sound-test : test ≡ soundSlots n s
+  sound-test =
+      told-same test (soundSlots n s)
+      (tells-as (tells-and (tells-and (tells-le (s .segments) n) (tells-lt (s .head) n)) (tells-le (pastLast (s .occupied) (128 * n)) (128 * s .segments)))
+      (λ h. record { segments = h .0 .0; head = h .0 .1; low = λ a l o. omega (arith, past-above (s .occupied) (128 * n) a l o, h .1) })
+      (λ r. ((r .segments, r .head), below r (pastLast (s .occupied) (128 * n)) refl)))
+      (tells-slots n s)
+    where
+      below : SlotsSound n s → (g : ℕ) → pastLast (s .occupied) (128 * n) ≡ g → pastLast (s .occupied) (128 * n) ≤ 128 * s .segments
+      below r zero e = omega arith
+      below r (suc m) e = omega (arith, r .low m (omega (arith, past-within (s .occupied) (128 * n))) (past-last (s .occupied) (128 * n) m e))
+
+  pub sound-segments : soundSlots n s ≡ true → s .segments ≤ n
+  sound-segments y = tells-slots n s .holds y .segments
+
+  pub checked-yes : {A : Type 0} (x : Seen A) → soundSlots n s ≡ true → x ≡ checked n s x
+  unfolding checked
+  checked-yes x y = rw (y, checked)
+
+  pub checked-no : {A : Type 0} (x : Seen A) → soundSlots n s ≡ false → refusing 29 s ≡ checked n s x
+  unfolding checked
+  checked-no x y = rw (y, checked)
+
+  -- ---- insert: m is min(H, L), and a the least clear slot from segment m on, or 128·n
+
+  module _ (y : soundSlots n s ≡ true) (m a : ℕ) (start : m ≡ startOf s) (e : a ≡ firstClear (s .occupied) (128 * m) (128 * n - 128 * m)) where
+    is-sound : SlotsSound n s
+    is-sound = tells-slots n s .holds y
+
+    from : a ≡ firstClear (s .occupied) (128 * startOf s) (128 * n - 128 * startOf s)
+    from = e ∙ ap (λ (k : ℕ). firstClear (s .occupied) (128 * k) (128 * n - 128 * k)) start
+
+    pub insert-within : a ≤ 128 * n
+    insert-within = omega (arith, clear-of (s .occupied) (128 * m) (128 * n - 128 * m) a e .high, sound-segments y)
+
+    in-one : (b : ℕ) → leastClear s ≡ some b → (a ≡ b) × (b < 128 * s .segments)
+    unfolding leastClear
+    in-one b f =
+        let q = first-found (clear s) (128 * startOf s) (128 * (s .segments - startOf s)) b f in
+        let top : b < 128 * s .segments = omega (arith, q .high) in (
+          from ∙ clear-is (s .occupied) (128 * startOf s) (128 * n - 128 * startOf s) b (record {
+            low = q .low;
+            high = omega (arith, is-sound .segments);
+            before = λ j x z. not-false _ (q .before j x z);
+            here = λ _. not-true _ (q .passes);
+          }),
+          top,
+        )
+
+    past-all : leastClear s ≡ none → a ≡ 128 * s .segments
+    unfolding leastClear
+    past-all f =
+        from ∙ clear-is (s .occupied) (128 * startOf s) (128 * n - 128 * startOf s) (128 * s .segments) (record {
+          low = omega arith;
+          high = omega (arith, is-sound .segments);
+          before = λ j x z. not-false _ (first-none (clear s) (128 * startOf s) (128 * (s .segments - startOf s)) f j x (omega arith));
+          here = λ l. is-false _ (λ t. absurd (omega (arith, is-sound .low (128 * s .segments) (omega (arith, is-sound .segments, l)) t)));
+        })
+
+    abbrev given-a : Option Placed
+    given-a = placed a (record { occupied = put (s .occupied) a true; segments = max (s .segments) (a / 128 + 1); head = a / 128 })
+
+    insert-none : a ≡ 128 * n → insert n s ≡ none
+    unfolding insertShort insertNew
+    insert-none z = insert-short n s ∙ go (leastClear s) refl
+      where
+        go : (o : Option ℕ) → leastClear s ≡ o → insertShort n s ≡ none
+        go (some b) f = absurd (omega (arith, in-one b f .0, in-one b f .1, is-sound .segments))
+        go none f = rw (f, insertShort, eq-eqb (s .segments) n (omega (arith, past-all f)), insertNew)
+
+    insert-some : (a ≡ 128 * n → ⊥) → insert n s ≡ given-a
+    unfolding insertShort insertNew
+    insert-some z = insert-short n s ∙ go (leastClear s) refl
+      where
+        go : (o : Option ℕ) → leastClear s ≡ o → insertShort n s ≡ given-a
+        go (some b) f =
+            let q = in-one b f in
+            let l : max (s .segments) (b / 128 + 1) ≡ s .segments = omega arith in
+            rw (f, insertShort, q .0, l)
+        go none f =
+            let q = past-all f in
+            let l : max (s .segments) (a / 128 + 1) ≡ s .segments + 1 = omega arith in
+            let d : a / 128 ≡ s .segments = omega arith in
+            rw (f, insertShort, ne-eqb (s .segments) n (omega arith), insertNew, l, d, q)
+
+    pub insert-refused : a ≡ 128 * n → refusing 7 s ≡ placing s (insert n s)
+    insert-refused z = ap (placing s) (sym (insert-none z))
+
+    pub insert-placed : {f : ℕ → Bool} {l : ℕ} → (a ≡ 128 * n → ⊥) → f ≡ put (s .occupied) a true → l ≡ max (s .segments) (a / 128 + 1)
+        → record { next = record { occupied = f; segments = l; head = a / 128 }; says = given a } ≡ placing s (insert n s)
+    insert-placed z p q = shown p q ∙ ap (placing s) (sym (insert-some z))
+
+  -- ---- push: g is one past the greatest occupied slot
+
+  module _ (g : ℕ) (e : g ≡ pastLast (s .occupied) (128 * n)) where
+    pub push-within : g ≤ 128 * n
+    push-within = omega (arith, past-within (s .occupied) (128 * n))
+
+    push-none : g ≡ 128 * n → push n s ≡ none
+    unfolding push pastGreatest
+    push-none z = rw (eq-eqb (pastLast (s .occupied) (128 * n)) (128 * n) (sym e ∙ z), push)
+
+    push-some : (g ≡ 128 * n → ⊥) → push n s ≡ placed (pastLast (s .occupied) (128 * n)) (pushAt (pastLast (s .occupied) (128 * n)) s)
+    unfolding push pastGreatest
+    push-some z = rw (ne-eqb (pastLast (s .occupied) (128 * n)) (128 * n) (λ q. z (e ∙ q)), push)
+
+    pub push-refused : g ≡ 128 * n → refusing 7 s ≡ placing s (push n s)
+    push-refused z = ap (placing s) (sym (push-none z))
+
+    pub push-placed : {f : ℕ → Bool} {l : ℕ} → (g ≡ 128 * n → ⊥) → f ≡ put (s .occupied) g true → l ≡ grownTo (s .segments) g
+        → record { next = record { occupied = f; segments = l; head = s .head }; says = given g } ≡ placing s (push n s)
+    unfolding pushAt
+    push-placed z p q = shown p q ∙ ap (λ (k : ℕ). placing s (placed k (pushAt k s))) e ∙ ap (placing s) (sym (push-some z))
+
+-- ---- remove
+
+module _ (s : Slots) (a : ℕ) where
+  pub remove-yes : {f : ℕ → Bool} → a / 128 < s .segments → s .occupied a ≡ true → f ≡ put (s .occupied) a false
+      → record { next = record { occupied = f; segments = s .segments; head = a / 128 }; says = given true } ≡ removal a s
+  unfolding remove removes
+  remove-yes h o p = shown p refl ∙ rw (lt-ltb (a / 128) (s .segments) h, o, removes, remove)
+
+  same : removes a s ≡ false → record { next = s; says = given false } ≡ removal a s
+  unfolding remove
+  same e = rw (e, remove)
+
+  pub remove-clear : s .occupied a ≡ false → record { next = s; says = given false } ≡ removal a s
+  unfolding removes
+  remove-clear o = same (go (ltb (a / 128) (s .segments)))
+    where
+      go : (b : Bool) → (b && s .occupied a) ≡ false
+      go true = o
+      go false = refl
+
+  pub remove-past : s .segments ≤ a / 128 → record { next = s; says = given false } ≡ removal a s
+  unfolding removes
+  remove-past h = same (rw (le-ltb (a / 128) (s .segments) h))

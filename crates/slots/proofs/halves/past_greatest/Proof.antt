@@ -1,0 +1,88 @@
+-- `halves::past_greatest`. The loop's invariant: every slot from half i on is clear. Assumes nothing.
+use borrow.Author.Needs.{needs}
+use mathlib.Core.Path.{_≡_, sym}
+use mathlib.Core.Bool.{false}
+use Prim.Native.Nat.{ℕ, _*_, _≤_, _<_}
+use native.Mathlib.Omega.{arith}
+use Rattle.slots.specs.Halves.{occ}
+use Rattle.slots.proofs.Finds.{seam, past-of, past-is}
+use Rattle.slots.proofs.Occupied.{down-past, down-here}
+use Rattle.slots.proofs.halves.past_greatest.Statement.{statement}
+use Rattle.slots.proofs.halves.past_greatest.Tie as tie
+
+abbrev Inv-loop : tie.InvT-loop
+Inv-loop halves i₀ i = (i ≤ 16) × ((k : ℕ) → 64 * i ≤ k → k < 1024 → occ halves k ≡ false)
+
+abbrev μ-loop : tie.MeasureT-loop
+μ-loop halves i₀ i = i
+
+loop-holds : tie.Need-loop-holds Inv-loop μ-loop
+loop-holds c = (search needs, λ k a b. absurd (omega (arith, a, b)))
+
+sub-past-highest : tie.Need-sub-past-highest Inv-loop μ-loop
+sub-past-highest c = search needs
+
+mul-past-highest : tie.Need-mul-past-highest Inv-loop μ-loop
+mul-past-highest c = search needs
+
+element-copy-out-past-highest : tie.Need-element-copy-out-past-highest Inv-loop μ-loop
+element-copy-out-past-highest c = search needs
+
+past-highest-requires : tie.Need-past-highest-requires Inv-loop μ-loop
+past-highest-requires c κs = search needs
+
+sub-result : tie.Need-sub-result Inv-loop μ-loop
+sub-result c = search needs
+
+mul-result : tie.Need-mul-result Inv-loop μ-loop
+mul-result c = search needs
+
+add-result : tie.Need-add-result Inv-loop μ-loop
+add-result c = omega (arith, past-of _ _ _ (c .before .past-highest .ensures) .high)
+
+returns : tie.Need-returns Inv-loop μ-loop
+returns c =
+    down-here (c .before .before .before .before .before .args .halves .now) _ _ (c .before .past-highest .ensures)
+    _ (omega arith) (λ k a b. c .before .before .before .before .loop .inv .1 k (omega (arith, a)) b) (c .if1 .taken)
+
+sub-i : tie.Need-sub-i Inv-loop μ-loop
+sub-i c = search needs
+
+loop-less : tie.Need-loop-less Inv-loop μ-loop
+loop-less c = search needs
+
+loop-again : tie.Need-loop-again Inv-loop μ-loop
+loop-again c = (
+  search needs,
+  seam _ _ (64 * c .before .before .before .before .loop .i) _
+      (λ k a b. down-past (c .before .before .before .before .before .args .halves .now) _ _ (c .before .past-highest .ensures) (c .if1 .left) k a (omega (arith, b)))
+      (c .before .before .before .before .loop .inv .1),
+)
+
+returns-2 : tie.Need-returns-2 Inv-loop μ-loop
+returns-2 c =
+    sym (past-is _ _ _ (record {
+      high = search needs;
+      after = λ j a b. c .before .loop .inv .1 j (omega arith) b;
+      here = λ j e. absurd (omega (arith, e));
+    }))
+
+pub past-greatest-spec : {M : Type 1} → statement M
+past-greatest-spec =
+    tie.close
+    (tie.spec
+    Inv-loop
+    μ-loop
+    loop-holds
+    sub-past-highest
+    mul-past-highest
+    element-copy-out-past-highest
+    past-highest-requires
+    sub-result
+    mul-result
+    add-result
+    returns
+    sub-i
+    loop-less
+    loop-again
+    returns-2)

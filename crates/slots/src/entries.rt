@@ -1,0 +1,127 @@
+// What a host calls: the state in and out by value. A state that isn't sound is refused by 29; every refusal leaves the state unchanged.
+ghost use mathlib.Core.Path.{_≡_};
+ghost use mathlib.Core.Bool.{true};
+ghost use Rattle.rules.specs.Sizes.{base};
+ghost use Rattle.rules.specs.Sound.{soundSlots};
+ghost use Rattle.slots.specs.Promises.{view, seenPlacing, seenRemoving, placing, removal, FreshPromise, InsertPromise, PushPromise, RemovePromise};
+ghost use Rattle.rules.specs.Slots as rule;
+use crate::PlaceAnswer;
+use crate::Placing;
+use crate::RemoveAnswer;
+use crate::Removing;
+use crate::SlotAddress;
+use crate::Slots;
+use crate::halves;
+
+// No slot, no segment.
+pub fn fresh() -> Slots
+    ensures { λ r. ⌜ FreshPromise r ⌝ }
+{
+    Slots {
+        halves: [0; 16],
+        segments: 0,
+        head: 0,
+    }
+}
+
+pub fn insert(s: Slots) -> Placing
+    ensures { λ r. ⌜ InsertPromise s r ⌝ }
+{
+    if halves::are_sound(&s.halves, s.segments, s.head) {
+        insert_sound(s)
+    } else {
+        Placing {
+            state: s,
+            answer: PlaceAnswer::Refused(29),
+        }
+    }
+}
+
+// The least clear slot from segment min(H, L) on is what 01's walk over the segments finds, where the state is sound.
+fn insert_sound(s: Slots) -> Placing
+    requires { ⌜ soundSlots (base .segments) (view s) ≡ true ⌝ }
+    ensures { λ r. ⌜ seenPlacing r ≡ placing (view s) (rule.insert (base .segments) (view s)) ⌝ }
+{
+    let mut t = s;
+    let a = halves::first_clear(&t.halves, halves::least(t.head, t.segments));
+    if a == 1024 {
+        return Placing {
+            state: t,
+            answer: PlaceAnswer::Refused(7),
+        };
+    }
+    halves::occupy(&mut t.halves, a);
+    t.segments = halves::most(t.segments, a / 128 + 1);
+    t.head = a / 128;
+    Placing {
+        state: t,
+        answer: PlaceAnswer::At(SlotAddress(a as u16)),
+    }
+}
+
+pub fn push(s: Slots) -> Placing
+    ensures { λ r. ⌜ PushPromise s r ⌝ }
+{
+    if halves::are_sound(&s.halves, s.segments, s.head) {
+        push_sound(s)
+    } else {
+        Placing {
+            state: s,
+            answer: PlaceAnswer::Refused(29),
+        }
+    }
+}
+
+fn push_sound(s: Slots) -> Placing
+    requires { ⌜ soundSlots (base .segments) (view s) ≡ true ⌝ }
+    ensures { λ r. ⌜ seenPlacing r ≡ placing (view s) (rule.push (base .segments) (view s)) ⌝ }
+{
+    let mut t = s;
+    let g = halves::past_greatest(&t.halves);
+    if g == 1024 {
+        return Placing {
+            state: t,
+            answer: PlaceAnswer::Refused(7),
+        };
+    }
+    halves::occupy(&mut t.halves, g);
+    t.segments = halves::grown(t.segments, g);
+    Placing {
+        state: t,
+        answer: PlaceAnswer::At(SlotAddress(g as u16)),
+    }
+}
+
+pub fn remove(s: Slots, a: SlotAddress) -> Removing
+    ensures { λ r. ⌜ RemovePromise s a r ⌝ }
+{
+    if halves::are_sound(&s.halves, s.segments, s.head) {
+        remove_sound(s, a.0 as usize)
+    } else {
+        Removing {
+            state: s,
+            answer: RemoveAnswer::Refused(29),
+        }
+    }
+}
+
+fn remove_sound(s: Slots, a: usize) -> Removing
+    requires { ⌜ soundSlots (base .segments) (view s) ≡ true ⌝ }
+    ensures { λ r. ⌜ seenRemoving r ≡ removal a (view s) ⌝ }
+{
+    let mut t = s;
+    if a / 128 < t.segments {
+        if halves::occupied(&t.halves, a) {
+            halves::vacate(&mut t.halves, a);
+            t.head = a / 128;
+            return Removing {
+                state: t,
+                answer: RemoveAnswer::Yes,
+            };
+        }
+    }
+    Removing {
+        state: t,
+        answer: RemoveAnswer::No,
+    }
+}

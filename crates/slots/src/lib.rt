@@ -1,0 +1,39 @@
+// Which of the 1,024 slots are occupied, in 8 segments of 128, each of two 64-bit halves; and where the next one goes.
+// Beside the original's slots.rs: `half` is one 64-bit half, `halves` the sixteen of a state, `entries` what a host calls.
+pub mod entries;
+pub mod half;
+pub mod halves;
+
+// The address of a slot. A handle number is another type, so that neither passes for the other.
+pub struct SlotAddress(pub u16);
+
+// The state, by value: the occupied slots, segment count L, head segment H.
+pub struct Slots {
+    pub halves: [u64; 16],
+    pub segments: usize,
+    pub head: usize,
+}
+
+// What insert and push answer.
+pub enum PlaceAnswer {
+    At(SlotAddress),
+    Refused(u8),
+}
+
+// What remove answers.
+pub enum RemoveAnswer {
+    Yes,
+    No,
+    Refused(u8),
+}
+
+// The state comes first, the answer after it: so a step copies the state least.
+pub struct Placing {
+    pub state: Slots,
+    pub answer: PlaceAnswer,
+}
+
+pub struct Removing {
+    pub state: Slots,
+    pub answer: RemoveAnswer,
+}
