@@ -1,0 +1,4 @@
+pub mod Shapes
+pub mod Lines
+pub mod Writing
+pub mod Whole

@@ -1,0 +1,118 @@
+-- What the reader answers for a line of a script or of a list, over the rules' own definitions. Assumes nothing.
+use mathlib.Core.Path.{_≡_}
+use mathlib.Core.Bool.{Bool, true, false}
+use mathlib.Core.Option.{Option, none, some}
+use mathlib.Core.List.{List, [], _∷_}
+use Prim.Native.Nat.{ℕ, zero, suc, _+_, _*_, _-_, _≤_, _<_}
+use lib.ListN.{length, getD, take, drop}
+use lib.Dec.{eqb, ltb, leb}
+use Rattle.rules.specs.Frames as rules
+use Rattle.rules.specs.Frames.{child, pop, dangle, restore, popLast, alloc, allocIn, linear, define, get, takeFrom, free, freeQuietly, forget, drain, write, read, readName, Line, stores, loads, shows}
+use Rattle.rules.specs.Text.{value, Raw, raw, Split, split, rowed, lineOf, frameTable, lineTable, sizeTable, opcodeOf, operandsOf}
+use Rattle.text.specs.declared.lines.Frame.{Frame}
+use Rattle.text.specs.declared.lines.Reading.{Reading}
+use Rattle.text.specs.declared.lines.Reading.the-variants.{Malformed, One}
+use Rattle.text.specs.declared.lines.Taken.{Taken}
+use Rattle.text.specs.declared.lines.Digits.{Digits}
+use Rattle.text.specs.declared.lines.Digits.the-variants.{Bad, Whole}
+use Rattle.text.specs.Shapes.{frame, shapeOf}
+
+-- ---- positions of a text
+
+-- e is where the line that starts at p ends: its LF, or the end of the text
+pub record Ends (s : List ℕ) (p e : ℕ) : Type 0 where
+  pub from : p ≤ e
+  pub to : e ≤ length s
+  pub none-before : (k : ℕ) → p ≤ k → k < e → getD s k 0 ≡ 10 → ⊥
+  pub last : e < length s → getD s e 0 ≡ 10
+
+unfoldable pub allHex : List ℕ → Bool
+allHex [] = true
+allHex (c ∷ l) = elim (ltb (value c) 16) [ true ↦ allHex l | false ↦ false ]
+
+abbrev pub wordAt : List ℕ → ℕ → ℕ
+wordAt s p = value (getD s p 0) * 4096 + value (getD s (p + 1) 0) * 256 + value (getD s (p + 2) 0) * 16 + value (getD s (p + 3) 0)
+
+pub record Hex4 (s : List ℕ) (p : ℕ) : Type 0 where
+  pub within : p + 4 ≤ length s
+  pub hex0 : value (getD s p 0) < 16
+  pub hex1 : value (getD s (p + 1) 0) < 16
+  pub hex2 : value (getD s (p + 2) 0) < 16
+  pub hex3 : value (getD s (p + 3) 0) < 16
+
+pub record Hex2 (s : List ℕ) (p : ℕ) : Type 0 where
+  pub within : p + 2 ≤ length s
+  pub hex0 : value (getD s p 0) < 16
+  pub hex1 : value (getD s (p + 1) 0) < 16
+
+-- what of a raw line the code keeps: its opcode, how many operands, and the first two (0 where there are fewer)
+unfoldable pub wholeLine : Option Raw → Digits
+wholeLine none = Bad
+wholeLine (some r) = Whole (r .opcode) (length (r .operands)) (getD (r .operands) 0 0) (getD (r .operands) 1 0)
+
+abbrev pub ended : List ℕ → Split
+ended t = record { text = t; ended = true }
+
+-- ---- scripts
+
+-- a frame of the rules, as a record of its opcode and two operands
+abbrev pub codeOf : rules.Frame → Frame
+codeOf child = frame 0x01 0 0
+codeOf (pop s) = frame 0x02 s 0
+codeOf (dangle s) = frame 0x03 s 0
+codeOf (restore s) = frame 0x04 s 0
+codeOf popLast = frame 0x05 0 0
+codeOf alloc = frame 0x06 0 0
+codeOf (allocIn s) = frame 0x07 s 0
+codeOf (linear n) = frame 0x08 n 0
+codeOf (define name h) = frame 0x09 name h
+codeOf (get name) = frame 0x0a name 0
+codeOf (takeFrom name) = frame 0x0b name 0
+codeOf (free h) = frame 0x0c h 0
+codeOf (freeQuietly h) = frame 0x0d h 0
+codeOf (forget h) = frame 0x0e h 0
+codeOf drain = frame 0x0f 0 0
+codeOf (write h v) = frame 0x10 h v
+codeOf (read h) = frame 0x11 h 0
+codeOf (readName name) = frame 0x12 name 0
+
+-- the rules' frame of a record
+unfoldable pub frameOf : Frame → Option rules.Frame
+frameOf f = rowed frameTable (record { opcode = f .opcode; operands = take (shapeOf false (f .opcode) - 1) (f .a ∷ f .b ∷ []) })
+
+abbrev pub framed : Option rules.Frame → Reading
+framed none = Malformed
+framed (some f) = One (codeOf f)
+
+unfoldable pub frameReading : Split → Reading
+frameReading l = framed (lineOf frameTable l)
+
+-- ---- lists
+
+abbrev pub lined : Option Line → Reading
+lined none = Malformed
+lined (some l) = One (frame (opcodeOf l) (getD (operandsOf l) 0 0) (getD (operandsOf l) 1 0))
+
+abbrev pub sizedOr : Option ℕ → Reading → Reading
+sizedOr none other = other
+sizedOr (some n) other = One (frame 0x90 n 0)
+
+unfoldable pub lineReading : Split → Reading
+lineReading l = sizedOr (lineOf sizeTable l) (lined (lineOf lineTable l))
+
+abbrev pub readingOf : Bool → Split → Reading
+readingOf false = frameReading
+readingOf true = lineReading
+
+-- ---- a line that was taken at p, by the reading f, and where the next begins
+
+abbrev pub width : Split → ℕ
+width l = elim (l .ended) [ true ↦ length (l .text) + 1 | false ↦ length (l .text) ]
+
+pub record Took (f : Split → Reading) (s : List ℕ) (p : ℕ) (r : Taken) : Type 0 where
+  pub line : Split
+  pub here : split (drop p s) ≡ line ∷ split (drop (r .next) s)
+  pub as-read : r .reading ≡ f line
+  pub place : r .next ≡ p + width line
+  pub forward : p < r .next
+  pub within : r .next ≤ length s
