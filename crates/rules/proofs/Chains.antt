@@ -35,3 +35,6 @@ all-if {b = false} x y = y refl
 
 pub none-some {ℓ} : {A : Type 0} {X : Type ℓ} {a : A} → none ≡ some a → X
 none-some e = absurd (let z : _≡_ {A = ℕ} 0 1 = cc in omega arith)
+
+pub all-as : {A : Type 0} {P Q : A → Type 0} {m : Answer A} → ((a : A) → P a → Q a) → All P m → All Q m
+all-as f h = record { at = λ a e. f a (h .at a e) }

@@ -18,7 +18,7 @@ use Rattle.rules.proofs.Tells.{Tells, clash, is-false, tells-and, tells
 -- ---- how far it is to root
 
 module _ {n : ℕ} {live : ℕ → Option Scope} where
-  height : {i : ℕ} → Leads n live i → ℕ
+  unfoldable pub height : {i : ℕ} → Leads n live i → ℕ
   height (root k e p z m) = 0
   height (up k p e q z l d) = suc (height d)
 
@@ -64,7 +64,7 @@ module _ {n : ℕ} {live : ℕ → Option Scope} where
   way-within {i = i} h (up k p e q z l d) j f = member-cons j i (way d) f (λ s. omega arith) (λ g. way-within l d j g)
 
   -- fewer parents than there may be scopes
-  height-below : {i : ℕ} → i < n → (d : Leads n live i) → height d < n
+  pub height-below : {i : ℕ} → i < n → (d : Leads n live i) → height d < n
   height-below h d = omega (arith, way-length d, pigeons n (way d) (way-once d) (way-within h d))
 
 -- ---- the climb with steps to spare

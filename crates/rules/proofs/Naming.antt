@@ -3,41 +3,16 @@
 use mathlib.Core.Path.{_≡_, refl, sym, ap, subst, _∙_}
 use mathlib.Core.Bool.{Bool, true, false, _&&_}
 use mathlib.Core.Option.{Option, none, some}
-use Prim.Native.Nat.{ℕ, zero, suc, _+_, _≤_, _<_}
+use Prim.Native.Nat.{ℕ, _<_}
 use native.Mathlib.Omega.{arith}
 use lib.Dec.{eqb, ltb}
-use Rattle.rules.specs.Notation.{isSome, first}
+use Rattle.rules.specs.Notation.{first}
 use Rattle.rules.specs.Sizes.{Room}
 use Rattle.rules.specs.Scopes.{Id, Scope, Scopes, Found, found, topScope, hasNumber, byId, byNumber, idOf}
 use Rattle.rules.proofs.Chains.{none-some}
-use Rattle.rules.proofs.Tables.{by-eqb}
-use Rattle.rules.proofs.Sound.{IsLive, TopSound}
-use Rattle.rules.proofs.Tells.{Tells, clash, tells-and, tells-eq, tells-lt, tells-true}
-
--- ---- searches
-
--- what a search finds is in its range and passes
-module _ (f : ℕ → Bool) where
-  pub first-is : (i n a : ℕ) → first f i n ≡ some a → (f a ≡ true) × (i ≤ a) × (a < i + n)
-  unfolding first
-  first-is i zero a e = none-some e
-  first-is i (suc n) a e = go (f i) refl (first-is (suc i) n a)
-    where
-      go : (b : Bool) → f i ≡ b → (first f (suc i) n ≡ some a → (f a ≡ true) × (suc i ≤ a) × (a < suc i + n)) → (f a ≡ true) × (i ≤ a) × (a < i + suc n)
-      go true p ih = let q : some i ≡ some a = rw (p, first) at e in let r : i ≡ a = cc in (subst (λ (y : ℕ). f y ≡ true) r p, omega arith, omega arith)
-      go false p ih = let r = ih (rw (p, first) at e) in (r .0, omega arith, omega arith)
-
-  -- and where it finds none, nothing in its range passes
-  pub first-none : (i n : ℕ) → first f i n ≡ none → (j : ℕ) → i ≤ j → j < i + n → f j ≡ false
-  unfolding first
-  first-none i zero e j lo hi = absurd (omega arith)
-  first-none i (suc n) e j lo hi = go (f i) refl (λ q. first-none (suc i) n q j)
-    where
-      go : (b : Bool) → f i ≡ b → (first f (suc i) n ≡ none → suc i ≤ j → j < suc i + n → f j ≡ false) → f j ≡ false
-      go true p ih = none-some (sym (rw (p, first) at e))
-      go false p ih = by-eqb i j (λ q. subst (λ (y : ℕ). f y ≡ false) q p) (λ ne. ih (rw (p, first) at e) (omega (arith, ne)) (omega arith))
-
--- ---- scopes
+use Rattle.rules.proofs.Searches.{first-found}
+use Rattle.rules.proofs.Sound.{TopSound}
+use Rattle.rules.proofs.Tells.{tells-and, tells-eq, tells-lt, tells-true}
 
 -- k is live, at an index below n
 pub record Here (n : ℕ) (live : ℕ → Option Scope) (k : Found) : Type 0 where
@@ -104,11 +79,11 @@ module _ (room : Room) (c : Scopes) (n : ℕ) (k : Found) (e : byNumber room c n
       go : (o : Option ℕ) → first (λ i. hasNumber n (c .live i)) 0 (room .scopes) ≡ o → Numbered
       go none q = none-some (rw (q, byNumber) at e)
       go (some i) q =
-          let f = first-is (λ j. hasNumber n (c .live j)) 0 (room .scopes) i q in
+          let f = first-found (λ j. hasNumber n (c .live j)) 0 (room .scopes) i q in
           let r : found i (c .live i) ≡ some k = rw (q, byNumber) at e in
           record {
-            here = found-here (room .scopes) (c .live) i k (omega (arith, f .2)) r;
-            number = subst (λ (j : ℕ). hasNumber n (c .live j) ≡ true) (sym (found-at (c .live) i k r .0)) (f .0);
+            here = found-here (room .scopes) (c .live) i k (omega (arith, f .high)) r;
+            number = subst (λ (j : ℕ). hasNumber n (c .live j) ≡ true) (sym (found-at (c .live) i k r .0)) (f .passes);
           }
 
   pub number-here : Here (room .scopes) (c .live) k
@@ -123,3 +98,12 @@ module _ (room : Room) (c : Scopes) (n : ℕ) (k : Found) (e : byNumber room c n
       let q : (ltb (k .index) (room .scopes) && hasNumber (k .scope .number) (c .live (k .index))) ≡ true
       = tells-and (tells-lt (k .index) (room .scopes)) (tells-true (hasNumber (k .scope .number) (c .live (k .index)))) .shows (h .below, same) in
       rw (q, byId) (live-found (c .live) k (h .is))
+
+-- o is what an id or a number finds
+pub data Named (room : Room) (c : Scopes) (o : Option Found) : Type 0 where
+  by-id : (id : Id) → o ≡ byId room c id → Named room c o
+  by-number : (n : ℕ) → o ≡ byNumber room c n → Named room c o
+
+pub named-here : {room : Room} {c : Scopes} {o : Option Found} → Named room c o → (k : Found) → o ≡ some k → Here (room .scopes) (c .live) k
+named-here {room = room} {c = c} (by-id id q) k e = id-here room c id k (sym q ∙ e)
+named-here {room = room} {c = c} (by-number n q) k e = number-here room c n k (sym q ∙ e)

@@ -2,18 +2,21 @@
 -- back. Assumes nothing.
 use mathlib.Core.Path.{_≡_, refl, sym, ap, subst, _∙_}
 use mathlib.Core.Bool.{Bool, true, false}
-use mathlib.Core.List.{List, [], _∷_}
+use mathlib.Core.List.{List, []}
+use mathlib.Core.Option.{Option, some}
 use Prim.Native.Nat.{ℕ, _+_, _*_, _-_, _≤_, _<_, max}
 use native.Mathlib.Omega.{arith}
 use Rattle.rules.specs.Notation.{put}
 use Rattle.rules.specs.AddressSets.{member, added, without, addedAll, withoutAll, run}
 use Rattle.rules.specs.Slots.{Slots, Placed, remove, removeAll}
+use Rattle.rules.specs.Scopes.{Scope, Found}
+use Rattle.rules.specs.Sound.{ownedBy}
 use Rattle.rules.specs.Demand3.{Gives}
 use Rattle.rules.proofs.Tables.{by-eqb, put-same, put-other, remove-other, removeAll-other}
 use Rattle.rules.proofs.Sets.{without-member, Once, once-nil, once-added, once-addedAll, once-without, once-withoutAll, Within, within-nil, within-added, within-addedAll, within-without, within-withoutAll, within-run}
 use Rattle.rules.proofs.Members.{added-cases, addedAll-old, addedAll-new, addedAll-cases, withoutAll-member, without-keeps, run-member, run-within}
 use Rattle.rules.proofs.Removing.{remove-stays, remove-was, remove-clears, removeAll-stays, removeAll-clears, removeAll-was}
-use Rattle.rules.proofs.Sound.{SlotsSound, Owner, OwnedSound, DanglingSound, SizeSound}
+use Rattle.rules.proofs.Sound.{SlotsSound, OwnedSound, listsOf, DanglingSound, SizeSound}
 use Rattle.rules.proofs.Tells.{clash, decided, is-false}
 
 -- ---- in general
@@ -68,20 +71,32 @@ module _ {m n : ℕ} {before after : ℕ → Bool} {lists : ℕ → List ℕ} (i
         (λ ne. record { index = w .index; below = w .below; has = ap (member a) (put-other lists i new (w .index) ne) ∙ w .has }));
   }
 
+-- ---- the lists of live scopes
+
+-- the owned list of a found scope, and the lists where it is put back with another
+pub owned-at : (live : ℕ → Option Scope) (k : Found) → live (k .index) ≡ some (k .scope) → listsOf live (k .index) ≡ k .scope .owned
+owned-at live k e = rw e
+
+pub lists-put : (live : ℕ → Option Scope) (i : ℕ) (o : Option Scope) (j : ℕ) → listsOf (put live i o) j ≡ put (listsOf live) i (ownedBy o) j
+lists-put live i o j =
+    by-eqb i j
+    (λ q. subst (λ (y : ℕ). listsOf (put live i o) y ≡ put (listsOf live) i (ownedBy o) y) q (ap ownedBy (put-same live i o) ∙ sym (put-same (listsOf live) i (ownedBy o))))
+    (λ ne. ap ownedBy (put-other live i o j ne) ∙ sym (put-other (listsOf live) i (ownedBy o) j ne))
+
 -- ---- slots are given
 
 module _ {m : ℕ} (s : Slots) (p : Placed) (count : ℕ) (g : Gives count s p) (room : p .address + count ≤ m) where
-  abbrev given : List ℕ
+  abbrev pub given : List ℕ
   given = run (p .address) count
 
-  given-clear : (a : ℕ) → member a given ≡ true → s .occupied a ≡ false
+  pub given-clear : (a : ℕ) → member a given ≡ true → s .occupied a ≡ false
   given-clear a q = let r = run-within count (p .address) a q in subst (λ (y : ℕ). s .occupied y ≡ false) (omega arith) (g .clear (a - p .address) (omega arith))
 
-  given-taken : (a : ℕ) → member a given ≡ true → p .next .occupied a ≡ true
+  pub given-taken : (a : ℕ) → member a given ≡ true → p .next .occupied a ≡ true
   given-taken a q = let r = run-within count (p .address) a q in subst (λ (y : ℕ). p .next .occupied y ≡ true) (omega arith) (g .taken (a - p .address) (omega arith))
 
   -- a slot that is occupied now was so, or is one of those given
-  given-only {ℓ} : (X : Type ℓ) (a : ℕ) → p .next .occupied a ≡ true → (s .occupied a ≡ true → X) → (member a given ≡ true → X) → X
+  pub given-only {ℓ} : (X : Type ℓ) (a : ℕ) → p .next .occupied a ≡ true → (s .occupied a ≡ true → X) → (member a given ≡ true → X) → X
   given-only X a t was new = decided (s .occupied a) was (λ f. let r = g .only a t f in new (run-member count (p .address) a (r .0) (r .1)))
 
   pub owned-given : {n : ℕ} {lists : ℕ → List ℕ} (i : ℕ) (old : List ℕ) → i < n → lists i ≡ old → OwnedSound m n (s .occupied) lists

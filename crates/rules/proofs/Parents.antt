@@ -1,11 +1,8 @@
 -- Live scopes, their parents and the top stay sound when a scope is opened, changed or closed. Assumes nothing.
 use mathlib.Core.Path.{_≡_, refl, sym, ap, subst, _∙_}
-use mathlib.Core.Bool.{Bool, true, false}
+use mathlib.Core.Bool.{true, false}
 use mathlib.Core.Option.{Option, none, some}
-use mathlib.Core.List.{List, []}
-use Prim.Native.Nat.{ℕ, zero, suc, _+_, _≤_, _<_}
-use native.Mathlib.Omega.{arith}
-use lib.Dec.{eqb}
+use Prim.Native.Nat.{ℕ, _<_}
 use borrow.Author.Tests.{eq-eqb}
 use Rattle.rules.specs.Notation.{isSome, put}
 use Rattle.rules.specs.Scopes.{Scope, Found, childOf}
@@ -32,7 +29,7 @@ leads-live (root k e p z m) = is-some e
 leads-live (up k p e q z l d) = is-some e
 
 -- whatever leads anywhere leads to a live root
-root-live : {n : ℕ} {live : ℕ → Option Scope} {i : ℕ} → Leads n live i → isSome (live 0) ≡ true
+pub root-live : {n : ℕ} {live : ℕ → Option Scope} {i : ℕ} → Leads n live i → isSome (live 0) ≡ true
 root-live {live = live} (root k e p z m) = subst (λ (j : ℕ). isSome (live j) ≡ true) z (is-some e)
 root-live (up k p e q z l d) = root-live d
 

@@ -1,22 +1,23 @@
 -- insert in the wording of "Slots" and in a short form: the least clear slot from segment min(H, L) up to segment L, or a new segment.
 -- Assumes nothing.
 use mathlib.Core.Path.{_≡_, refl, sym, ap, _∙_}
-use mathlib.Core.Bool.{Bool, true, false, not}
+use mathlib.Core.Bool.{Bool, true, not}
 use mathlib.Core.Option.{Option, none, some}
-use Prim.Native.Nat.{ℕ, zero, suc, _+_, _*_, _-_, _/_, _≤_, _<_}
+use Prim.Native.Nat.{ℕ, zero, suc, _+_, _*_, _-_, _/_, min}
 use native.Mathlib.Omega.{arith}
-use lib.Dec.{eqb}
-use Rattle.rules.specs.Notation.{isSome, orElse, put, first}
-use Rattle.rules.specs.Slots.{Slots, Placed, placed, clearIn, hasClear, lowestClear, startOf, firstWithClear, insertInto, insertNew, insert}
-use Rattle.rules.proofs.Chains.{none-some}
-use Rattle.rules.proofs.Searches.{Least, first-found, first-on}
+use Rattle.rules.specs.Notation.{put, first}
+use Rattle.rules.specs.Slots.{Slots, Placed, placed, clearIn, hasClear, firstWithClear, insertInto, insertNew, insert}
+use Rattle.rules.proofs.Searches.{first-found, first-on}
 
 abbrev pub clear : Slots → ℕ → Bool
 clear s a = not (s .occupied a)
 
+abbrev pub fromSegment : Slots → ℕ
+fromSegment s = min (s .head) (s .segments)
+
 -- the least clear slot from segment min(H, L) up to segment L
 unfoldable pub leastClear : Slots → Option ℕ
-leastClear s = first (clear s) (128 * startOf s) (128 * (s .segments - startOf s))
+leastClear s = first (clear s) (128 * fromSegment s) (128 * (s .segments - fromSegment s))
 
 -- slot a, in a segment below L
 abbrev pub insertSlot : ℕ → Slots → Option Placed
@@ -48,15 +49,15 @@ unfolding insert insertShort leastClear firstWithClear clearIn insertInto
 insert-short n s = go (firstWithClear s) refl
   where
     in-one : (g : ℕ) (o : Option ℕ) → clearIn (s .occupied) g ≡ o → firstWithClear s ≡ some g → insert n s ≡ insertShort n s
-    in-one g none p e = absurd (let q = first-found (hasClear (s .occupied)) (startOf s) (s .segments - startOf s) g e .passes in let z : _≡_ {A = ℕ} 0 1 = cc in omega arith)
+    in-one g none p e = absurd (let q = first-found (hasClear (s .occupied)) (fromSegment s) (s .segments - fromSegment s) g e .passes in let z : _≡_ {A = ℕ} 0 1 = cc in omega arith)
     in-one g (some a) p e =
         let r = first-found (clear s) (128 * g) 128 a p in
         let d : a / 128 ≡ g = omega (arith, r .low, r .high) in
-        let f : leastClear s ≡ some a = by-segments s (s .segments - startOf s) (startOf s) ∙ rw e p in
+        let f : leastClear s ≡ some a = by-segments s (s .segments - fromSegment s) (fromSegment s) ∙ rw e p in
         rw (e, f, insert, insertShort) (rw (p, d))
 
     go : (o : Option ℕ) → firstWithClear s ≡ o → insert n s ≡ insertShort n s
     go (some g) e = in-one g (clearIn (s .occupied) g) refl e
     go none e =
-        let f : leastClear s ≡ none = by-segments s (s .segments - startOf s) (startOf s) ∙ rw e in
+        let f : leastClear s ≡ none = by-segments s (s .segments - fromSegment s) (fromSegment s) ∙ rw e in
         rw (e, f, insert, insertShort)

@@ -1,8 +1,8 @@
 -- Slots after one address or several were removed: sound again, the removed ones clear, the others as they were. Assumes nothing.
 use mathlib.Core.Path.{_≡_, refl, sym, subst, _∙_}
-use mathlib.Core.Bool.{Bool, true, false}
+use mathlib.Core.Bool.{true, false}
 use mathlib.Core.List.{List, [], _∷_}
-use Prim.Native.Nat.{ℕ, _+_, _*_, _/_, _≤_, _<_}
+use Prim.Native.Nat.{ℕ, _*_, _/_, _<_}
 use native.Mathlib.Omega.{arith}
 use lib.Dec.{ltb}
 use borrow.Author.Tests.{lt-ltb, ltb-true}
@@ -10,7 +10,7 @@ use Rattle.rules.specs.Notation.{put}
 use Rattle.rules.specs.AddressSets.{member}
 use Rattle.rules.specs.Slots.{Slots, remove, removes, removeAll}
 use Rattle.rules.proofs.Tables.{by-eqb, put-same, put-other}
-use Rattle.rules.proofs.Sets.{member-cons, Within, member-same, member-tail}
+use Rattle.rules.proofs.Sets.{member-cons}
 use Rattle.rules.proofs.Sound.{SlotsSound}
 use Rattle.rules.proofs.Tells.{clash, decided, is-false}
 

@@ -1,0 +1,237 @@
+-- Edition 1 is a fair placement: on slots that are in order, and so on those that are sound. Assumes nothing.
+use mathlib.Core.Path.{_≡_, refl, sym, subst, _∙_}
+use mathlib.Core.Bool.{Bool, true, false, true≢false}
+use mathlib.Core.Option.{Option, none, some}
+use Prim.Native.Nat.{ℕ, zero, suc, _+_, _*_, _-_, _/_, _%_, _≤_, _<_}
+use native.Mathlib.Omega.{arith}
+use lib.Dec.{eqb, ltb}
+use borrow.Author.Tests.{eqb-true, eqb-false, ltb-true, ltb-false, not-true}
+use Rattle.rules.specs.Notation.{put, pastLast}
+use Rattle.rules.specs.Sizes.{Room}
+use Rattle.rules.specs.Slots.{Slots, Placed, Placement, freshSlots, insert, insertNew, pastGreatest, pushAt, pushes, pushRun, remove, removes, edition1}
+use Rattle.rules.specs.Sound.{soundSlots}
+use Rattle.rules.specs.Demand3.{Gives, Fair}
+use Rattle.rules.proofs.Chains.{none-some}
+use Rattle.rules.proofs.Tables.{by-eqb, put-same, put-other}
+use Rattle.rules.proofs.Tells.{is-false, tells-and, tells-true}
+use Rattle.rules.proofs.Sound.{SlotsSound}
+use Rattle.rules.proofs.Tests.{tells-slots}
+use Rattle.rules.proofs.Searches.{first-found, past-within, past-above, past-last}
+use Rattle.rules.proofs.Placing.{clear, fromSegment, leastClear, insertShort, insert-short}
+
+-- ---- slots in order
+
+-- what soundness says of slots; H only where there is room, as the fresh ones have none
+pub record InOrder (n : ℕ) (s : Slots) : Type 0 where
+  pub segments : s .segments ≤ n
+  pub head : 0 < n → s .head < n
+  pub low : (a : ℕ) → a < 128 * n → s .occupied a ≡ true → a < 128 * s .segments
+
+pub sound-in-order : (n : ℕ) (s : Slots) → SlotsSound n s → InOrder n s
+sound-in-order n s o = record { segments = o .segments; head = λ _. o .head; low = o .low }
+
+pub in-order-sound : (n : ℕ) (s : Slots) → 0 < n → InOrder n s → SlotsSound n s
+in-order-sound n s pos o = record { segments = o .segments; head = o .head pos; low = o .low }
+
+-- a slot of a table after `put`: the one put, or as it was
+put-true : (f : ℕ → Bool) (a b : ℕ) (x : Bool) → put f a x b ≡ true → (a ≡ b → ⊥) → f b ≡ true
+put-true f a b x p ne = sym (put-other f a x b ne) ∙ p
+
+put-kept : (f : ℕ → Bool) (a b : ℕ) → f b ≡ true → put f a true b ≡ true
+put-kept f a b p = by-eqb a b (λ e. subst (λ (c : ℕ). put f a true c ≡ true) e (put-same f a true)) (λ ne. put-other f a true b ne ∙ p)
+
+module _ (n : ℕ) where
+  fresh-in-order : InOrder n freshSlots
+  unfolding freshSlots
+  fresh-in-order = record { segments = omega arith; head = λ pos. pos; low = λ a h p. absurd (true≢false (sym p)) }
+
+  removed-in-order : (a : ℕ) (s : Slots) → InOrder n s → InOrder n (remove a s)
+  unfolding remove removes
+  removed-in-order a s o = go (removes a s) refl
+    where
+      go : (r : Bool) → removes a s ≡ r → InOrder n (remove a s)
+      go true e =
+          rw (e, remove)
+          (record {
+            segments = o .segments;
+            head = λ pos. omega (arith, o .segments, ltb-true (a / 128) (s .segments) (tells-and (tells-true _) (tells-true _) .holds e .0));
+            low = λ b h p. o .low b h (put-true (s .occupied) a b false p (λ q. true≢false (sym p ∙ subst (λ (c : ℕ). put (s .occupied) a false c ≡ false) q (put-same (s .occupied) a false))));
+          })
+      go false e = rw (e, remove) o
+
+  -- what a placement owes for m slots
+  abbrev Owed : ℕ → Slots → Placed → Type 0
+  Owed m s p = InOrder n (p .next) × Gives m s p × (p .address + m ≤ 128 * n)
+
+  Given : ℕ → Slots → Option Placed → Type 0
+  Given m s o = (p : Placed) → o ≡ some p → Owed m s p
+
+  given-some : (m : ℕ) (s : Slots) (p : Placed) → Owed m s p → Given m s (some p)
+  unfolding Given
+  given-some m s p h q e = subst (Owed m s) (cc) h
+
+  given-none : (m : ℕ) (s : Slots) → Given m s none
+  unfolding Given
+  given-none m s q e = none-some e
+
+  -- ---- insert
+
+  -- one clear slot becomes occupied, and L takes it in
+  one : (s : Slots) (a l h : ℕ) → InOrder n s → s .occupied a ≡ false → s .segments ≤ l → a < 128 * l → l ≤ n → h < n
+      → Owed 1 s (record { address = a; next = record { occupied = put (s .occupied) a true; segments = l; head = h } })
+  one s a l h o c up lo hi hd = (
+    record {
+      segments = hi;
+      head = λ pos. hd;
+      low = λ b r p. by-eqb a b (λ e. omega arith) (λ ne. omega (arith, o .low b r (put-true (s .occupied) a b true p ne)));
+    },
+    record {
+      clear = λ i z. let e : a + i ≡ a = omega arith in rw e c;
+      taken = λ i z. let e : a + i ≡ a = omega arith in rw e (put-same (s .occupied) a true);
+      kept = λ b p. put-kept (s .occupied) a b p;
+      only = λ b p q. by-eqb a b (λ e. (omega arith, omega arith)) (λ ne. absurd (true≢false (sym (put-true (s .occupied) a b true p ne) ∙ q)));
+    },
+    omega arith,
+  )
+
+  -- no slot from segment L on is occupied
+  clear-on : (s : Slots) → InOrder n s → (a : ℕ) → 128 * s .segments ≤ a → a < 128 * n → s .occupied a ≡ false
+  clear-on s o a h r = is-false (s .occupied a) (λ e. omega (arith, o .low a r e))
+
+  new-fair : (s : Slots) → InOrder n s → Given 1 s (insertNew n s)
+  unfolding insertNew
+  new-fair s o = go (eqb (s .segments) n) refl
+    where
+      go : (x : Bool) → eqb (s .segments) n ≡ x → Given 1 s (insertNew n s)
+      go true e = rw (e, insertNew) (given-none 1 s)
+      go false e =
+          let l : s .segments < n = omega (arith, o .segments, eqb-false (s .segments) n e) in
+          rw (e, insertNew)
+          (given-some 1 s _ (one s (128 * s .segments) (s .segments + 1) (s .segments) o (clear-on s o (128 * s .segments) (omega arith) (omega arith)) (omega arith) (omega arith) (omega arith) l))
+
+  insert-fair : (s : Slots) → InOrder n s → Given 1 s (insert n s)
+  unfolding insertShort leastClear
+  insert-fair s o = rw insert-short (go (leastClear s) refl)
+    where
+      go : (r : Option ℕ) → leastClear s ≡ r → Given 1 s (insertShort n s)
+      go (some a) e =
+          let f = first-found (clear s) (128 * fromSegment s) (128 * (s .segments - fromSegment s)) a e in
+          let l : a < 128 * s .segments = omega (arith, f .high) in
+          rw (e, insertShort) (given-some 1 s _ (one s a (s .segments) (a / 128) o (not-true (s .occupied a) (f .passes)) (omega arith) l (o .segments) (omega (arith, o .segments))))
+      go none e = rw (e, insertShort) (new-fair s o)
+
+  -- ---- pushes
+
+  -- everything occupied is below g, and g is in the segments or just past them
+  record Pushable (g : ℕ) (s : Slots) : Type 0 where
+    above : (b : ℕ) → b < 128 * n → s .occupied b ≡ true → b < g
+    near : g ≤ 128 * s .segments
+    segments : s .segments ≤ n
+    head : 0 < n → s .head < n
+
+  push-one : (g : ℕ) (s : Slots) → Pushable g s → g < 128 * n → Pushable (suc g) (pushAt g s)
+  unfolding pushAt
+  push-one g s h l = go (eqb (g % 128) 0) refl
+    where
+      above : (b : ℕ) → b < 128 * n → put (s .occupied) g true b ≡ true → b < suc g
+      above b r p = by-eqb g b (λ e. omega arith) (λ ne. omega (arith, h .above b r (put-true (s .occupied) g b true p ne)))
+
+      go : (x : Bool) → eqb (g % 128) 0 ≡ x → Pushable (suc g) (pushAt g s)
+      go true e = rw (e, pushAt) (record { above = above; near = omega arith; segments = omega arith; head = h .head })
+      go false e = rw (e, pushAt) (record { above = above; near = omega (arith, h .near, eqb-false (g % 128) 0 e); segments = h .segments; head = h .head })
+
+  pushes-pushable : (m g : ℕ) (s : Slots) → Pushable g s → g + m ≤ 128 * n → Pushable (g + m) (pushes g m s)
+  unfolding pushes
+  pushes-pushable zero g s h l = let e : g + 0 ≡ g = omega arith in rw e h
+  pushes-pushable (suc m) g s h l =
+      let e : g + suc m ≡ suc g + m = omega arith in
+      rw e (pushes-pushable m (suc g) (pushAt g s) (push-one g s h (omega arith)) (omega arith))
+
+  pushes-kept : (m g : ℕ) (s : Slots) (b : ℕ) → s .occupied b ≡ true → pushes g m s .occupied b ≡ true
+  unfolding pushes pushAt
+  pushes-kept zero g s b p = p
+  pushes-kept (suc m) g s b p = pushes-kept m (suc g) (pushAt g s) b (put-kept (s .occupied) g b p)
+
+  pushes-taken : (m g : ℕ) (s : Slots) (i : ℕ) → i < m → pushes g m s .occupied (g + i) ≡ true
+  unfolding pushes pushAt
+  pushes-taken zero g s i l = absurd (omega arith)
+  pushes-taken (suc m) g s zero l = let e : g + 0 ≡ g = omega arith in rw e (pushes-kept m (suc g) (pushAt g s) g (put-same (s .occupied) g true))
+  pushes-taken (suc m) g s (suc i) l = let e : g + suc i ≡ suc g + i = omega arith in rw e (pushes-taken m (suc g) (pushAt g s) i (omega arith))
+
+  pushes-only : (m g : ℕ) (s : Slots) (b : ℕ) → pushes g m s .occupied b ≡ true → s .occupied b ≡ false → (g ≤ b) × (b < g + m)
+  unfolding pushes pushAt
+  pushes-only zero g s b p q = absurd (true≢false (sym p ∙ q))
+  pushes-only (suc m) g s b p q =
+      by-eqb g b
+      (λ e. (omega arith, omega arith))
+      (λ ne. let r = pushes-only m (suc g) (pushAt g s) b p (put-other (s .occupied) g true b ne ∙ q) in (omega arith, omega arith))
+
+  clear-above : (g : ℕ) (s : Slots) → Pushable g s → (b : ℕ) → g ≤ b → b < 128 * n → s .occupied b ≡ false
+  clear-above g s h b l r = is-false (s .occupied b) (λ e. omega (arith, h .above b r e))
+
+  past-pushable : (s : Slots) → InOrder n s → Pushable (pastGreatest n s) s
+  unfolding pastGreatest
+  past-pushable s o =
+      record { above = λ b r p. past-above (s .occupied) (128 * n) b r p; near = near (pastLast (s .occupied) (128 * n)) refl; segments = o .segments; head = o .head }
+    where
+      near : (g : ℕ) → pastLast (s .occupied) (128 * n) ≡ g → pastLast (s .occupied) (128 * n) ≤ 128 * s .segments
+      near zero e = omega arith
+      near (suc m) e = omega (arith, past-within (s .occupied) (128 * n), o .low m (omega (arith, past-within (s .occupied) (128 * n))) (past-last (s .occupied) (128 * n) m e))
+
+  run-fair : (m : ℕ) (s : Slots) → InOrder n s → Given m s (pushRun n m s)
+  unfolding pushRun
+  run-fair m s o = go (ltb (128 * n) (pastGreatest n s + m)) refl
+    where
+      go : (x : Bool) → ltb (128 * n) (pastGreatest n s + m) ≡ x → Given m s (pushRun n m s)
+      go true e = rw (e, pushRun) (given-none m s)
+      go false e =
+          let fits : pastGreatest n s + m ≤ 128 * n = ltb-false (128 * n) (pastGreatest n s + m) e in
+          let h = past-pushable s o in
+          let k = pushes-pushable m (pastGreatest n s) s h fits in
+          rw (e, pushRun)
+          (given-some m s _ (
+            record { segments = k .segments; head = k .head; low = λ b r p. omega (arith, k .above b r p, k .near) },
+            record {
+              clear = λ i l. clear-above (pastGreatest n s) s h (pastGreatest n s + i) (omega arith) (omega arith);
+              taken = λ i l. pushes-taken m (pastGreatest n s) s i l;
+              kept = λ b p. pushes-kept m (pastGreatest n s) s b p;
+              only = λ b p q. pushes-only m (pastGreatest n s) s b p q;
+            },
+            fits,
+          ))
+
+  edition1-given : (m : ℕ) (s : Slots) → InOrder n s → Given m s (edition1 n m s)
+  unfolding edition1
+  edition1-given m s o = go (eqb m 1) refl
+    where
+      go : (x : Bool) → eqb m 1 ≡ x → Given m s (edition1 n m s)
+      go true e = rw (e, edition1) (rw (eqb-true m 1 e) (insert-fair s o))
+      go false e = rw (e, edition1) (run-fair m s o)
+
+-- ---- edition 1
+
+pub edition1-fair : (room : Room) → Fair room (edition1 (room .segments)) (InOrder (room .segments))
+unfolding Given
+edition1-fair room =
+    record {
+      at-first = fresh-in-order (room .segments);
+      removed = removed-in-order (room .segments);
+      placed = λ m s p e o. edition1-given (room .segments) m s o p e;
+    }
+
+-- a placement that is fair on some slots is fair on the same slots, said otherwise
+pub fair-as : {room : Room} {place : Placement} {P Q : Slots → Type 0} → ((s : Slots) → P s → Q s) → ((s : Slots) → Q s → P s) → Fair room place P → Fair room place Q
+fair-as there back f =
+    record {
+      at-first = there freshSlots (f .at-first);
+      removed = λ a s o. there (remove a s) (f .removed a s (back s o));
+      placed = λ m s p e o. let g = f .placed m s p e (back s o) in (there (p .next) (g .0), g .1, g .2);
+    }
+
+-- on sound slots, as a record and as the test, where there is room at all
+module _ (room : Room) (pos : 0 < room .segments) where
+  pub edition1-fair-sound : Fair room (edition1 (room .segments)) (SlotsSound (room .segments))
+  edition1-fair-sound = fair-as (λ s. in-order-sound (room .segments) s pos) (sound-in-order (room .segments)) (edition1-fair room)
+
+  pub edition1-fair-test : Fair room (edition1 (room .segments)) (λ s. soundSlots (room .segments) s ≡ true)
+  edition1-fair-test = fair-as (λ s. tells-slots (room .segments) s .shows) (λ s. tells-slots (room .segments) s .holds) edition1-fair-sound
