@@ -1,1 +1,4 @@
-pub mod Handles
+pub mod Changes
+pub mod Packing
+pub mod Grants
+pub mod Moving

@@ -17,7 +17,7 @@ use Rattle.rules.specs.Needs.{Kind, freed}
 use Rattle.rules.specs.Frames.{Handle, held≔, kind≔, grant, letGo}
 use Rattle.rules.proofs.Tables.{by-eqb, put-same, put-other, grant-cases}
 use Rattle.rules.proofs.Tells.{decided}
-use Rattle.translate.specs.Handles.{slotIn, kindIn, handleAt}
+use Rattle.translate.specs.Handles.{slotIn, kindIn, handleAt, Hands}
 
 and-false : (b : Bool) → (b && false) ≡ false
 and-false true = refl
@@ -90,21 +90,16 @@ pub record Granted (occupied occupied′ : ℕ → Bool) (handles handles′ hol
   pub was-clear : (i : ℕ) → i < n → occupied (a + i) ≡ false
   pub taken : (i : ℕ) → i < n → occupied′ (a + i) ≡ true
   pub kept : (b : ℕ) → (b < a) ⊎ (a + n ≤ b) → occupied′ b ≡ occupied b
-  pub slots : (i : ℕ) → i < n → slotIn (getD handles′ (handed + i) 0) ≡ a + i
-  pub kinds : (i : ℕ) → i < n → kindIn (getD handles′ (handed + i) 0) ≡ kind
-  pub unwritten : (i : ℕ) → i < n → eqb (getD handles′ (handed + i) 0 % 2) 1 ≡ false
-  pub others : (g : ℕ) → (g < handed) ⊎ (handed + n ≤ g) → getD handles′ g 0 ≡ getD handles g 0
-  pub holds : (i : ℕ) → i < n → getD holders′ (a + i) 0 ≡ handed + i
-  pub held-others : (b : ℕ) → (b < a) ⊎ (a + n ≤ b) → getD holders′ b 0 ≡ getD holders b 0
+  pub hands : Hands handles handles′ holders holders′ handed n a kind
 
 module _ {occupied occupied′ : ℕ → Bool} {handles handles′ holders holders′ : List ℕ} {handed n a : ℕ} {kind : Kind} (g : Granted occupied occupied′ handles handles′ holders holders′ handed n a kind) where
   new-at : (i : ℕ) → i < n → handleAt occupied′ handles′ holders′ (handed + i) ≡ record { address = a + i; kind = kind; held = true; written = false }
   new-at i l =
-      let s : slotIn (getD handles′ (handed + i) 0) ≡ a + i = g .slots i l in
+      let s : slotIn (getD handles′ (handed + i) 0) ≡ a + i = g .hands .slots i l in
       let o : occupied′ (slotIn (getD handles′ (handed + i) 0)) ≡ true = rw s (g .taken i l) in
-      let e : eqb (getD holders′ (slotIn (getD handles′ (handed + i) 0)) 0) (handed + i) ≡ true = rw s (eq-eqb _ _ (g .holds i l)) in
-      let k : kindIn (getD handles′ (handed + i) 0) ≡ kind = g .kinds i l in
-      λ t. record { address = s t; kind = k t; held = o t && e t; written = g .unwritten i l t }
+      let e : eqb (getD holders′ (slotIn (getD handles′ (handed + i) 0)) 0) (handed + i) ≡ true = rw s (eq-eqb _ _ (g .hands .holds i l)) in
+      let k : kindIn (getD handles′ (handed + i) 0) ≡ kind = g .hands .kinds i l in
+      λ t. record { address = s t; kind = k t; held = o t && e t; written = g .hands .unwritten i l t }
 
   -- an older handle of one of these slots was not held, and isn't
   old-held : (h x : ℕ) → (h < handed) ⊎ (handed + n ≤ h) → (occupied′ x && eqb (getD holders′ x 0) h) ≡ (occupied x && eqb (getD holders x 0) h)
@@ -114,16 +109,16 @@ module _ {occupied occupied′ : ℕ → Bool} {handles handles′ holders holde
       (λ l. by-cases (decLt x (a + n)) (λ u. inside (x - a) (omega arith) (omega arith)) (λ u. outside (inr (omega arith))))
     where
       outside : (x < a) ⊎ (a + n ≤ x) → (occupied′ x && eqb (getD holders′ x 0) h) ≡ (occupied x && eqb (getD holders x 0) h)
-      outside q = rw (g .kept x q, g .held-others x q)
+      outside q = rw (g .kept x q, g .hands .held-others x q)
 
       inside : (i : ℕ) → i < n → x ≡ a + i → (occupied′ x && eqb (getD holders′ x 0) h) ≡ (occupied x && eqb (getD holders x 0) h)
       inside i l e =
-          let other : eqb (getD holders′ (a + i) 0) h ≡ false = ne-eqb (getD holders′ (a + i) 0) h (λ q. ⊎-elim (λ v. omega (arith, g .holds i l)) (λ v. omega (arith, g .holds i l)) w) in
+          let other : eqb (getD holders′ (a + i) 0) h ≡ false = ne-eqb (getD holders′ (a + i) 0) h (λ q. ⊎-elim (λ v. omega (arith, g .hands .holds i l)) (λ v. omega (arith, g .hands .holds i l)) w) in
           rw (e, g .was-clear i l, other, and-false (occupied′ (a + i)))
 
   old-at : (h : ℕ) → (h < handed) ⊎ (handed + n ≤ h) → handleAt occupied′ handles′ holders′ h ≡ handleAt occupied handles holders h
   old-at h w =
-      let b : getD handles′ h 0 ≡ getD handles h 0 = g .others h w in
+      let b : getD handles′ h 0 ≡ getD handles h 0 = g .hands .others h w in
       (λ t. record { address = slotIn (b t); kind = kindIn (b t); held = occupied′ (slotIn (b t)) && eqb (getD holders′ (slotIn (b t)) 0) h; written = eqb (b t % 2) 1 })
       ∙ λ t. record { address = slotIn (getD handles h 0); kind = kindIn (getD handles h 0); held = old-held h (slotIn (getD handles h 0)) w t; written = eqb (getD handles h 0 % 2) 1 }
 
