@@ -55,6 +55,15 @@ idOr (reply.Opened i) = i
 idOr (reply.Found b) = nowhere
 idOr (reply.Refused n) = nowhere
 
+-- the slot that was answered, or a number that no slot has
+abbrev pub slotOr : Reply → ℕ
+slotOr reply.Done = 65535
+slotOr (reply.At a) = a .0
+slotOr reply.Empty = 65535
+slotOr (reply.Opened i) = 65535
+slotOr (reply.Found b) = 65535
+slotOr (reply.Refused n) = 65535
+
 -- ---- steps
 
 -- where a script stands

@@ -1,12 +1,12 @@
 // 06 alloc, 07 alloc in, 08 linear: slots and their handles. 3 or 4, then 16, then 7.
 ghost use mathlib.Core.Path.{_≡_};
 ghost use mathlib.Core.List.{List};
-ghost use Prim.Native.Nat.{ℕ, _+_, _≤_};
+ghost use Prim.Native.Nat.{ℕ, _+_, _≤_, _<_};
 ghost use lib.ListN.{length};
 ghost use Rattle.rules.specs.Needs.{runKind};
 ghost use Rattle.rules.specs.Frames as frame;
 ghost use Rattle.needs.specs.Kinds.{kindOf};
-ghost use Rattle.translate.specs.Steps.{Stands, Works, Grants};
+ghost use Rattle.translate.specs.Steps.{slotOr, Stands, Works, Grants};
 use crate::handles::grant;
 use crate::steps::Adds;
 use crate::steps::Stepped;
@@ -20,6 +20,20 @@ use scopes::Scopes;
 use scopes::place;
 use slots::SlotAddress;
 
+// The slot that was answered; 65,535 where there is none.
+fn slot_or(reply: Reply) -> usize
+    ensures { λ r. ⌜ r ≡ slotOr reply ⌝ }
+{
+    match reply {
+        Reply::At(a) => a.0 as usize,
+        Reply::Done => 65535,
+        Reply::Empty => 65535,
+        Reply::Opened(_) => 65535,
+        Reply::Found(_) => 65535,
+        Reply::Refused(_) => 65535,
+    }
+}
+
 // n slots were asked for: where they were given, n handles go out.
 fn granted(
     o: Outcome,
@@ -30,26 +44,25 @@ fn granted(
     kind: AddressKind,
 ) -> Stepped
     requires { ⌜ (handed + n ≤ 2048) × (length (now handles) ≡ 2048) × (length (now holders) ≡ 1024) ⌝ }
-    requires { ⌜ ((a : SlotAddress) → o .reply ≡ Reply.At a → a .0 + n ≤ 1024) ⌝ }
+    requires { ⌜ ((a : SlotAddress) → o .reply ≡ Reply.At a → (a .0 < 1024) × (a .0 + n ≤ 1024)) ⌝ }
     ensures { λ r. ⌜ Grants o handed n kind r (now (handles .entry)) (now (handles .exit)) (now (holders .entry)) (now (holders .exit)) ⌝ }
 {
     let t = o.state;
     let reply = o.reply;
-    match reply {
-        Reply::At(a) => {
-            let first = a.0 as usize;
-            grant(handles, holders, handed, n, first, kind);
-            Stepped {
-                state: t,
-                handed: handed + n,
-                adds: Adds::One(a.0),
-            }
-        }
-        other => Stepped {
+    let adds = adds_of(reply);
+    let first = slot_or(reply);
+    if first < 1024 {
+        grant(handles, holders, handed, n, first, kind);
+        return Stepped {
             state: t,
-            handed,
-            adds: adds_of(other),
-        },
+            handed: handed + n,
+            adds,
+        };
+    }
+    Stepped {
+        state: t,
+        handed,
+        adds,
     }
 }
 

@@ -1,5 +1,6 @@
 // What a step takes from the state's replies, and what it adds to the list.
 ghost use mathlib.Core.Path.{_≡_};
+ghost use mathlib.Core.Option.{none};
 ghost use Rattle.rules.specs.Sizes.{base};
 ghost use Rattle.rules.specs.Scopes as rule;
 ghost use Rattle.scopes.specs.View.{view, idOf};
@@ -88,7 +89,7 @@ fn id_or(reply: Reply) -> ScopeId
 // A script names a scope by its number: the id of the one that is meant, or an id that no scope has.
 pub fn meant(s: Scopes, n: u16) -> ScopeId
     requires { ⌜ Sound s ⌝ }
-    ensures { λ r. ⌜ rule.byId base (view s) (idOf r) ≡ rule.byNumber base (view s) n ⌝ }
+    ensures { λ r. ⌜ (rule.byId base (view s) (idOf r) ≡ rule.byNumber base (view s) n) × (rule.byNumber base (view s) n ≡ none → r .index ≡ 255) ⌝ }
 {
     id_or(open::numbered(s, n as u32))
 }

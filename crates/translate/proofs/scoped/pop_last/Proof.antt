@@ -1,3 +1,6 @@
+use Rattle.scopes.specs.View.{view}
+use Rattle.rules.specs.Frames.{popLast}
+use Rattle.translate.proofs.Moving.{pop-last-does, moves}
 use borrow.Author.Needs.{needs}
 use Rattle.translate.proofs.scoped.pop_last.Statement.{statement}
 use Rattle.translate.proofs.scoped.pop_last.Tie as tie
@@ -16,7 +19,8 @@ ended-requires c κs = search needs
 
 -- src/scoped.rt:42:1
 returns : tie.Need-returns
-returns c = ?
+returns c = moves (c .before .before .args .s) (c .before .before .args .handed) (c .before .pop-last .result) (c .ended .result) (c .ended .ensures) (c .before .pop-last .ensures .1) popLast 0x05
+    (λ handles holders drained stands. pop-last-does (c .before .before .args .s) handles holders (c .before .before .args .handed) stands drained (view (c .before .pop-last .result .state)) (c .before .pop-last .result .reply) (c .before .pop-last .ensures .0))
 
 pub pop-last-spec : {M : Type 1} → statement M
 pop-last-spec = tie.close (tie.spec pop-last-requires ended-requires returns)

@@ -1,3 +1,5 @@
+use mathlib.Core.Path.{sym, ap}
+use Rattle.translate.specs.Steps.{addsOf}
 use borrow.Author.Needs.{needs}
 use Rattle.translate.proofs.steps.adds_of.Statement.{statement}
 use Rattle.translate.proofs.steps.adds_of.Tie as tie
@@ -38,7 +40,7 @@ returns c = search needs
 
 -- src/steps.rt:32:1
 returns-2 : tie.Need-returns-2
-returns-2 c = ?
+returns-2 c = sym (ap addsOf (c .before .reply .given .1))
 
 -- src/steps.rt:32:1
 returns-3 : tie.Need-returns-3
@@ -46,15 +48,15 @@ returns-3 c = search needs
 
 -- src/steps.rt:32:1
 returns-4 : tie.Need-returns-4
-returns-4 c = ?
+returns-4 c = sym (ap addsOf (c .before .before .reply2 .given .1))
 
 -- src/steps.rt:32:1
 returns-5 : tie.Need-returns-5
-returns-5 c = ?
+returns-5 c = sym (ap addsOf (c .before .before .reply3 .given .1))
 
 -- src/steps.rt:32:1
 returns-6 : tie.Need-returns-6
-returns-6 c = ?
+returns-6 c = sym (ap addsOf (c .before .reply4 .given .1))
 
 pub adds-of-spec : {M : Type 1} → statement M
 adds-of-spec =

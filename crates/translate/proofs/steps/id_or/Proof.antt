@@ -1,3 +1,5 @@
+use mathlib.Core.Path.{sym, ap}
+use Rattle.translate.specs.Steps.{idOr}
 use borrow.Author.Needs.{needs}
 use Rattle.translate.proofs.steps.id_or.Statement.{statement}
 use Rattle.translate.proofs.steps.id_or.Tie as tie
@@ -30,15 +32,15 @@ enum-told-5 c = search needs
 
 -- src/steps.rt:71:1
 returns : tie.Need-returns
-returns c = ?
+returns c = sym (ap idOr (c .enum-told .given .1))
 
 -- src/steps.rt:71:1
 returns-2 : tie.Need-returns-2
-returns-2 c = ?
+returns-2 c = sym (ap idOr (c .enum-told2 .given .1))
 
 -- src/steps.rt:71:1
 returns-3 : tie.Need-returns-3
-returns-3 c = ?
+returns-3 c = sym (ap idOr (c .enum-told3 .given .1))
 
 -- src/steps.rt:71:1
 returns-4 : tie.Need-returns-4
@@ -46,11 +48,11 @@ returns-4 c = search needs
 
 -- src/steps.rt:71:1
 returns-5 : tie.Need-returns-5
-returns-5 c = ?
+returns-5 c = sym (ap idOr (c .enum-told4 .given .1))
 
 -- src/steps.rt:71:1
 returns-6 : tie.Need-returns-6
-returns-6 c = ?
+returns-6 c = sym (ap idOr (c .enum-told5 .given .1))
 
 pub id-or-spec : {M : Type 1} → statement M
 id-or-spec =
