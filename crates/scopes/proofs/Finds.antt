@@ -13,12 +13,13 @@ use borrow.Author.Tests.{lt-ltb, le-ltb, ltb-true, eq-eqb, ne-eqb, eqb-true}
 use Rattle.rules.specs.Notation.{_>>=_, refuse_unless_, isSome, first}
 use Rattle.rules.specs.Sizes.{base}
 use Rattle.rules.specs.Scopes as rule
+use Rattle.rules.proofs.Tells.{clash}
 use Rattle.scopes.specs.View.{view, index, onlyIf, scopeOf, foundAt, opened, replied}
 use Rattle.scopes.specs.Sound.{Sound}
 use Rattle.scopes.specs.Leaves.{lowest, isFree, hasNumber, childOf, placeOf, NoChild}
 use Rattle.scopes.specs.declared.Scopes.{Scopes}
 use Rattle.scopes.specs.declared.Reply.the-variants.{Refused}
-use Rattle.scopes.proofs.Tables.{clash, and-left, and-right, Low, low}
+use Rattle.scopes.proofs.Tables.{and-left, and-right, Low, low}
 
 -- ---- the leaf that looks at an id
 

@@ -13,11 +13,12 @@ use lib.Seq.{getD-set-same, getD-set-other}
 use borrow.Author.Tests.{lt-ltb, eq-eqb, ne-eqb}
 use Rattle.rules.specs.Notation.{_>>=_, refuse_unless_, refuse_when_, put}
 use Rattle.rules.specs.Scopes as rule
+use Rattle.rules.proofs.Tells.{clash}
 use Rattle.scopes.specs.View.{held, index, view, scopeOf, toldOnly}
 use Rattle.scopes.specs.Sound.{Sound, Rooted, Leads, root, up}
 use Rattle.scopes.specs.declared.Scopes.{Scopes}
 use Rattle.scopes.specs.declared.Reply.the-variants.{Done, Refused}
-use Rattle.scopes.proofs.Tables.{clash, put-ext}
+use Rattle.scopes.proofs.Tables.{put-ext}
 use Rattle.scopes.proofs.Finds.{Known, in-range}
 
 abbrev pub marked : Scopes → ℕ → Bool → ℕ → Scopes

@@ -15,12 +15,13 @@ use Rattle.rules.specs.AddressSets.{member}
 use Rattle.rules.specs.Sizes.{base}
 use Rattle.rules.specs.Scopes as rule
 use Rattle.rules.proofs.Sets.{member-same}
+use Rattle.rules.proofs.Tells.{clash}
 use Rattle.scopes.specs.View.{held, index, bindingsOf, view, opened, told}
 use Rattle.scopes.specs.Sound.{Sound, Leads, root, up, Each}
 use Rattle.scopes.specs.Leaves.{lowest, isFree}
 use Rattle.scopes.specs.declared.Scopes.{Scopes}
 use Rattle.scopes.specs.declared.Reply.the-variants.{Refused}
-use Rattle.scopes.proofs.Tables.{clash, put-ext, Low, low}
+use Rattle.scopes.proofs.Tables.{put-ext, Low, low}
 use Rattle.scopes.proofs.Finds.{lives, no-top, Topped}
 
 abbrev pub withChild : Scopes → ℕ → ℕ → Scopes

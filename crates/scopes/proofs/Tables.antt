@@ -8,12 +8,10 @@ use Prim.Native.Nat.{ℕ, zero, suc, _+_, _-_, _≤_, _<_}
 use native.Mathlib.Decide.{ℕ-discrete}
 use native.Mathlib.Omega.{arith}
 use Rattle.rules.specs.Notation.{put, first, orElse}
+use Rattle.rules.proofs.Tables as rules
 use Rattle.rules.proofs.Tables.{put-same, put-other}
 use Rattle.rules.proofs.Searches.{Least, first-found, first-none, first-is, first-is-none}
 use Rattle.scopes.specs.Leaves.{lowest}
-
-pub clash {ℓ} : {A : Type ℓ} {b : Bool} → b ≡ true → b ≡ false → A
-clash p q = absurd (true≢false (sym p ∙ q))
 
 pub and-left : (a b : Bool) → (a && b) ≡ true → a ≡ true
 and-left true b e = refl
@@ -32,11 +30,7 @@ and-false false = refl
 
 -- a table that is f but for x at i
 pub put-ext : {A : Type 0} (f g : ℕ → A) (i : ℕ) (x : A) → g i ≡ x → ((j : ℕ) → j ≢ i → g j ≡ f j) → g ≡ put f i x
-put-ext f g i x same other = λ t j. at j (ℕ-discrete j i) t
-  where
-    at : (j : ℕ) → Dec (j ≡ i) → g j ≡ put f i x j
-    at j (yes e) = ap g e ∙ same ∙ sym (ap (put f i x) e ∙ put-same f i x)
-    at j (no n) = other j n ∙ sym (put-other f i x j (λ e. n (sym e)))
+put-ext f g i x same other = rules.put-ext f i x g same (λ j n. other j (λ e. n (sym e)))
 
 -- a change that changes nothing, and a second one at the same place
 pub put-nothing : {A : Type 0} (f : ℕ → A) (i : ℕ) (x : A) → f i ≡ x → put f i x ≡ f

@@ -4,8 +4,8 @@ use mathlib.Core.Path.{_≡_}
 use mathlib.Core.Logic.{_≢_, _⊎_}
 use mathlib.Core.Bool.{Bool, true, false}
 use mathlib.Core.List.{List, [], _∷_}
-use Prim.Native.Nat.{ℕ, _*_, _≤_, _<_}
-use lib.ListN.{getD}
+use Prim.Native.Nat.{ℕ, _*_, _^_, _≤_, _<_}
+use lib.ListN.{length, getD}
 use lib.Dec.{eqb, ltb}
 use Rattle.rules.specs.AddressSets.{member}
 use Rattle.rules.specs.Scopes as rule
@@ -68,3 +68,21 @@ pub record Sound (s : Scopes) : Type 0 where
   pub owned : Owned (s .halves) (s .owner) (s .live) (s .size)
   pub rooted : Rooted (s .live) (s .dangled) (s .parent) (s .number) (s .top)
   pub named : Named (s .bindings) (s .live) (s .count)
+
+-- ---- what the types of the arrays say
+
+-- their lengths
+pub record Sized (s : Scopes) : Type 0 where
+  pub halves : length (s .halves) ≡ 16
+  pub links : length (s .links) ≡ 2178
+  pub owner : length (s .owner) ≡ 1024
+  pub live : length (s .live) ≡ 64
+  pub dangled : length (s .dangled) ≡ 64
+  pub parent : length (s .parent) ≡ 64
+  pub number : length (s .number) ≡ 64
+  pub bindings : length (s .bindings) ≡ 256
+
+-- and that a half has 64 bits
+pub record Typed (s : Scopes) : Type 0 where
+  pub sized : Sized s
+  pub halves : (i : ℕ) → getD (s .halves) i 0 < 2 ^ 64

@@ -50,11 +50,12 @@ fn close(s: Scopes, i: usize) -> Scopes
     }
     let count = t.count;
     t.count = names::forget_names(&mut t.bindings, count, i);
-    t.top = t.parent[i] as usize;
+    let up = open::wide8(t.parent[i]);
     t.live[i] = false;
     t.dangled[i] = false;
     t.parent[i] = 64;
     t.number[i] = 0;
+    t.top = up;
     t
 }
 

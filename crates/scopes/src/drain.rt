@@ -16,7 +16,7 @@ pub struct Drained {
 pub fn drain(s: Scopes, out: &mut [u16; 1024]) -> Drained
     requires { ⌜ Sound s × (length (now out) ≡ 1024) ⌝ }
     ensures { λ r. ⌜ (view (r .state) ≡ rule.drainDangling (view s) .1) × (take (r .count) (now (out .exit)) ≡ rule.drainDangling (view s) .0) × Sound (r .state) ⌝ }
-    ensures { λ r. ⌜ ((k : ℕ) → r .count ≤ k → getD (now (out .exit)) k 0 ≡ getD (now (out .entry)) k 0) × (length (now (out .exit)) ≡ 1024) ⌝ }
+    ensures { λ r. ⌜ ((k : ℕ) → r .count ≤ k → getD (now (out .exit)) k 0 ≡ getD (now (out .entry)) k 0) × (length (now (out .exit)) ≡ 1024) × (r .count ≤ 1024) ⌝ }
 {
     let mut t = s;
     let mut n: usize = 0;

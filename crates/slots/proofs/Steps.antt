@@ -98,7 +98,7 @@ module _ (n : ℕ) (s : Slots) where
     abbrev given-a : Option Placed
     given-a = placed a (record { occupied = put (s .occupied) a true; segments = max (s .segments) (a / 128 + 1); head = a / 128 })
 
-    insert-none : a ≡ 128 * n → insert n s ≡ none
+    pub insert-none : a ≡ 128 * n → insert n s ≡ none
     unfolding insertShort insertNew
     insert-none z = insert-short n s ∙ go (leastClear s) refl
       where
@@ -106,7 +106,7 @@ module _ (n : ℕ) (s : Slots) where
         go (some b) f = absurd (omega (arith, in-one b f .0, in-one b f .1, is-sound .segments))
         go none f = rw (f, insertShort, eq-eqb (s .segments) n (omega (arith, past-all f)), insertNew)
 
-    insert-some : (a ≡ 128 * n → ⊥) → insert n s ≡ given-a
+    pub insert-some : (a ≡ 128 * n → ⊥) → insert n s ≡ given-a
     unfolding insertShort insertNew
     insert-some z = insert-short n s ∙ go (leastClear s) refl
       where

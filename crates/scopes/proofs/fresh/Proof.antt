@@ -1,3 +1,5 @@
+-- The fresh state. Assumes nothing.
+use Rattle.scopes.proofs.Start.{fresh-view, fresh-sound}
 use borrow.Author.Needs.{needs}
 use Rattle.scopes.proofs.fresh.Statement.{statement}
 use Rattle.scopes.proofs.fresh.Tie as tie
@@ -15,7 +17,7 @@ array-write-live c = search needs
 
 -- src/lib.rt:63:1
 returns : tie.Need-returns
-returns c = ?
+returns c = (fresh-view (c .fresh .result) (c .fresh .ensures), fresh-sound (c .fresh .result) (c .fresh .ensures))
 
 pub fresh-spec : {M : Type 1} → statement M
 fresh-spec = tie.close (tie.spec fresh-requires array-write-live returns)

@@ -1,53 +1,64 @@
+-- A binding's place. Assumes nothing.
+use mathlib.Core.Path.{_≡_, refl, sym, _∙_}
+use mathlib.Core.List.{List, []}
+use Prim.Native.Nat.{ℕ, _+_, _-_, _*_, _<_, _≤_}
+use native.Mathlib.Omega.{arith}
+use borrow.Author.Needs.{needs}
+use lib.ListN.{length, getD, take}
+use Rattle.scopes.proofs.Bindings.{Missed, hit, miss, missed-more, spot-none, spot-some}
 use Rattle.scopes.proofs.names.find.Statement.{statement}
 use Rattle.scopes.proofs.names.find.Tie as tie
 use Rattle.scopes.proofs.names.find.Reads as reads
 use Rattle.scopes.proofs.names.find.Lts as lts
 
 abbrev Inv-loop : tie.InvT-loop
-Inv-loop bindings count i name key j₀ j = ?
+Inv-loop bindings count i name key j₀ j = (j ≤ count) × (key ≡ i * 65536 + name) × Missed i name (take j (take count bindings))
 
 abbrev μ-loop : tie.MeasureT-loop
-μ-loop bindings count i name key j₀ j = ?
+μ-loop bindings count i name key j₀ j = count - j
+
+word : (s : tie.Start Inv-loop μ-loop) → s .args .name < 65536
+word s = search needs
 
 -- src/names.rt:24:15
 mul-key : tie.Need-mul-key Inv-loop μ-loop
-mul-key c = ?
+mul-key c = search needs
 
 -- src/names.rt:24:15
 add-key : tie.Need-add-key Inv-loop μ-loop
-add-key c = ?
+add-key c = omega (arith, word c)
 
 -- src/names.rt:26:5
 loop-holds : tie.Need-loop-holds Inv-loop μ-loop
-loop-holds c = ?
+loop-holds c = (search needs, refl, tt)
 
 -- src/names.rt:27:12
 mul-if1 : tie.Need-mul-if1 Inv-loop μ-loop
-mul-if1 c = ?
+mul-if1 c = search needs
 
 -- src/names.rt:27:12
 element-copy-out-if1 : tie.Need-element-copy-out-if1 Inv-loop μ-loop
-element-copy-out-if1 c = ?
+element-copy-out-if1 c = omega (arith, c .before .before .pre)
 
 -- src/names.rt:28:13
 returns : tie.Need-returns Inv-loop μ-loop
-returns c = ?
+returns c = let s = c .before .before .before .before in let l = c .before .before .before .loop in let t = c .before .before .loop-test .taken in spot-some (s .args .i) (s .args .name) (s .args .bindings .now) (s .args .count) (s .pre .2) (s .pre .0) (l .j) t (l .inv .2) (hit _ (s .args .i) (s .args .name) (word s) (c .if1 .taken ∙ l .inv .1))
 
 -- src/names.rt:30:9
 add-j : tie.Need-add-j Inv-loop μ-loop
-add-j c = ?
+add-j c = search needs
 
 -- src/names.rt:26:5
 loop-less : tie.Need-loop-less Inv-loop μ-loop
-loop-less c = ?
+loop-less c = search needs
 
 -- src/names.rt:26:5
 loop-again : tie.Need-loop-again Inv-loop μ-loop
-loop-again c = ?
+loop-again c = let s = c .before .before .before .before in let l = c .before .before .before .loop in let t = c .before .before .loop-test .taken in (search needs, l .inv .1, missed-more (s .args .i) (s .args .name) (s .args .bindings .now) (s .args .count) (s .pre .2) (s .pre .0) (l .j) t (l .inv .2) (miss _ (s .args .i) (s .args .name) (word s) (λ e. c .if1 .left (e ∙ sym (l .inv .1)))))
 
 -- src/names.rt:20:1
 returns-2 : tie.Need-returns-2 Inv-loop μ-loop
-returns-2 c = ?
+returns-2 c = let s = c .before .before in let l = c .before .loop in spot-none (s .args .i) (s .args .name) (s .args .bindings .now) (s .args .count) (s .pre .2) (s .pre .0) (l .j) (c .loop-test .left) (l .inv .2)
 
 pub find-spec : {M : Type 1} → statement M
 find-spec =
