@@ -1,0 +1,19 @@
+use Rattle.rules.specs.Needs as rule
+use Rattle.needs.specs.declared.AddressKind.the-variants.{Local}
+use Rattle.needs.proofs.Replies.{placed-told}
+use borrow.Author.Needs.{needs}
+use Rattle.needs.proofs.addresses.alloc.Statement.{statement}
+use Rattle.needs.proofs.addresses.alloc.Tie as tie
+
+alloc-requires : tie.Need-alloc-requires
+alloc-requires c κs = search needs
+
+placed-requires : tie.Need-placed-requires
+placed-requires c κs = search needs
+
+returns : tie.Need-returns
+unfolding rule.allocAddress
+returns c = (placed-told Local _ _ _ _ _ (c .placed .ensures) (c .before .before .alloc .ensures .0), c .before .before .alloc .ensures .1)
+
+pub alloc-spec : {M : Type 1} → statement M
+alloc-spec = tie.close (tie.spec alloc-requires placed-requires returns)
