@@ -5,4 +5,5 @@ pub mod Rows
 pub mod Told
 pub mod Splits
 pub mod Texts
+pub mod Bounds
 pub mod Over

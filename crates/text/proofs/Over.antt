@@ -16,6 +16,11 @@ pub over-sets : (out : List ℕ) (w : ℕ) (t : List ℕ) → w + length t ≤ l
 unfolding over
 over-sets out w t h = sets-eq t out w h
 
+-- nothing over it
+pub over-nothing : (out : List ℕ) (w : ℕ) → out ≡ over out w []
+unfolding over
+over-nothing out w = rw (add-zero, append-nil) (sym (take-append-drop w out))
+
 -- what is written next to what was written
 pub over-over : (out : List ℕ) (w : ℕ) (t : List ℕ) (w′ : ℕ) (u : List ℕ) → w ≤ length out → w′ ≡ w + length t → over (over out w t) w′ u ≡ over out w (t ++ u)
 unfolding over
@@ -88,8 +93,8 @@ pub hexes-more : (ws : List ℕ) (i : ℕ) → i < length ws → hexes (take i w
 hexes-more ws i h = sym (rw (add-one, take-suc ws i 0 h, hexes-append, hexes-one))
 
 pub words-none : (out : List ℕ) (w : ℕ) (ws : List ℕ) → out ≡ over out w (hexes (take 0 ws))
-unfolding over hexes
-words-none out w ws = rw (add-zero, append-nil) (sym (take-append-drop w out))
+unfolding hexes
+words-none out w ws = over-nothing out w
 
 pub words-more : (out out1 out2 : List ℕ) (w v i : ℕ) (ws : List ℕ) → w ≤ length out → i < length ws → v ≡ w + 4 * i → out1 ≡ over out w (hexes (take i ws)) → out2 ≡ over out1 v (hex4 (getD ws i 0))
     → out2 ≡ over out w (hexes (take (i + 1) ws))

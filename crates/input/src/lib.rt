@@ -1,0 +1,69 @@
+// What a program reads: standard input, or the file that its first argument names.
+ghost use mathlib.Core.Path.{_≡_};
+ghost use Prim.Native.Nat.{ℕ, _≤_};
+ghost use lib.ListN.{length};
+ghost use Rattle.input.specs.Within.{Within};
+
+pub enum Input {
+    Bytes(usize),
+    Failed,
+}
+
+// Reads until buf is full or the input ends. It answers how many bytes it put at the start of buf, or that a read failed.
+fn fill(fd: i32, buf: &mut [u8]) -> Input
+    ensures { λ r. ⌜ Within r (length (now (buf .entry))) ⌝ }
+{
+    let mut n: usize = 0;
+    while n < buf.len() {
+        let got = libc::read(fd, &mut buf[n..]);
+        if got < 0 {
+            return Input::Failed;
+        }
+        let more = io::count(got, &buf[n..]);
+        if more == 0 {
+            return Input::Bytes(n);
+        }
+        n += more;
+    }
+    Input::Bytes(n)
+}
+
+// The same, and a word on standard error where a read failed.
+fn fill_or_say(fd: i32, buf: &mut [u8], name: &[u8]) -> Input
+    ensures { λ r. ⌜ Within r (length (now (buf .entry))) ⌝ }
+{
+    let r = fill(fd, buf);
+    match r {
+        Input::Failed => os::fail(name),
+        Input::Bytes(_) => {}
+    }
+    r
+}
+
+fn read_file(path: &[u8], buf: &mut [u8]) -> Input
+    ensures { λ r. ⌜ Within r (length (now (buf .entry))) ⌝ }
+{
+    let fd = os::open_read(path);
+    if fd < 0 {
+        os::fail(path);
+        return Input::Failed;
+    }
+    let r = fill_or_say(fd, buf, path);
+    libc::close(fd);
+    r
+}
+
+pub fn read_input(buf: &mut [u8]) -> Input
+    ensures { λ r. ⌜ Within r (length (now (buf .entry))) ⌝ }
+{
+    if os::arg_count() < 2 {
+        return fill_or_say(0, buf, b"standard input");
+    }
+    let mut path = io::buffer();
+    let n = os::arg(1, &mut path);
+    if os::errno() != 0 {
+        os::fail(b"argument");
+        return Input::Failed;
+    }
+    read_file(&path[..n], buf)
+}

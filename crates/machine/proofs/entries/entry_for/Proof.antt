@@ -1,0 +1,20 @@
+-- `entry_for` meets its contract. Assumes nothing.
+use mathlib.Core.Path.{sym}
+use borrow.Author.Tests.{eq-eqb, ne-eqb}
+use Rattle.machine.proofs.entries.entry_for.Statement.{statement}
+use Rattle.machine.proofs.entries.entry_for.Tie as tie
+
+returns : tie.Need-returns
+returns c = sym (rw (eq-eqb _ _ (c .if1 .taken)))
+
+returns-2 : tie.Need-returns-2
+returns-2 c = sym (rw (ne-eqb _ _ (c .before .before .if1 .left), eq-eqb _ _ (c .if2 .taken)))
+
+returns-3 : tie.Need-returns-3
+returns-3 c = sym (rw (ne-eqb _ _ (c .before .before .before .before .if1 .left), ne-eqb _ _ (c .before .before .if2 .left), eq-eqb _ _ (c .if3 .taken)))
+
+returns-4 : tie.Need-returns-4
+returns-4 c = sym (rw (ne-eqb _ _ (c .before .before .before .before .if1 .left), ne-eqb _ _ (c .before .before .if2 .left), ne-eqb _ _ (c .if3 .left)))
+
+pub entry-for-spec : {M : Type 1} → statement M
+entry-for-spec = tie.close (tie.spec returns returns-2 returns-3 returns-4)

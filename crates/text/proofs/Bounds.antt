@@ -1,0 +1,106 @@
+-- How far the reading of a text goes: numbers 1 and 2, a line no later than the last that can be, no more lines than there is room for, and
+-- a size no greater. Assumes nothing.
+use mathlib.Core.Path.{_≡_, refl, sym}
+use mathlib.Core.Bool.{Bool, true, false}
+use mathlib.Core.List.{List, [], _∷_}
+use mathlib.Core.Option.{Option, none, some}
+use Prim.Native.Nat.{ℕ, suc, _+_, _≤_}
+use native.Mathlib.Omega.{arith}
+use lib.Dec.{eqb, leb}
+use lib.ListN.{length}
+use borrow.Author.Tests.{eqb-false, leb-true}
+use Rattle.rules.specs.Sizes.{Room}
+use Rattle.rules.specs.Frames as rules
+use Rattle.rules.specs.Frames.{Line}
+use Rattle.rules.specs.Text.{Split, split, lineOf, frameTable, lineTable, sizeTable, Script, frames, unread, frameBefore, scriptFrom, Listed, listed, unlisted, lineBefore, sizeOr, listFrom}
+use Rattle.text.specs.Whole.{ofScript, ofListed, scriptChecked, listChecked}
+use Rattle.text.specs.declared.whole.Checked.the-variants.{Good, Refused}
+
+abbrev pub Refusal : Room → ℕ → ℕ → Type 0
+Refusal room n j = (1 ≤ n) × (n ≤ 2) × (j ≤ room .lines)
+
+-- ---- scripts
+
+abbrev pub ScriptIn : Room → ℕ → Script → Type 0
+ScriptIn room i (frames fs) = i + length fs ≤ room .lines
+ScriptIn room i (unread n j) = Refusal room n j
+
+on-frame : (room : Room) (i : ℕ) (o : Option rules.Frame) (r : Script) → i ≤ room .lines → ScriptIn room (suc i) r → ScriptIn room i (frameBefore i o r)
+on-frame room i none r l h = (omega arith, omega arith, l)
+on-frame room i (some f) (frames fs) l h = omega arith
+on-frame room i (some f) (unread n j) l h = h
+
+pub script-in : (room : Room) (ls : List Split) (i : ℕ) → i ≤ room .lines → ScriptIn room i (scriptFrom room i ls)
+unfolding scriptFrom
+script-in room [] i l = omega arith
+script-in room (k ∷ ls) i l = go (eqb i (room .lines)) refl (λ h. script-in room ls (suc i) h)
+  where
+    go : (b : Bool) → eqb i (room .lines) ≡ b → (suc i ≤ room .lines → ScriptIn room (suc i) (scriptFrom room (suc i) ls))
+        → ScriptIn room i (elim b [ true ↦ unread 2 i | false ↦ frameBefore i (lineOf frameTable k) (scriptFrom room (suc i) ls) ])
+    go true e ih = (omega arith, omega arith, l)
+    go false e ih = on-frame room i (lineOf frameTable k) (scriptFrom room (suc i) ls) l (ih (omega (arith, eqb-false i (room .lines) e)))
+
+-- ---- lists
+
+abbrev pub ListIn : Room → ℕ → Listed → Type 0
+ListIn room i (listed ls n) = (i + length ls ≤ room .lines) × (n ≤ room .size)
+ListIn room i (unlisted n j) = Refusal room n j
+
+on-line : (room : Room) (i : ℕ) (o : Option Line) (r : Listed) → i ≤ room .lines → ListIn room (suc i) r → ListIn room i (lineBefore i o r)
+on-line room i none r l h = (omega arith, omega arith, l)
+on-line room i (some x) (listed ls n) l h = (omega (arith, h .0), h .1)
+on-line room i (some x) (unlisted n j) l h = h
+
+size-in : (room : Room) (i n : ℕ) (b : Bool) → leb n (room .size) ≡ b → i ≤ room .lines → ListIn room i (elim b [ true ↦ listed [] n | false ↦ unlisted 1 i ])
+size-in room i n true e l = (omega arith, leb-true n (room .size) e)
+size-in room i n false e l = (omega arith, omega arith, l)
+
+pub list-in : (room : Room) (ls : List Split) (i : ℕ) → i ≤ room .lines → ListIn room i (listFrom room i ls)
+unfolding listFrom
+list-in room [] i l = (omega arith, omega arith, l)
+list-in room (k ∷ ls) i l = go (lineOf sizeTable k) ls (eqb i (room .lines)) refl (λ h. list-in room ls (suc i) h)
+  where
+    go : (a : Option ℕ) (ks : List Split) (b : Bool) → eqb i (room .lines) ≡ b → (suc i ≤ room .lines → ListIn room (suc i) (listFrom room (suc i) ls))
+        → ListIn room i (sizeOr room i a ks (elim b [ true ↦ unlisted 2 i | false ↦ lineBefore i (lineOf lineTable k) (listFrom room (suc i) ls) ]))
+    go (some n) [] b e ih = size-in room i n (leb n (room .size)) refl l
+    go (some n) (x ∷ ks) b e ih = (omega arith, omega arith, l)
+    go none ks true e ih = (omega arith, omega arith, l)
+    go none ks false e ih = on-line room i (lineOf lineTable k) (listFrom room (suc i) ls) l (ih (omega (arith, eqb-false i (room .lines) e)))
+
+-- ---- the check of a whole text
+
+not-good : {P : Type 0} {n m j : ℕ} → Good n ≡ Refused m j → P
+not-good e = absurd (let z : _≡_ {A = ℕ} 0 1 = cc in omega arith)
+
+module _ (room : Room) (s : List ℕ) where
+  pub script-refused : (n j : ℕ) → scriptChecked room s ≡ Refused n j → Refusal room n j
+  unfolding scriptChecked
+  script-refused n j e = go (scriptFrom room 0 (split s)) e (script-in room (split s) 0 (omega arith))
+    where
+      go : (r : Script) → ofScript 0 r ≡ Refused n j → ScriptIn room 0 r → Refusal room n j
+      go (frames fs) e h = not-good e
+      go (unread m i) e h = let a : m ≡ n = cc in let b : i ≡ j = cc in (omega (arith, h .0), omega (arith, h .1), omega (arith, h .2))
+
+  pub script-good : (n : ℕ) → scriptChecked room s ≡ Good n → n ≤ room .lines
+  unfolding scriptChecked
+  script-good n e = go (scriptFrom room 0 (split s)) e (script-in room (split s) 0 (omega arith))
+    where
+      go : (r : Script) → ofScript 0 r ≡ Good n → ScriptIn room 0 r → n ≤ room .lines
+      go (frames fs) e h = let a : 0 + length fs ≡ n = cc in omega (arith, h)
+      go (unread m i) e h = not-good (sym e)
+
+  pub list-refused : (n j : ℕ) → listChecked room s ≡ Refused n j → Refusal room n j
+  unfolding listChecked
+  list-refused n j e = go (listFrom room 0 (split s)) e (list-in room (split s) 0 (omega arith))
+    where
+      go : (r : Listed) → ofListed r ≡ Refused n j → ListIn room 0 r → Refusal room n j
+      go (listed ls m) e h = not-good e
+      go (unlisted m i) e h = let a : m ≡ n = cc in let b : i ≡ j = cc in (omega (arith, h .0), omega (arith, h .1), omega (arith, h .2))
+
+  pub list-good : (n : ℕ) → listChecked room s ≡ Good n → n ≤ room .size
+  unfolding listChecked
+  list-good n e = go (listFrom room 0 (split s)) e (list-in room (split s) 0 (omega arith))
+    where
+      go : (r : Listed) → ofListed r ≡ Good n → ListIn room 0 r → n ≤ room .size
+      go (listed ls m) e h = let a : m ≡ n = cc in omega (arith, h .1)
+      go (unlisted m i) e h = not-good (sym e)
