@@ -28,6 +28,12 @@ pub record Still (v w : View) (h : ℕ) : Type 0 where
   pub address : w .handles h .address ≡ v .handles h .address
   pub written : w .handles h .written ≡ true → v .handles h .written ≡ true
 
+-- so it is where the handle is the same
+pub still : (v w : View) (h : ℕ) → w .handles h ≡ v .handles h → w .handles h .held ≡ true → Still v w h
+still v w h q e =
+    record { held = ap (λ (x : Handle). x .held) (sym q) ∙ e; address = ap (λ (x : Handle). x .address) q; written = λ p. ap (λ (x : Handle). x .written) (sym q) ∙ p }
+
+-- what a frame may do, with its deed and its line
 pub data Effect (v : View) : Deed → Line → View → Type 0 where
   -- whatever is held still was held, and its slot stays occupied
   fewer : {o : ℕ} {l : List ℕ} {w : View} → v .size ≤ w .size
@@ -46,6 +52,7 @@ pub data Effect (v : View) : Deed → Line → View → Type 0 where
       → ((b : ℕ) → v .occupied b ≡ true → w .occupied b ≡ true)
       → w .handles ≡ grant next n a k (v .handles)
       → Effect v nothing (shows o l) w
+  -- a held handle's cell and box are filled, or a held and written one's are shown
   storing : (h x : ℕ) (k : Kind) → v .handles h .held ≡ true
       → Effect v (fill h x) (stores (v .handles h .address) x) (record { occupied = v .occupied; size = v .size; handles = put (v .handles) h (v .handles h ▹ written≔ true ▹ kind≔ k) })
   loading : {o : ℕ} (h : ℕ) → v .handles h .held ≡ true → v .handles h .written ≡ true → Effect v (show h) (loads o (v .handles h .address)) v

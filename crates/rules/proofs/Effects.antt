@@ -17,7 +17,7 @@ use Rattle.rules.specs.Demand3.{Fair}
 use Rattle.rules.proofs.Chains.{All, all-given, all-then, all-when, all-unless, all-if}
 use Rattle.rules.proofs.Tables.{put-same, put-other, put-alike, letGo-held, remove-other, removeAll-other}
 use Rattle.rules.proofs.Leaves.{Leaves, left, child-leaves, bind-leaves, take-leaves, dangle-leaves, restore-leaves, back-leaves, Allotted, allotted}
-use Rattle.rules.proofs.Core.{View, Effect, fewer, back, placing, storing, loading}
+use Rattle.rules.proofs.Core.{View, still, Effect, fewer, back, placing, storing, loading}
 
 abbrev pub view : State → View
 view s = record { occupied = s .scopes .slots .occupied; size = s .scopes .size; handles = s .handles }
@@ -45,14 +45,15 @@ module _ (room : Room) (place : Placement) (InOrder : Slots → Type 0) (fair : 
     good e o = record { line = _; only = refl; effect = e; order = o }
 
     -- handles, slots and size stay
-    quiet : (o : ℕ) (l : List ℕ) → Shows o l s
-    quiet o l = good (fewer (le-refl _) (λ h e. record { held = e; address = refl; written = λ w. w }) (λ h e w. w)) order
-
     same : (o : ℕ) (l : List ℕ) (c : Scopes) {bindings : List Binding} {counter : ℕ} → Leaves (s .scopes .slots) bindings counter (s .scopes .size) c → Shows o l (s ▹ scopes≔ c)
     same o l c q =
+        let t : View = view (s ▹ scopes≔ c) in
         good
-        (fewer {w = view (s ▹ scopes≔ c)} (rw (q .size-is) (le-refl _)) (λ h e. record { held = e; address = refl; written = λ w. w }) (λ h e w. rw (q .slots-are) w))
+        (fewer {w = t} (rw (q .size-is) (le-refl _)) (λ h e. still (view s) t h refl e) (λ h e w. rw (q .slots-are) w))
         (rw (q .slots-are) order)
+
+    quiet : (o : ℕ) (l : List ℕ) → Shows o l s
+    quiet o l = same o l (s .scopes) (left _)
 
     kind-only : (o : ℕ) (l : List ℕ) (h : ℕ) (k : Kind) → Shows o l (s ▹ setHandle h (s .handles h ▹ kind≔ k))
     unfolding setHandle
@@ -74,8 +75,7 @@ module _ (room : Room) (place : Placement) (InOrder : Slots → Type 0) (fair : 
         let gone = k .scope .owned in
         good
         (fewer (le-refl _)
-        (λ h e. let c = letGo-held gone (s .handles) h e in
-        record { held = ap (λ (x : Handle). x .held) (sym (c .1)) ∙ e; address = ap (λ (x : Handle). x .address) (c .1); written = λ w. ap (λ (x : Handle). x .written) (sym (c .1)) ∙ w })
+        (λ h e. still (view s) (view (close k s)) h (letGo-held gone (s .handles) h e .1) e)
         (λ h e w. removeAll-other gone (s .handles h .address) (s .scopes .slots) (letGo-held gone (s .handles) h e .0) w))
         (in-order-all gone (s .scopes .slots) order)
 
@@ -104,8 +104,7 @@ module _ (room : Room) (place : Placement) (InOrder : Slots → Type 0) (fair : 
         all-given
         (good
         (back h (not-false _ e) (rw (w .size-is) (le-refl _))
-        (λ j p. let c = put-other (s .handles) h z j (lost j p) in
-        (lost j p, record { held = ap (λ (x : Handle). x .held) (sym c) ∙ p; address = ap (λ (x : Handle). x .address) c; written = λ w. ap (λ (x : Handle). x .written) (sym c) ∙ w }))
+        (λ j p. (lost j p, still (view s) (view (s ▹ scopes≔ c ▹ handles≔ (put (s .handles) h z))) j (put-other (s .handles) h z j (lost j p)) p))
         (λ b ne p. rw (w .slots-are) (remove-other (s .handles h .address) b (s .scopes .slots) ne p)))
         (rw (w .slots-are) (fair .removed (s .handles h .address) (s .scopes .slots) order)))
 

@@ -16,10 +16,11 @@ use Rattle.rules.specs.Frames.{Frame, State, start, step}
 use Rattle.rules.specs.Sound.{soundSlots, sound, soundState}
 use Rattle.rules.specs.Demand3.{Fair}
 use Rattle.rules.proofs.Chains.{All, all-as}
-use Rattle.rules.proofs.Sound.{SlotsSound, Sound, StateSound}
+use Rattle.rules.proofs.Sound.{SlotsSound, Sound}
 use Rattle.rules.proofs.Tests.{tells-slots, tells-sound}
 use Rattle.rules.proofs.HandleTests.{tells-state}
-use Rattle.rules.proofs.Editions.{fair-as, edition1-fair-sound}
+use Rattle.rules.proofs.Editions.{fair-as, edition1-fair-test}
+use Rattle.rules.proofs.Fits.{base-wide}
 use Rattle.rules.proofs.Naming.{top-here, Named, named-here}
 use Rattle.rules.proofs.KeepsScopes.{keeps-child, keeps-dangle, keeps-restore, keeps-pop, keeps-pop-last}
 use Rattle.rules.proofs.KeepsSlots.{keeps-alloc, keeps-alloc-in, keeps-run, keeps-back}
@@ -128,7 +129,15 @@ module _ (room : Room) (big : 128 * room .segments ≤ room .size) (place : Plac
   pub frames-kept : (s t : State) (fs : List Frame) → soundState room s ≡ true → Reaches room place s fs t → soundState room t ≡ true
   frames-kept s t fs h r = tells-state room t .shows (keeps-frames room big place (placing room place fair) r (tells-state room s .holds h))
 
--- in the room of 01, by edition 1: whatever a script reaches is sound
-pub script-kept : (t : State) (fs : List Frame) → Reaches base (edition1 8) start fs t → soundState base t ≡ true
+-- ---- in the room of 01, by edition 1
+
+pub base-fair : Fair base (edition1 8) (λ t. soundSlots (base .segments) t ≡ true)
 unfolding base
-script-kept t fs r = tells-state base t .shows (keeps-frames base (lit< tt) (edition1 8) (edition1-fair-sound base (lit< tt)) r (start-sound base (lit< tt) (lit< tt)))
+base-fair = edition1-fair-test base (lit< tt)
+
+pub base-step-kept : (s : State) → soundState base s ≡ true → (f : Frame) → All (λ r. soundState base (r .1) ≡ true) (step base (edition1 8) s f)
+base-step-kept = step-kept base (base-wide .slots) (edition1 8) base-fair
+
+-- whatever a script reaches is sound
+pub script-kept : (t : State) (fs : List Frame) → Reaches base (edition1 8) start fs t → soundState base t ≡ true
+script-kept t fs r = frames-kept base (base-wide .slots) (edition1 8) base-fair start t fs (start-kept base (base-wide .segments) (base-wide .scopes)) r

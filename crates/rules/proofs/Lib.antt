@@ -37,6 +37,7 @@ pub mod Lookups
 pub mod Exact
 pub mod Reached
 pub mod Kept
+pub mod Cases
 pub mod Small
 pub mod Fits
 pub mod Scripts

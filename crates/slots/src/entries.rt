@@ -53,9 +53,10 @@ fn insert_sound(s: Slots) -> Placing
     halves::occupy(&mut t.halves, a);
     t.segments = halves::most(t.segments, a / 128 + 1);
     t.head = a / 128;
+    let address = a as u16;
     Placing {
         state: t,
-        answer: PlaceAnswer::At(SlotAddress(a as u16)),
+        answer: PlaceAnswer::At(SlotAddress(address)),
     }
 }
 
@@ -86,9 +87,10 @@ fn push_sound(s: Slots) -> Placing
     }
     halves::occupy(&mut t.halves, g);
     t.segments = halves::grown(t.segments, g);
+    let address = g as u16;
     Placing {
         state: t,
-        answer: PlaceAnswer::At(SlotAddress(g as u16)),
+        answer: PlaceAnswer::At(SlotAddress(address)),
     }
 }
 

@@ -27,9 +27,9 @@ add-most c = search needs
 most-requires : tie.Need-most-requires
 most-requires c κs = search needs
 
-cast-t15 : tie.Need-cast-t15
+cast-address : tie.Need-cast-address
 unfolding base
-cast-t15 c = omega (arith, insert-within 8 (view (c .before .before .before .before .before .before .before .before .args .s)) (c .before .before .before .before .before .before .before .before .pre) _ _ (c .before .before .before .before .before .least .ensures) (c .before .before .before .before .first-clear .ensures))
+cast-address c = omega (arith, insert-within 8 (view (c .before .before .before .before .before .before .before .before .args .s)) (c .before .before .before .before .before .before .before .before .pre) _ _ (c .before .before .before .before .before .least .ensures) (c .before .before .before .before .first-clear .ensures))
 
 returns-2 : tie.Need-returns-2
 unfolding base
@@ -47,5 +47,5 @@ insert-sound-spec =
     occupy-requires
     add-most
     most-requires
-    cast-t15
+    cast-address
     returns-2)

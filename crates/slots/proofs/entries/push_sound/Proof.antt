@@ -19,8 +19,8 @@ occupy-requires c κs = (omega (arith, push-within 8 (view (c .before .before .b
 grown-requires : tie.Need-grown-requires
 grown-requires c κs = search needs
 
-cast-t13 : tie.Need-cast-t13
-cast-t13 c = omega (arith, push-within 8 (view (c .before .before .before .before .before .before .before .args .s)) _ (c .before .before .before .before .past-greatest .ensures))
+cast-address : tie.Need-cast-address
+cast-address c = omega (arith, push-within 8 (view (c .before .before .before .before .before .before .before .args .s)) _ (c .before .before .before .before .past-greatest .ensures))
 
 returns-2 : tie.Need-returns-2
 unfolding base
@@ -31,4 +31,4 @@ returns-2 c =
 pub push-sound-spec : {M : Type 1} → statement M
 push-sound-spec =
     tie.close
-    (tie.spec past-greatest-requires returns occupy-requires grown-requires cast-t13 returns-2)
+    (tie.spec past-greatest-requires returns occupy-requires grown-requires cast-address returns-2)
