@@ -5,3 +5,5 @@ pub mod Moving
 pub mod Meant
 pub mod Allotting
 pub mod Allocations
+pub mod Handling
+pub mod Reading

@@ -1,0 +1,22 @@
+use borrow.Author.Needs.{needs}
+use Rattle.translate.proofs.named.get.Statement.{statement}
+use Rattle.translate.proofs.named.get.Tie as tie
+use Rattle.translate.proofs.named.get.Reads as reads
+use Rattle.translate.proofs.named.get.Lts as lts
+use Rattle.scopes.proofs.names.get.Reads as get-reads
+use Rattle.translate.proofs.steps.adds_of.Reads as adds-of-reads
+
+-- src/named.rt:51:9
+get-requires : tie.Need-get-requires
+get-requires c κs = search needs
+
+-- src/named.rt:55:15
+adds-of-requires : tie.Need-adds-of-requires
+adds-of-requires c κs = search needs
+
+-- src/named.rt:47:1
+returns : tie.Need-returns
+returns c = ?
+
+pub get-spec : {M : Type 1} → statement M
+get-spec = tie.close (tie.spec get-requires adds-of-requires returns)
