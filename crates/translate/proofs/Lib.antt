@@ -7,3 +7,7 @@ pub mod Allotting
 pub mod Allocations
 pub mod Handling
 pub mod Reading
+pub mod Written
+pub mod Counting
+pub mod Going
+pub mod Left
