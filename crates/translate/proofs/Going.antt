@@ -89,7 +89,7 @@ taking room i l ls left e = go (eqb i (room .lines)) (lineOf frameTable l) (scri
 abbrev place : Placement
 place = edition1 (base .segments)
 
-fair : Fair base place (SlotsSound (base .segments))
+pub fair : Fair base place (SlotsSound (base .segments))
 fair = edition1-fair-sound base (base-wide .segments)
 
 pub record Going (script page₀ : List ℕ) (s : Scopes) (handles holders drained : List ℕ) (handed p i w : ℕ) (page : List ℕ) : Type 0 where
@@ -119,7 +119,7 @@ starts : (c : rule.Scopes) (m n : ℕ) → c ≡ rule.freshScopes → stateOf c 
 unfolding start rule.freshScopes freshSlots
 starts c m n e = rw e (ap (λ (f : ℕ → _). record { scopes = rule.freshScopes; handles = f; handed = 0 }) (fun-ext (λ h. rw (zeros m h))))
 
-owes-none : owing base (start .scopes) ≡ 0
+pub owes-none : owing base (start .scopes) ≡ 0
 unfolding owing start rule.freshScopes base sumBelow
 owes-none = refl
 

@@ -11,3 +11,4 @@ pub mod Written
 pub mod Counting
 pub mod Going
 pub mod Left
+pub mod Numbers
