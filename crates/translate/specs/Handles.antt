@@ -57,6 +57,10 @@ pub record Coded (b : ℕ) (x : Handle′) : Type 0 where
   pub kind : kindIn b ≡ kindOf (x .address .kind)
   pub written : eqb (b % 2) 1 ≡ x .written
 
+-- the same handle, with its kind Freed
+abbrev pub freedAs : Handle′ → Handle′
+freedAs x = record { address = record { slot = x .address .slot; kind = kind.Freed }; written = x .written }
+
 -- the code of a kind, and the id of a Scope kind, (0, 0) for the others
 abbrev pub codeOfKind : AddressKind → ℕ
 codeOfKind kind.Local = 1

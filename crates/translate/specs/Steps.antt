@@ -1,9 +1,10 @@
 -- One step of the code as a step of the rules: what it adds to the list, and where the script stands then. Assumes nothing.
 use mathlib.Core.Path.{_≡_}
+use mathlib.Core.Bool.{Bool, true, false, not}
 use mathlib.Core.List.{List, [], _∷_}
 use Prim.Native.Nat.{ℕ, _+_, _%_, _≤_, _<_}
 use lib.ListN.{length, take}
-use Rattle.rules.specs.Notation.{refused}
+use Rattle.rules.specs.Notation.{refused, _>>=_, refuse_when_}
 use Rattle.rules.specs.Sizes.{base}
 use Rattle.rules.specs.Slots.{edition1}
 use Rattle.rules.specs.Frames as rules
@@ -64,7 +65,25 @@ slotOr (reply.Opened i) = 65535
 slotOr (reply.Found b) = 65535
 slotOr (reply.Refused n) = 65535
 
+-- the handle that was answered, or a number that no handle has
+abbrev pub handleOr : Reply → ℕ
+handleOr reply.Done = 65535
+handleOr (reply.At a) = 65535
+handleOr reply.Empty = 65535
+handleOr (reply.Opened i) = 65535
+handleOr (reply.Found b) = b .handle .0
+handleOr (reply.Refused n) = 65535
+
 -- ---- steps
+
+-- freeing with dangling is 0c, without it 0d
+abbrev pub freeing : Bool → ℕ → rules.Frame
+freeing true h = rules.free h
+freeing false h = rules.freeQuietly h
+
+abbrev pub freeCode : Bool → ℕ
+freeCode true = 0x0c
+freeCode false = 0x0d
 
 -- where a script stands
 pub record Stands (s : Scopes) (handles holders : List ℕ) (handed : ℕ) : Type 0 where
@@ -87,6 +106,13 @@ pub record Works (f : rules.Frame) (o : ℕ) (s : Scopes) (handles holders : Lis
 abbrev pub Moves : rules.Frame → ℕ → Scopes → ℕ → Stepped → Type 0
 Moves f o s handed r = (handles holders drained : List ℕ) → Stands s handles holders handed → Works f o s handles holders handed r handles holders drained
 
+-- 14, 15, then the load
+abbrev pub loading : ℕ → rules.State → ℕ → rules.Step
+loading o t h = do
+  _ ← refuse 14 when (not (t .handles h .held))
+  _ ← refuse 15 when (not (t .handles h .written))
+  oneLine (loads o (t .handles h .address)) t
+
 -- n slots were asked for, with the outcome o: their handles, all of one kind
 pub record Grants (o : Outcome) (handed n : ℕ) (k : AddressKind) (r : Stepped) (handles handles′ holders holders′ : List ℕ) : Type 0 where
   pub state : r .state ≡ o .state
@@ -94,3 +120,7 @@ pub record Grants (o : Outcome) (handed n : ℕ) (k : AddressKind) (r : Stepped)
   pub hands : (a : SlotAddress) → o .reply ≡ reply.At a → (r .handed ≡ handed + n) × Hands handles handles′ holders holders′ handed n (a .0) (kindOf k)
   pub handles-length : length handles′ ≡ 2048
   pub holders-length : length holders′ ≡ 1024
+
+-- the frame f, of opcode o, loads what handle h holds: 14, 15
+abbrev pub LoadsOf : rules.Frame → ℕ → Scopes → List ℕ → List ℕ → ℕ → ℕ → Type 0
+LoadsOf f o s handles holders handed h = rules.step base (edition1 (base .segments)) (stateOf (view s) handles holders handed) f ≡ loading o (stateOf (view s) handles holders handed) h

@@ -4,3 +4,6 @@ pub mod handles; // handles as numbers of a table
 pub mod steps; // what a step is
 pub mod scoped; // 01 to 05
 pub mod allots; // 06 to 08
+pub mod named; // 09 to 0b
+pub mod frees; // 0c to 0e
+pub mod cells; // 0f to 12
