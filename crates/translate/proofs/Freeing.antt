@@ -30,6 +30,7 @@ use Rattle.translate.specs.declared.handles.Handle.{Handle as Known}
 use Rattle.translate.specs.declared.steps.Adds.the-variants.{Nothing}
 use Rattle.translate.specs.declared.steps.Stepped.{Stepped}
 use Rattle.translate.proofs.Changes.{recoding, clearing}
+use Rattle.translate.proofs.Moving.{few-reply}
 use Rattle.translate.proofs.Allocations.{when-true, when-false, refused-on}
 use Rattle.translate.proofs.Handling.{spent-unknown, spent-freed, unspent, set-freed, now-long}
 
@@ -76,6 +77,7 @@ module _ (s : Scopes) (handles holders : List ℕ) (handed : ℕ) (stands : Stan
           ∙ given-on _ (branch false e)
           ∙ ap (oneLine (shows (freeCode dangles) [])) (set-freed s handles holders handed stands h x coded b new l known live);
       sound = stands .sound;
+      few = tt;
       handles-length = now-long s handles holders handed stands h x coded b (freedAs x) new refl known;
       holders-length = stands .holders-length;
     }
@@ -147,6 +149,7 @@ module _ (s : Scopes) (handles holders : List ℕ) (handed : ℕ) (stands : Stan
           back-works o e ok done drained = record {
             does = go (giveBack dangles at c) refl;
             sound = ok;
+            few = tt;
             handles-length = now-long s handles holders handed stands h x coded b (freedAs x) new refl known;
             holders-length = stands .holders-length;
           }
@@ -168,7 +171,7 @@ module _ (s : Scopes) (handles holders : List ℕ) (handed : ℕ) (stands : Stan
         unfolding _>>=_
         back-refused o e ok undone r is drained =
             subst (λ (y : Stepped). Works (freeing dangles h) (freeCode dangles) s handles holders handed y handles holders drained) (sym is)
-            (record { does = go (giveBack dangles at c) refl; sound = ok; handles-length = stands .handles-length; holders-length = stands .holders-length })
+            (record { does = go (giveBack dangles at c) refl; sound = ok; few = few-reply (o .reply); handles-length = stands .handles-length; holders-length = stands .holders-length })
           where
             seen-there : seen o ≡ toldOnly c (giveBack dangles at c)
             seen-there = e ∙ λ t. toldOnly c (giveBack dangles (sym (coded .slot) t) c)

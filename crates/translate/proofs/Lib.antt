@@ -8,3 +8,4 @@ pub mod Allocations
 pub mod Handling
 pub mod Reading
 pub mod Freeing
+pub mod Opcodes

@@ -7,3 +7,4 @@ pub mod allots; // 06 to 08
 pub mod named; // 09 to 0b
 pub mod frees; // 0c to 0e
 pub mod cells; // 0f to 12
+pub mod dispatch; // which step a frame is
