@@ -28,10 +28,11 @@ use Rattle.scopes.specs.declared.Reply.the-variants as reply
 use Rattle.needs.specs.Kinds.{kindOf}
 use Rattle.needs.specs.declared.AddressKind.{AddressKind}
 use Rattle.translate.specs.Handles.{stateOf}
-use Rattle.translate.specs.Steps.{stepped, nowhere, Stands, Works, Grants}
+use Rattle.translate.specs.Steps.{stepped, nowhere, Few, Stands, Works, Grants}
 use Rattle.translate.specs.declared.steps.Adds.the-variants.{One, Refused}
 use Rattle.translate.specs.declared.steps.Stepped.{Stepped}
 use Rattle.translate.proofs.Meant.{no-scope-there}
+use Rattle.translate.proofs.Moving.{few-reply}
 use Rattle.translate.proofs.Allotting.{allots}
 
 -- ---- one link of a chain of refusals
@@ -100,7 +101,7 @@ module _ (s : Scopes) (handles holders : List ℕ) (handed : ℕ) (stands : Stan
   pub works-refused : (f : Frame) (op n : ℕ) (r : Stepped) → r ≡ record { state = s; handed = handed; adds = Refused n } → step base (edition1 (base .segments)) standing f ≡ refused n → (drained : List ℕ) → Works f op s handles holders handed r handles holders drained
   works-refused f op n r is e drained =
       subst (λ (x : Stepped). Works f op s handles holders handed x handles holders drained) (sym is)
-      (record { does = e; sound = stands .sound; handles-length = stands .handles-length; holders-length = stands .holders-length })
+      (record { does = e; sound = stands .sound; few = tt; handles-length = stands .handles-length; holders-length = stands .holders-length })
 
   pub works-granted : (f : Frame) (op : ℕ) (k : Found) (kind : AddressKind) (n : ℕ) (o : Outcome) (r : Stepped) (handles′ holders′ : List ℕ) → handed + n ≤ 2048
       → seen o ≡ told at c (allocate (edition1 (base .segments)) k n c) → Sound (o .state) → Grants o handed n kind r handles handles′ holders holders′
@@ -109,6 +110,7 @@ module _ (s : Scopes) (handles holders : List ℕ) (handed : ℕ) (stands : Stan
   works-granted f op k kind n o r handles′ holders′ fits e ok g q drained = record {
     does = q ∙ allots s handles holders handed stands k kind n o r handles′ holders′ drained fits e g op;
     sound = subst Sound (sym (g .state)) ok;
+    few = subst Few (sym (g .adds)) (few-reply (o .reply));
     handles-length = g .handles-length;
     holders-length = g .holders-length;
   }
@@ -179,6 +181,7 @@ module _ (s : Scopes) (handles holders : List ℕ) (handed : ℕ) (stands : Stan
   linear-0 n e ne drained = record {
     does = ap (λ (m : ℕ). step base (edition1 (base .segments)) standing (linear m)) e ∙ unless-some 3 _ (has-top s stands ne .1);
     sound = stands .sound;
+    few = tt;
     handles-length = stands .handles-length;
     holders-length = stands .holders-length;
   }

@@ -122,6 +122,7 @@ module _ (s : Scopes) (handles holders : List ℕ) (handed : ℕ) (stands : Stan
     forget-works drained = record {
       does = when-false 13 _ (unspent standing h l live-kind) ∙ ap (oneLine (shows 0x0e [])) set-freed;
       sound = stands .sound;
+      few = tt;
       handles-length = now-long b (freedAs x) new refl known;
       holders-length = stands .holders-length;
     }
@@ -140,8 +141,9 @@ module _ (s : Scopes) (handles holders : List ℕ) (handed : ℕ) (stands : Stan
       does =
           when-false 13 _ (is-known standing h l) ∙ when-false 14 _ (ap not held)
           ∙ λ t. oneLine (stores (coded .slot t) v) (set-changed b y new (ap (λ (a : Address). a .slot) is) known (allocatedKind (standing .handles h .kind)) true
-            (ap (λ (a : Address). a .kind) is ∙ ap allocatedKind (sym (coded .kind))) written t);
+          (ap (λ (a : Address). a .kind) is ∙ ap allocatedKind (sym (coded .kind))) written t);
       sound = stands .sound;
+      few = tt;
       handles-length = now-long b y new (ap (λ (a : Address). a .slot) is) known;
       holders-length = stands .holders-length;
     }
@@ -163,6 +165,7 @@ module _ (s : Scopes) (handles holders : List ℕ) (handed : ℕ) (stands : Stan
     load-works e w drained = record {
       does = loads-it ∙ when-false 14 _ (ap not e) ∙ when-false 15 _ (ap not (coded .written ∙ w)) ∙ λ t. oneLine (loads o (coded .slot t)) standing;
       sound = stands .sound;
+      few = tt;
       handles-length = stands .handles-length;
       holders-length = stands .holders-length;
     }

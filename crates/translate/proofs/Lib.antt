@@ -7,6 +7,8 @@ pub mod Allotting
 pub mod Allocations
 pub mod Handling
 pub mod Reading
+pub mod Freeing
+pub mod Opcodes
 pub mod Written
 pub mod Counting
 pub mod Going

@@ -27,10 +27,19 @@ use Rattle.scopes.specs.declared.Scopes.{Scopes}
 use Rattle.scopes.specs.declared.ScopeId.{ScopeId}
 use Rattle.scopes.specs.declared.Outcome.{Outcome}
 use Rattle.scopes.specs.declared.Reply.{Reply}
+use Rattle.scopes.specs.declared.Reply.the-variants as reply
 use Rattle.translate.specs.Handles.{handleAt, stateOf}
-use Rattle.translate.specs.Steps.{stepped, addsOf, Stands, Works, Moves}
+use Rattle.translate.specs.Steps.{stepped, addsOf, Few, Stands, Works, Moves}
 use Rattle.translate.specs.declared.steps.Stepped.{Stepped}
 use Rattle.translate.proofs.Changes.{closing}
+
+pub few-reply : (y : Reply) → Few (addsOf y)
+few-reply reply.Done = tt
+few-reply (reply.At a) = tt
+few-reply reply.Empty = tt
+few-reply (reply.Opened i) = tt
+few-reply (reply.Found b) = tt
+few-reply (reply.Refused n) = tt
 
 -- ---- over any tables
 
@@ -137,4 +146,4 @@ module _ (s : Scopes) (handed : ℕ) (o : Outcome) (r : Stepped) (is : r ≡ rec
       → Moves f op s handed r
   moves f op e handles holders drained stands =
       subst (λ (x : Stepped). Works f op s handles holders handed x handles holders drained) (sym is)
-      (record { does = e handles holders drained stands; sound = ok; handles-length = stands .handles-length; holders-length = stands .holders-length })
+      (record { does = e handles holders drained stands; sound = ok; few = few-reply (o .reply); handles-length = stands .handles-length; holders-length = stands .holders-length })

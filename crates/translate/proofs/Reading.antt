@@ -25,12 +25,12 @@ use Rattle.scopes.specs.declared.Reply.{Reply}
 use Rattle.scopes.specs.declared.Reply.the-variants as reply
 use Rattle.needs.specs.Kinds.{kindOf}
 use Rattle.translate.specs.Handles.{handleAt, stateOf, Coded}
-use Rattle.translate.specs.Steps.{stepped, addsOf, handleOr, loading, LoadsOf, Stands, Works, Moves}
+use Rattle.translate.specs.Steps.{stepped, addsOf, handleOr, Few, loading, LoadsOf, Stands, Works, Moves}
 use Rattle.translate.specs.declared.handles.Handle.{Handle as Known}
 use Rattle.translate.specs.declared.steps.Adds.{Adds}
 use Rattle.translate.specs.declared.steps.Adds.the-variants.{Drained}
 use Rattle.translate.specs.declared.steps.Stepped.{Stepped}
-use Rattle.translate.proofs.Moving.{over-same, told-does, only-does}
+use Rattle.translate.proofs.Moving.{few-reply, over-same, told-does, only-does}
 use Rattle.translate.proofs.Allocations.{unless-some, unless-none, when-true, when-false, has-top}
 use Rattle.translate.proofs.Handling.{spent-unknown, spent-freed, unspent}
 
@@ -47,9 +47,9 @@ module _ (s : Scopes) (handles holders : List ℕ) (handed : ℕ) (stands : Stan
   standing = stateOf c handles holders handed
 
   -- nothing moves
-  still : (f : frame.Frame) (o : ℕ) (adds : Adds) (drained : List ℕ) → step base (edition1 (base .segments)) standing f ≡ stepped o adds standing drained
+  still : (f : frame.Frame) (o : ℕ) (adds : Adds) (drained : List ℕ) → Few adds → step base (edition1 (base .segments)) standing f ≡ stepped o adds standing drained
       → Works f o s handles holders handed (record { state = s; handed = handed; adds = adds }) handles holders drained
-  still f o adds drained e = record { does = e; sound = stands .sound; handles-length = stands .handles-length; holders-length = stands .holders-length }
+  still f o adds drained few e = record { does = e; sound = stands .sound; few = few; handles-length = stands .handles-length; holders-length = stands .holders-length }
 
   -- ---- get
 
@@ -62,7 +62,7 @@ module _ (s : Scopes) (handles holders : List ℕ) (handed : ℕ) (stands : Stan
       go (refused n) p = λ t. stepped 0x0a (sym (q ∙ ap addsOf p) t) standing drained
 
   pub get-works : (name : ℕ) (y : Reply) (adds : Adds) (drained : List ℕ) → y ≡ replied bound (rule.getName base name c) → adds ≡ addsOf y → Works (frame.get name) 0x0a s handles holders handed (record { state = s; handed = handed; adds = adds }) handles holders drained
-  get-works name y adds drained e q = still (frame.get name) 0x0a adds drained (got-step name y adds drained e q)
+  get-works name y adds drained e q = still (frame.get name) 0x0a adds drained (subst Few (sym q) (few-reply y)) (got-step name y adds drained e q)
 
   -- ---- take
 
@@ -84,6 +84,7 @@ module _ (s : Scopes) (handles holders : List ℕ) (handed : ℕ) (stands : Stan
       record {
         does = λ u. oneLine (shows 0x0f (n u ∷ sym q u)) (over-same c handles holders handed drained (rule.dangling≔ [] c) (view t) (sym e) refl u);
         sound = ok;
+        few = few;
         handles-length = stands .handles-length;
         holders-length = stands .holders-length;
       }
@@ -113,10 +114,10 @@ module _ (s : Scopes) (handles holders : List ℕ) (handed : ℕ) (stands : Stan
           = e ∙ (λ u. toldOnly c (defined name (sym (coded .slot) u) h c)) ∙ ap (toldOnly c) (unless-some 3 _ (t .1)) in
           let does : step base (edition1 (base .segments)) standing (frame.define name h) ≡ stepped 0x09 (addsOf (o .reply)) (stateOf (view (o .state)) handles holders handed) drained
           = unless-some 3 _ (t .1) ∙ when-false 13 _ (unspent standing h l (ap isFreed (coded .kind) ∙ live))
-            ∙ only-does c handles holders handed drained 0x09 (view (o .state)) (o .reply) (rule.bindIn base (t .0) name (standing .handles h .address) h c) known
-              (λ x q. bind-leaves base c (t .0) name (standing .handles h .address) h .at x q .slots-are) in
+          ∙ only-does c handles holders handed drained 0x09 (view (o .state)) (o .reply) (rule.bindIn base (t .0) name (standing .handles h .address) h c) known
+          (λ x q. bind-leaves base c (t .0) name (standing .handles h .address) h .at x q .slots-are) in
           subst (λ (z : Stepped). Works (frame.define name h) 0x09 s handles holders handed z handles holders drained) (sym is)
-          (record { does = does; sound = ok; handles-length = stands .handles-length; holders-length = stands .holders-length })
+          (record { does = does; sound = ok; few = few-reply (o .reply); handles-length = stands .handles-length; holders-length = stands .holders-length })
 
   -- ---- read name
 
@@ -125,7 +126,7 @@ module _ (s : Scopes) (handles holders : List ℕ) (handed : ℕ) (stands : Stan
     pub named-refused : handed ≤ handleOr y → (adds : Adds) → adds ≡ addsOf y → (drained : List ℕ)
         → Works (frame.readName name) 0x12 s handles holders handed (record { state = s; handed = handed; adds = adds }) handles holders drained
     unfolding step _>>=_
-    named-refused l adds q drained = still (frame.readName name) 0x12 adds drained (go (rule.getName base name c) refl)
+    named-refused l adds q drained = still (frame.readName name) 0x12 adds drained (subst Few (sym q) (few-reply y)) (go (rule.getName base name c) refl)
       where
         go : (m : Answer rule.Binding) → rule.getName base name c ≡ m → step base (edition1 (base .segments)) standing (frame.readName name) ≡ stepped 0x12 adds standing drained
         go (given b) p =

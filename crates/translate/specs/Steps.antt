@@ -32,7 +32,7 @@ stepped o Nothing t drained = oneLine (shows o []) t
 stepped o (One a) t drained = oneLine (shows o (a ∷ [])) t
 stepped o (Store a v) t drained = oneLine (stores (a .0) v) t
 stepped o (Load a) t drained = oneLine (loads o (a .0)) t
-stepped o (Drained n) t drained = oneLine (shows o (n ∷ take n drained)) t
+stepped o (Drained n) t drained = oneLine (shows 0x0f (n ∷ take n drained)) t
 stepped o (Refused n) t drained = refused n
 
 -- "01 adds its number; 06, 07, 0a, 0b add the address; 08 the first address or `ffff`"; a script's numbers are below 65,536
@@ -74,6 +74,15 @@ handleOr (reply.Opened i) = 65535
 handleOr (reply.Found b) = b .handle .0
 handleOr (reply.Refused n) = 65535
 
+-- a drain's addresses stand in a table of 1,024
+abbrev pub Few : Adds → Type 0
+Few Nothing = Unit {0}
+Few (One a) = Unit {0}
+Few (Store a v) = Unit {0}
+Few (Load a) = Unit {0}
+Few (Drained n) = n ≤ 1024
+Few (Refused n) = Unit {0}
+
 -- ---- steps
 
 -- freeing with dangling is 0c, without it 0d
@@ -99,6 +108,7 @@ pub record Works (f : rules.Frame) (o : ℕ) (s : Scopes) (handles holders : Lis
   pub does : rules.step base (edition1 (base .segments)) (stateOf (view s) handles holders handed) f
       ≡ stepped o (r .adds) (stateOf (view (r .state)) handles′ holders′ (r .handed)) drained
   pub sound : Sound (r .state)
+  pub few : Few (r .adds)
   pub handles-length : length handles′ ≡ 2048
   pub holders-length : length holders′ ≡ 1024
 

@@ -82,7 +82,14 @@ pub fn alloc(
     if 2048 <= handed {
         return refused(s, handed, 16);
     }
-    granted(place::alloc(s), handles, holders, handed, 1, AddressKind::Local)
+    granted(
+        place::alloc(s),
+        handles,
+        holders,
+        handed,
+        1,
+        AddressKind::Local,
+    )
 }
 
 pub fn alloc_in(

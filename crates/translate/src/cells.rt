@@ -4,6 +4,7 @@ ghost use mathlib.Core.List.{List};
 ghost use Prim.Native.Nat.{ℕ, _<_};
 ghost use lib.ListN.{length};
 ghost use Rattle.rules.specs.Frames as frame;
+ghost use Rattle.scopes.specs.Sound.{Sound};
 ghost use Rattle.translate.specs.Steps.{handleOr, Stands, Works, LoadsOf};
 use crate::handles::Handle;
 use crate::handles::is_held;
@@ -22,7 +23,7 @@ use scopes::names;
 
 // The dangling list goes into the table of drained slots.
 pub fn drain(s: Scopes, drained: &mut [u16; 1024], handed: usize) -> Stepped
-    requires { ⌜ (length (now drained) ≡ 1024) ⌝ }
+    requires { ⌜ Sound s × (length (now drained) ≡ 1024) ⌝ }
     ensures { λ r. ⌜ ((handles holders : List ℕ) → Stands s handles holders handed → Works frame.drain 0x0f s handles holders handed r handles holders (now (drained .exit))) ⌝ }
     ensures { λ r. ⌜ length (now (drained .exit)) ≡ 1024 ⌝ }
 {

@@ -1,3 +1,13 @@
+use native.Mathlib.Omega.{arith}
+use mathlib.Core.Path.{_≡_, refl, sym, ap, _∙_}
+use borrow.Author.Tests.{not-true, not-false}
+use Rattle.rules.specs.Frames as frame
+use Rattle.rules.specs.Sizes.{base}
+use Rattle.translate.proofs.Allocations.{works-refused}
+use mathlib.Core.Path.{subst}
+use Prim.Native.Nat.{ℕ, _<_}
+use Rattle.rules.specs.Needs.{Address}
+use Rattle.translate.proofs.Handling.{write-unknown, write-14, write-works, held-is, slot-low}
 use borrow.Author.Needs.{needs}
 use Rattle.translate.proofs.cells.write.Statement.{statement}
 use Rattle.translate.proofs.cells.write.Tie as tie
@@ -19,7 +29,7 @@ refused-requires c κs = search needs
 
 -- src/cells.rt:52:9
 returns : tie.Need-returns
-returns c = ?
+returns c = works-refused (c .before .before .before .args .t1) _ _ (c .before .before .before .args .handed) (c .before .before .before .pre) (frame.write (c .before .before .before .args .h .0) (c .before .before .before .args .v)) 0x10 13 (c .refused .result) (c .refused .ensures) (write-unknown _ (c .before .before .before .args .h .0) (c .before .if1 .taken) (c .before .before .before .args .v))
 
 -- src/cells.rt:54:22
 mul-unpacked : tie.Need-mul-unpacked
@@ -27,7 +37,8 @@ mul-unpacked c = search needs
 
 -- src/cells.rt:54:22
 element-copy-out-unpacked : tie.Need-element-copy-out-unpacked
-element-copy-out-unpacked c = ?
+unfolding base
+element-copy-out-unpacked c = omega (arith, c .before .before .pre .state .handles .few)
 
 -- src/cells.rt:54:9
 unpacked-requires : tie.Need-unpacked-requires
@@ -55,7 +66,7 @@ refused-requires-2 c κs = search needs
 
 -- src/cells.rt:60:9
 returns-2 : tie.Need-returns-2
-returns-2 c = ?
+returns-2 c = works-refused (c .before .before .before .before .before .before .before .before .before .before .before .before .before .args .t1) _ _ (c .before .before .before .before .before .before .before .before .before .before .before .before .before .args .handed) (c .before .before .before .before .before .before .before .before .before .before .before .before .before .pre) (frame.write (c .before .before .before .before .before .before .before .before .before .before .before .before .before .args .h .0) (c .before .before .before .before .before .before .before .before .before .before .before .before .before .args .v)) 0x10 14 (c .refused2 .result) (c .refused2 .ensures) (write-14 (c .before .before .before .before .before .before .before .before .before .before .before .before .before .args .t1) _ _ (c .before .before .before .before .before .before .before .before .before .before .before .before .before .args .handed) (c .before .before .before .before .before .before .before .before .before .before .before .before .before .pre) (c .before .before .before .before .before .before .before .before .before .before .before .before .before .args .h .0) (c .before .before .before .before .before .before .before .before .before .unpacked .result) (c .before .before .before .before .before .before .before .before .before .unpacked .ensures) (c .before .before .before .before .before .before .before .before .before .before .before .before .before .args .v) (c .before .before .before .before .before .before .before .before .before .before .before .if1 .left) (held-is (c .before .before .before .before .before .before .before .before .before .before .before .before .before .args .t1) _ _ (c .before .before .before .before .before .before .before .before .before .before .before .before .before .args .handed) (c .before .before .before .before .before .before .before .before .before .before .before .before .before .pre) (c .before .before .before .before .before .before .before .before .before .before .before .before .before .args .h .0) (c .before .before .before .before .before .before .before .before .before .unpacked .result) (c .before .before .before .before .before .before .before .before .before .unpacked .ensures) _ (c .before .before .is-held .result) refl (c .before .before .is-held .ensures) ∙ not-true _ (c .before .if2 .taken)))
 
 -- src/cells.rt:63:18
 allocated-requires : tie.Need-allocated-requires
@@ -63,7 +74,7 @@ allocated-requires c κs = search needs
 
 -- src/cells.rt:62:18
 packed-requires : tie.Need-packed-requires
-packed-requires c κs = ?
+packed-requires c κs = subst (λ (a : ℕ). a < 1024) (sym (ap (λ (a : Address). a .slot) (c .allocated .ensures))) (slot-low (c .before .before .before .before .before .before .before .before .before .before .before .before .before .args .t1) _ _ (c .before .before .before .before .before .before .before .before .before .before .before .before .before .args .handed) (c .before .before .before .before .before .before .before .before .before .before .before .before .before .pre) (c .before .before .before .before .before .before .before .before .before .before .before .before .before .args .h .0) (c .before .before .before .before .before .before .before .before .before .unpacked .result) (c .before .before .before .before .before .before .before .before .before .unpacked .ensures))
 
 -- src/cells.rt:62:5
 mul-handles : tie.Need-mul-handles
@@ -71,11 +82,13 @@ mul-handles c = search needs
 
 -- src/cells.rt:62:5
 element-write-handles : tie.Need-element-write-handles
-element-write-handles c = ?
+unfolding base
+element-write-handles c = omega (arith, c .before .before .before .before .before .before .before .before .before .before .before .before .before .before .pre .state .handles .few)
 
 -- src/cells.rt:39:1
 returns-3 : tie.Need-returns-3
-returns-3 c = ?
+unfolding base
+returns-3 c = write-works (c .before .before .before .before .before .before .before .before .before .before .before .before .before .before .args .t1) _ _ (c .before .before .before .before .before .before .before .before .before .before .before .before .before .before .args .handed) (c .before .before .before .before .before .before .before .before .before .before .before .before .before .before .pre) (c .before .before .before .before .before .before .before .before .before .before .before .before .before .before .args .h .0) (c .before .before .before .before .before .before .before .before .before .before .unpacked .result) (c .before .before .before .before .before .before .before .before .before .before .unpacked .ensures) (c .before .before .before .before .before .before .before .before .before .before .before .before .before .before .args .v) (c .packed .result) _ (c .packed .ensures) (c .before .allocated .ensures) refl (c .before .before .before .before .before .before .before .before .before .before .before .before .if1 .left) (omega (arith, c .before .before .before .before .before .before .before .before .before .before .before .before .before .before .pre .state .handles .few, c .before .before .before .before .before .before .before .before .before .before .before .before .before .before .pre .handles-length)) (held-is (c .before .before .before .before .before .before .before .before .before .before .before .before .before .before .args .t1) _ _ (c .before .before .before .before .before .before .before .before .before .before .before .before .before .before .args .handed) (c .before .before .before .before .before .before .before .before .before .before .before .before .before .before .pre) (c .before .before .before .before .before .before .before .before .before .before .before .before .before .before .args .h .0) (c .before .before .before .before .before .before .before .before .before .before .unpacked .result) (c .before .before .before .before .before .before .before .before .before .before .unpacked .ensures) _ (c .before .before .before .is-held .result) refl (c .before .before .before .is-held .ensures) ∙ not-false _ (c .before .before .if2 .left))
 
 pub write-spec : {M : Type 1} → statement M
 write-spec =

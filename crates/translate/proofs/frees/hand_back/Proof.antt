@@ -1,3 +1,11 @@
+use native.Mathlib.Omega.{arith}
+use mathlib.Core.Path.{_≡_, refl, sym, ap, _∙_}
+use borrow.Author.Tests.{not-true, not-false}
+use Rattle.rules.specs.Sizes.{base}
+use Rattle.translate.proofs.Allocations.{works-refused}
+use Rattle.translate.specs.Steps.{freeing, freeCode}
+use Rattle.translate.proofs.Handling.{held-is}
+use Rattle.translate.proofs.Freeing.{back-14, back-refused, back-works}
 use borrow.Author.Needs.{needs}
 use Rattle.translate.proofs.frees.hand_back.Statement.{statement}
 use Rattle.translate.proofs.frees.hand_back.Tie as tie
@@ -32,7 +40,7 @@ refused-requires c κs = search needs
 
 -- src/frees.rt:65:9
 returns : tie.Need-returns
-returns c = ?
+returns c = works-refused (c .before .before .before .before .before .before .before .before .before .args .t1) _ _ (c .before .before .before .before .before .before .before .before .before .args .handed) (c .before .before .before .before .before .before .before .before .before .pre .0 .0) (freeing (c .before .before .before .before .before .before .before .before .before .args .dangles) (c .before .before .before .before .before .before .before .before .before .args .h .0)) (freeCode (c .before .before .before .before .before .before .before .before .before .args .dangles)) 14 (c .refused .result) (c .refused .ensures) (back-14 (c .before .before .before .before .before .before .before .before .before .args .t1) _ _ (c .before .before .before .before .before .before .before .before .before .args .handed) (c .before .before .before .before .before .before .before .before .before .pre .0 .0) (c .before .before .before .before .before .before .before .before .before .args .h .0) (c .before .before .before .before .before .before .before .before .before .args .x) (c .before .before .before .before .before .before .before .before .before .pre .0 .2) (c .before .before .before .before .before .before .before .before .before .args .dangles) (c .before .before .before .before .before .before .before .before .before .pre .0 .1) (c .before .before .before .before .before .before .before .before .before .pre .0 .3) (c .before .before .before .before .before .before .before .before .before .pre .1) (held-is (c .before .before .before .before .before .before .before .before .before .args .t1) _ _ (c .before .before .before .before .before .before .before .before .before .args .handed) (c .before .before .before .before .before .before .before .before .before .pre .0 .0) (c .before .before .before .before .before .before .before .before .before .args .h .0) (c .before .before .before .before .before .before .before .before .before .args .x) (c .before .before .before .before .before .before .before .before .before .pre .0 .2) _ (c .before .before .is-held .result) refl (c .before .before .is-held .ensures) ∙ not-true _ (c .before .if1 .taken)))
 
 -- src/frees.rt:67:9
 give-back-requires : tie.Need-give-back-requires
@@ -48,7 +56,7 @@ ended-requires c κs = search needs
 
 -- src/frees.rt:71:9
 returns-2 : tie.Need-returns-2
-returns-2 c = ?
+returns-2 c = back-refused (c .before .before .before .before .before .before .before .before .before .before .before .before .before .args .t1) _ _ (c .before .before .before .before .before .before .before .before .before .before .before .before .before .args .handed) (c .before .before .before .before .before .before .before .before .before .before .before .before .before .pre .0 .0) (c .before .before .before .before .before .before .before .before .before .before .before .before .before .args .h .0) (c .before .before .before .before .before .before .before .before .before .before .before .before .before .args .x) (c .before .before .before .before .before .before .before .before .before .before .before .before .before .pre .0 .2) (c .before .before .before .before .before .before .before .before .before .before .before .before .before .args .dangles) (c .before .before .before .before .before .before .before .before .before .before .before .before .before .pre .0 .1) (c .before .before .before .before .before .before .before .before .before .before .before .before .before .pre .0 .3) (c .before .before .before .before .before .before .before .before .before .before .before .before .before .pre .1) (held-is (c .before .before .before .before .before .before .before .before .before .before .before .before .before .args .t1) _ _ (c .before .before .before .before .before .before .before .before .before .before .before .before .before .args .handed) (c .before .before .before .before .before .before .before .before .before .before .before .before .before .pre .0 .0) (c .before .before .before .before .before .before .before .before .before .before .before .before .before .args .h .0) (c .before .before .before .before .before .before .before .before .before .before .before .before .before .args .x) (c .before .before .before .before .before .before .before .before .before .before .before .before .before .pre .0 .2) _ (c .before .before .before .before .before .before .is-held .result) refl (c .before .before .before .before .before .before .is-held .ensures) ∙ not-false _ (c .before .before .before .before .before .if1 .left)) (c .before .before .before .before .give-back .result) (c .before .before .before .before .give-back .ensures .0) (c .before .before .before .before .give-back .ensures .1) (sym (c .before .before .is-done .ensures) ∙ not-true _ (c .before .if2 .taken)) (c .ended .result) (c .ended .ensures)
 
 -- src/frees.rt:73:13
 cast-i : tie.Need-cast-i
@@ -64,11 +72,13 @@ mul-handles c = search needs
 
 -- src/frees.rt:74:5
 element-write-handles : tie.Need-element-write-handles
-element-write-handles c = ?
+unfolding base
+element-write-handles c = omega (arith, c .before .before .before .before .before .before .before .before .before .before .before .before .before .before .pre .0 .1, c .before .before .before .before .before .before .before .before .before .before .before .before .before .before .pre .0 .0 .state .handles .few)
 
 -- src/frees.rt:47:1
 returns-3 : tie.Need-returns-3
-returns-3 c = ?
+unfolding base
+returns-3 c = back-works (c .before .before .before .before .before .before .before .before .before .before .before .before .before .before .args .t1) _ _ (c .before .before .before .before .before .before .before .before .before .before .before .before .before .before .args .handed) (c .before .before .before .before .before .before .before .before .before .before .before .before .before .before .pre .0 .0) (c .before .before .before .before .before .before .before .before .before .before .before .before .before .before .args .h .0) (c .before .before .before .before .before .before .before .before .before .before .before .before .before .before .args .x) (c .before .before .before .before .before .before .before .before .before .before .before .before .before .before .pre .0 .2) (c .before .before .before .before .before .before .before .before .before .before .before .before .before .before .args .dangles) (c .before .before .before .before .before .before .before .before .before .before .before .before .before .before .pre .0 .1) (c .before .before .before .before .before .before .before .before .before .before .before .before .before .before .pre .0 .3) (c .before .before .before .before .before .before .before .before .before .before .before .before .before .before .pre .1) (held-is (c .before .before .before .before .before .before .before .before .before .before .before .before .before .before .args .t1) _ _ (c .before .before .before .before .before .before .before .before .before .before .before .before .before .before .args .handed) (c .before .before .before .before .before .before .before .before .before .before .before .before .before .before .pre .0 .0) (c .before .before .before .before .before .before .before .before .before .before .before .before .before .before .args .h .0) (c .before .before .before .before .before .before .before .before .before .before .before .before .before .before .args .x) (c .before .before .before .before .before .before .before .before .before .before .before .before .before .before .pre .0 .2) _ (c .before .before .before .before .before .before .before .is-held .result) refl (c .before .before .before .before .before .before .before .is-held .ensures) ∙ not-false _ (c .before .before .before .before .before .before .if1 .left)) (c .forgotten .result) (c .forgotten .ensures) (omega (arith, c .before .before .before .before .before .before .before .before .before .before .before .before .before .before .pre .0 .1, c .before .before .before .before .before .before .before .before .before .before .before .before .before .before .pre .0 .0 .state .handles .few, c .before .before .before .before .before .before .before .before .before .before .before .before .before .before .pre .0 .0 .handles-length)) (c .before .before .before .before .before .give-back .result) (c .before .before .before .before .before .give-back .ensures .0) (c .before .before .before .before .before .give-back .ensures .1) (sym (c .before .before .before .is-done .ensures) ∙ not-false _ (c .before .before .if2 .left))
 
 pub hand-back-spec : {M : Type 1} → statement M
 hand-back-spec =

@@ -1,3 +1,4 @@
+use Rattle.translate.proofs.Reading.{get-works}
 use borrow.Author.Needs.{needs}
 use Rattle.translate.proofs.named.get.Statement.{statement}
 use Rattle.translate.proofs.named.get.Tie as tie
@@ -16,7 +17,7 @@ adds-of-requires c κs = search needs
 
 -- src/named.rt:47:1
 returns : tie.Need-returns
-returns c = ?
+returns c = λ handles holders drained stands. get-works (c .before .before .args .s) handles holders (c .before .before .args .handed) stands (c .before .before .args .name) (c .before .get .result) (c .adds-of .result) drained (c .before .get .ensures) (c .adds-of .ensures)
 
 pub get-spec : {M : Type 1} → statement M
 get-spec = tie.close (tie.spec get-requires adds-of-requires returns)

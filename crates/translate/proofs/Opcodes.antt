@@ -1,0 +1,133 @@
+-- Which frame of the rules an opcode and two operands are. Assumes nothing.
+use mathlib.Core.Path.{_≡_, refl, sym, ap, subst, _∙_}
+use mathlib.Core.Option.{Option, none, some}
+use Prim.Native.Nat.{ℕ, _≤_, _<_}
+use native.Mathlib.Omega.{arith}
+use lib.Dec.{eqb}
+use borrow.Author.Tests.{ne-eqb}
+use Rattle.rules.specs.Frames.{Frame, child, pop, dangle, restore, popLast, alloc, allocIn, linear, define, get, takeFrom, free, freeQuietly, forget, drain, write, read, readName}
+use mathlib.Core.List.{List, [], _∷_}
+use Rattle.rules.specs.Text.{Raw, Row, row, rowed, frameTable}
+use Rattle.rules.proofs.Chains.{none-some}
+use Rattle.scopes.specs.declared.Scopes.{Scopes}
+use Rattle.text.specs.Lines.{frameOf}
+use Rattle.translate.specs.Steps.{Works}
+use Rattle.translate.specs.declared.steps.Stepped.{Stepped}
+use Rattle.text.specs.Shapes.{shapeOf, scriptShapes}
+use Rattle.text.specs.declared.lines.Frame.{Frame as Code}
+
+-- what holds of the frame that an opcode k is, holds of the frame that was read
+told-as : (P : Frame → ℕ → Type 0) (f : Code) (k : ℕ) (h g : Frame) → f .opcode ≡ k → frameOf f ≡ some h → frameOf f ≡ some g → P h k → P g (f .opcode)
+told-as P f k h g e q p x =
+    let same : h ≡ g = cc in
+    subst (λ (o : ℕ). P g o) (sym e) (subst (λ (y : Frame). P y k) same x)
+
+pub works-as : {s : Scopes} {handles holders handles′ holders′ drained : List ℕ} {handed : ℕ} {r : Stepped} (f : Code) (k : ℕ) (h g : Frame) → f .opcode ≡ k → frameOf f ≡ some h → frameOf f ≡ some g
+    → Works h k s handles holders handed r handles′ holders′ drained → Works g (f .opcode) s handles holders handed r handles′ holders′ drained
+works-as {s} {handles} {holders} {handles′} {holders′} {drained} {handed} {r} = told-as (λ g o. Works g o s handles holders handed r handles′ holders′ drained)
+
+pub no-frame {ℓ} : {X : Type ℓ} {o : Option Frame} {g : Frame} → o ≡ none → o ≡ some g → X
+no-frame n e = none-some (sym n ∙ e)
+
+skip : {A : Type 0} (k : ℕ) (m : List ℕ → Option A) (ws : List (Row A)) (r : Raw) → k < 19 → 19 ≤ r .opcode → rowed (row k m ∷ ws) r ≡ rowed ws r
+unfolding rowed
+skip k m ws r l h = rw (ne-eqb k (r .opcode) (λ e. omega arith), rowed)
+
+module _ (f : Code) where
+  pub is-child : f .opcode ≡ 0x01 → frameOf f ≡ some child
+  unfolding frameOf rowed frameTable shapeOf scriptShapes
+  is-child e = ap (λ (o : ℕ). frameOf (record { opcode = o; a = f .a; b = f .b })) e
+
+  pub is-pop : f .opcode ≡ 0x02 → frameOf f ≡ some (pop (f .a))
+  unfolding frameOf rowed frameTable shapeOf scriptShapes
+  is-pop e = ap (λ (o : ℕ). frameOf (record { opcode = o; a = f .a; b = f .b })) e
+
+  pub is-dangle : f .opcode ≡ 0x03 → frameOf f ≡ some (dangle (f .a))
+  unfolding frameOf rowed frameTable shapeOf scriptShapes
+  is-dangle e = ap (λ (o : ℕ). frameOf (record { opcode = o; a = f .a; b = f .b })) e
+
+  pub is-restore : f .opcode ≡ 0x04 → frameOf f ≡ some (restore (f .a))
+  unfolding frameOf rowed frameTable shapeOf scriptShapes
+  is-restore e = ap (λ (o : ℕ). frameOf (record { opcode = o; a = f .a; b = f .b })) e
+
+  pub is-pop-last : f .opcode ≡ 0x05 → frameOf f ≡ some popLast
+  unfolding frameOf rowed frameTable shapeOf scriptShapes
+  is-pop-last e = ap (λ (o : ℕ). frameOf (record { opcode = o; a = f .a; b = f .b })) e
+
+  pub is-alloc : f .opcode ≡ 0x06 → frameOf f ≡ some alloc
+  unfolding frameOf rowed frameTable shapeOf scriptShapes
+  is-alloc e = ap (λ (o : ℕ). frameOf (record { opcode = o; a = f .a; b = f .b })) e
+
+  pub is-alloc-in : f .opcode ≡ 0x07 → frameOf f ≡ some (allocIn (f .a))
+  unfolding frameOf rowed frameTable shapeOf scriptShapes
+  is-alloc-in e = ap (λ (o : ℕ). frameOf (record { opcode = o; a = f .a; b = f .b })) e
+
+  pub is-linear : f .opcode ≡ 0x08 → frameOf f ≡ some (linear (f .a))
+  unfolding frameOf rowed frameTable shapeOf scriptShapes
+  is-linear e = ap (λ (o : ℕ). frameOf (record { opcode = o; a = f .a; b = f .b })) e
+
+  pub is-define : f .opcode ≡ 0x09 → frameOf f ≡ some (define (f .a) (f .b))
+  unfolding frameOf rowed frameTable shapeOf scriptShapes
+  is-define e = ap (λ (o : ℕ). frameOf (record { opcode = o; a = f .a; b = f .b })) e
+
+  pub is-get : f .opcode ≡ 0x0a → frameOf f ≡ some (get (f .a))
+  unfolding frameOf rowed frameTable shapeOf scriptShapes
+  is-get e = ap (λ (o : ℕ). frameOf (record { opcode = o; a = f .a; b = f .b })) e
+
+  pub is-take : f .opcode ≡ 0x0b → frameOf f ≡ some (takeFrom (f .a))
+  unfolding frameOf rowed frameTable shapeOf scriptShapes
+  is-take e = ap (λ (o : ℕ). frameOf (record { opcode = o; a = f .a; b = f .b })) e
+
+  pub is-free : f .opcode ≡ 0x0c → frameOf f ≡ some (free (f .a))
+  unfolding frameOf rowed frameTable shapeOf scriptShapes
+  is-free e = ap (λ (o : ℕ). frameOf (record { opcode = o; a = f .a; b = f .b })) e
+
+  pub is-free-quietly : f .opcode ≡ 0x0d → frameOf f ≡ some (freeQuietly (f .a))
+  unfolding frameOf rowed frameTable shapeOf scriptShapes
+  is-free-quietly e = ap (λ (o : ℕ). frameOf (record { opcode = o; a = f .a; b = f .b })) e
+
+  pub is-forget : f .opcode ≡ 0x0e → frameOf f ≡ some (forget (f .a))
+  unfolding frameOf rowed frameTable shapeOf scriptShapes
+  is-forget e = ap (λ (o : ℕ). frameOf (record { opcode = o; a = f .a; b = f .b })) e
+
+  pub is-drain : f .opcode ≡ 0x0f → frameOf f ≡ some drain
+  unfolding frameOf rowed frameTable shapeOf scriptShapes
+  is-drain e = ap (λ (o : ℕ). frameOf (record { opcode = o; a = f .a; b = f .b })) e
+
+  pub is-write : f .opcode ≡ 0x10 → frameOf f ≡ some (write (f .a) (f .b))
+  unfolding frameOf rowed frameTable shapeOf scriptShapes
+  is-write e = ap (λ (o : ℕ). frameOf (record { opcode = o; a = f .a; b = f .b })) e
+
+  pub is-read : f .opcode ≡ 0x11 → frameOf f ≡ some (read (f .a))
+  unfolding frameOf rowed frameTable shapeOf scriptShapes
+  is-read e = ap (λ (o : ℕ). frameOf (record { opcode = o; a = f .a; b = f .b })) e
+
+  pub is-read-name : f .opcode ≡ 0x12 → frameOf f ≡ some (readName (f .a))
+  unfolding frameOf rowed frameTable shapeOf scriptShapes
+  is-read-name e = ap (λ (o : ℕ). frameOf (record { opcode = o; a = f .a; b = f .b })) e
+
+  pub is-none : f .opcode ≡ 0 → frameOf f ≡ none
+  unfolding frameOf rowed frameTable shapeOf scriptShapes
+  is-none e = ap (λ (o : ℕ). frameOf (record { opcode = o; a = f .a; b = f .b })) e
+
+  pub is-high : 19 ≤ f .opcode → frameOf f ≡ none
+  unfolding frameOf rowed frameTable
+  is-high l =
+      skip 0x01 _ _ _ (omega arith) l
+      ∙ skip 0x02 _ _ _ (omega arith) l
+      ∙ skip 0x03 _ _ _ (omega arith) l
+      ∙ skip 0x04 _ _ _ (omega arith) l
+      ∙ skip 0x05 _ _ _ (omega arith) l
+      ∙ skip 0x06 _ _ _ (omega arith) l
+      ∙ skip 0x07 _ _ _ (omega arith) l
+      ∙ skip 0x08 _ _ _ (omega arith) l
+      ∙ skip 0x09 _ _ _ (omega arith) l
+      ∙ skip 0x0a _ _ _ (omega arith) l
+      ∙ skip 0x0b _ _ _ (omega arith) l
+      ∙ skip 0x0c _ _ _ (omega arith) l
+      ∙ skip 0x0d _ _ _ (omega arith) l
+      ∙ skip 0x0e _ _ _ (omega arith) l
+      ∙ skip 0x0f _ _ _ (omega arith) l
+      ∙ skip 0x10 _ _ _ (omega arith) l
+      ∙ skip 0x11 _ _ _ (omega arith) l
+      ∙ skip 0x12 _ _ _ (omega arith) l
