@@ -41,15 +41,36 @@ use Rattle.text.proofs.Rows.{frame-code}
 use Rattle.text.proofs.Bounds.{ScriptIn, script-in}
 use Rattle.text.proofs.Over.{over-nothing, next}
 use Rattle.translate.specs.Handles.{handleAt, stateOf}
-use Rattle.translate.specs.Steps.{Stands, Works}
-use Rattle.translate.specs.Whole.{frameIn, linesOf, linesText, Few, onwardOf, Read, Ends, listed, refused as told}
+use Rattle.translate.specs.Steps.{stepped, Few, Stands, Works}
+use Rattle.translate.specs.Whole.{frameIn, linesOf, linesText, onwardOf, Read, Ends, listed, refused as told}
 use Rattle.translate.specs.declared.steps.Adds.{Adds}
+use Rattle.translate.specs.declared.steps.Adds.the-variants.{Nothing, One, Store, Load, Drained, Refused}
 use Rattle.translate.specs.declared.steps.Stepped.{Stepped}
 use Rattle.translate.specs.declared.whole.Onward.the-variants.{Go, Stop}
 use Rattle.translate.specs.declared.whole.Ended.{Ended}
 use Rattle.translate.specs.declared.whole.Ended.the-variants as ended
 use Rattle.translate.proofs.Written.{lines-length, lines-on, list-on, Put}
-use Rattle.translate.proofs.Counting.{Counted, counts, few-of, goes-on, stops-by}
+
+-- ---- a step of the code, as the rules' step
+
+stops : {P : Type 0} {n : ℕ} → Stop n ≡ Go → P
+stops e = absurd (let z : _≡_ {A = ℕ} 0 1 = cc in omega arith)
+
+pub goes-on : (o : ℕ) (adds : Adds) (t : State) (l : List ℕ) → onwardOf adds ≡ Go → stepped o adds t l ≡ given (linesOf o adds l, t)
+goes-on o Nothing t l e = refl
+goes-on o (One a) t l e = refl
+goes-on o (Store a v) t l e = refl
+goes-on o (Load a) t l e = refl
+goes-on o (Drained n) t l e = refl
+goes-on o (Refused n) t l e = stops e
+
+pub stops-by : (o : ℕ) (adds : Adds) (t : State) (l : List ℕ) (n : ℕ) → onwardOf adds ≡ Stop n → stepped o adds t l ≡ refused n
+stops-by o Nothing t l n e = stops (sym e)
+stops-by o (One a) t l n e = stops (sym e)
+stops-by o (Store a v) t l n e = stops (sym e)
+stops-by o (Load a) t l n e = stops (sym e)
+stops-by o (Drained m) t l n e = stops (sym e)
+stops-by o (Refused m) t l n e = let q : m ≡ n = cc in ap refused q
 
 -- ---- lines before others
 
@@ -198,8 +219,8 @@ module _ (script page₀ : List ℕ) (s : Scopes) (handles holders drained : Lis
       gives : step base place here (taken .frame) ≡ given (lines, there)
       gives = work .does ∙ goes-on (f .opcode) (r .adds) there drained′ e
 
-      pub going-few : Few (r .adds) drained′
-      going-few = few-of (f .opcode) (r .adds) drained′ dl (counts base place here (taken .frame) .at (lines, there) gives)
+      pub going-few : Few (r .adds)
+      going-few = work .few
 
       sound : StateSound base there
       sound = keeps-step base here (g .stands .state) (base-wide .slots) place fair (taken .frame) .at (lines, there) gives

@@ -10,7 +10,6 @@ pub mod Reading
 pub mod Freeing
 pub mod Opcodes
 pub mod Written
-pub mod Counting
 pub mod Going
 pub mod Left
 pub mod Numbers

@@ -6,12 +6,13 @@ use native.Mathlib.Omega.{arith}
 use lib.ListN.{length, take, length-append}
 use lib.Seq.{length-take-le}
 use Rattle.rules.specs.Frames.{Line, stores, loads, shows}
-use Rattle.rules.specs.Text.{hex2, hex4, hexes, lineText, listText}
+use Rattle.rules.specs.Text.{lineText, listText}
 use Rattle.rules.proofs.Lengths.{line-length}
 use Rattle.rules.proofs.Pages.{linesLength}
 use Rattle.text.specs.Writing.{over}
-use Rattle.text.proofs.Over.{over-nothing, next, hexes-length}
-use Rattle.translate.specs.Whole.{linesOf, linesText, Few}
+use Rattle.text.proofs.Over.{over-nothing}
+use Rattle.translate.specs.Steps.{Few}
+use Rattle.translate.specs.Whole.{linesOf, linesText}
 use Rattle.translate.specs.declared.steps.Adds.{Adds}
 use Rattle.translate.specs.declared.steps.Adds.the-variants.{Drained, Refused}
 
@@ -85,18 +86,8 @@ none-put {adds} o n drained e page w =
 
 -- ---- a count and as many operands
 
-pub few : {adds : Adds} {n : ℕ} (drained : List ℕ) → adds ≡ Drained n → Few adds drained → (n ≤ length drained) × (n < 65536)
-few drained e h = subst (λ (x : Adds). Few x drained) e h
+pub few : {adds : Adds} {n : ℕ} → adds ≡ Drained n → Few adds → n ≤ 1024
+few e h = subst Few e h
 
-pub counted-length : (o n : ℕ) (ws : List ℕ) → n ≤ length ws → length (lineText (shows o (n ∷ take n ws))) ≡ 7 + 4 * n
-counted-length o n ws h = line-length (shows o (n ∷ take n ws)) ∙ omega (arith, length-take-le n ws h)
-
-pub counted-put : (page page1 page2 page3 page4 : List ℕ) (w w1 w2 w3 o n : ℕ) (ws : List ℕ) → n ≤ length ws → w ≤ length page → w1 ≡ w + 2 → w2 ≡ w1 + 4 → w3 ≡ w2 + 4 * n
-    → page1 ≡ over page w (hex2 o) → page2 ≡ over page1 w1 (hex4 n) → page3 ≡ over page2 w2 (hexes (take n ws)) → page4 ≡ over page3 w3 (10 ∷ [])
-    → page4 ≡ over page w (lineText (shows o (n ∷ take n ws)))
-unfolding hex2 hex4 lineText hexes
-counted-put page page1 page2 page3 page4 w w1 w2 w3 o n ws k h e1 e2 e3 p1 p2 p3 p4 =
-    let l : length (hexes (take n ws)) ≡ 4 * n = hexes-length (take n ws) ∙ ap (λ (m : ℕ). 4 * m) (length-take-le n ws k) in
-    let a = next page page1 page2 w w1 (hex2 o) (hex4 n) h e1 p1 p2 in
-    let b = next page page2 page3 w w2 (hex2 o ++ hex4 n) (hexes (take n ws)) h (omega arith) a p3 in
-    next page page3 page4 w w3 ((hex2 o ++ hex4 n) ++ hexes (take n ws)) (10 ∷ []) h (omega (arith, l)) b p4
+pub drain-length : (n : ℕ) (ws : List ℕ) → n ≤ length ws → length (lineText (shows 0x0f (n ∷ take n ws))) ≡ 7 + 4 * n
+drain-length n ws h = line-length (shows 0x0f (n ∷ take n ws)) ∙ omega (arith, length-take-le n ws h)

@@ -38,21 +38,12 @@ linesOf o Nothing drained = shows o [] ∷ []
 linesOf o (One a) drained = shows o (a ∷ []) ∷ []
 linesOf o (Store a v) drained = stores (a .0) v ∷ []
 linesOf o (Load a) drained = loads o (a .0) ∷ []
-linesOf o (Drained n) drained = shows o (n ∷ take n drained) ∷ []
+linesOf o (Drained n) drained = shows 0x0f (n ∷ take n drained) ∷ []
 linesOf o (Refused n) drained = []
 
 unfoldable pub linesText : List Line → List ℕ
 linesText [] = []
 linesText (l ∷ ls) = lineText l ++ linesText ls
-
--- a drain's count is within the table
-abbrev pub Few : Adds → List ℕ → Type 0
-Few Nothing drained = Unit {0}
-Few (One a) drained = Unit {0}
-Few (Store a v) drained = Unit {0}
-Few (Load a) drained = Unit {0}
-Few (Drained n) drained = (n ≤ length drained) × (n < 65536)
-Few (Refused n) drained = Unit {0}
 
 abbrev pub onwardOf : Adds → Onward
 onwardOf Nothing = onward.Go

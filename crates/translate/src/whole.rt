@@ -1,26 +1,21 @@
 // The frames of a script, one after another, over tables of their own; the list is written on a page.
 ghost use mathlib.Core.Path.{_≡_};
-ghost use Prim.Native.Nat.{ℕ, _+_, _≤_, _<_};
-ghost use mathlib.Core.List.{_∷_};
-ghost use lib.ListN.{length, take};
+ghost use Prim.Native.Nat.{_+_, _≤_};
+ghost use lib.ListN.{length};
 ghost use Rattle.rules.specs.Sizes.{base};
 ghost use Rattle.rules.specs.Slots.{edition1};
-ghost use Rattle.rules.specs.Frames.{shows};
-ghost use Rattle.rules.specs.Text.{lineText};
 ghost use Rattle.rules.specs.Entries.{translated};
 ghost use Rattle.text.specs.Writing.{over};
-ghost use Rattle.translate.specs.Whole.{frameIn, linesOf, linesText, Few, onwardOf, Read, Ends};
+ghost use Rattle.translate.specs.Steps.{Few};
+ghost use Rattle.translate.specs.Whole.{frameIn, linesOf, linesText, onwardOf, Read, Ends};
 use crate::dispatch::step;
 use crate::steps::Adds;
 use text::lines::Frame;
 use text::lines::Reading;
 use text::lines::frame_at;
-use text::writing::put_byte;
-use text::writing::put_end;
+use text::writing::put_drain;
 use text::writing::put_line;
 use text::writing::put_size;
-use text::writing::put_word;
-use text::writing::put_words;
 
 // Whether the script goes on, or the number that stops it.
 enum Onward {
@@ -60,21 +55,9 @@ fn onward_of(adds: Adds) -> Onward
     }
 }
 
-// A line of a count and as many addresses.
-fn put_counted(page: &mut [u8], w: usize, opcode: u8, drained: &[u16], n: usize) -> usize
-    requires { ⌜ (n ≤ length (now drained)) × (n < 65536) × (w + length (lineText (shows opcode (n ∷ take n (now drained)))) ≤ length (now page)) ⌝ }
-    ensures { λ r. ⌜ r ≡ w + length (lineText (shows opcode (n ∷ take n (now (drained .entry))))) ⌝ }
-    ensures { λ _. ⌜ now (page .exit) ≡ over (now (page .entry)) w (lineText (shows opcode (n ∷ take n (now (drained .entry))))) ⌝ }
-{
-    let w1 = put_byte(page, w, opcode);
-    let w2 = put_word(page, w1, n as u16);
-    let w3 = put_words(page, w2, drained, n);
-    put_end(page, w3)
-}
-
 // The line of a frame at w of the page.
 fn put_adds(page: &mut [u8], w: usize, opcode: u8, adds: Adds, drained: &[u16]) -> usize
-    requires { ⌜ Few adds (now drained) × (w + length (linesText (linesOf opcode adds (now drained))) ≤ length (now page)) ⌝ }
+    requires { ⌜ Few adds × (length (now drained) ≡ 1024) × (w + length (linesText (linesOf opcode adds (now drained))) ≤ length (now page)) ⌝ }
     ensures { λ r. ⌜ r ≡ w + length (linesText (linesOf opcode adds (now (drained .entry)))) ⌝ }
     ensures { λ _. ⌜ now (page .exit) ≡ over (now (page .entry)) w (linesText (linesOf opcode adds (now (drained .entry)))) ⌝ }
 {
@@ -83,7 +66,7 @@ fn put_adds(page: &mut [u8], w: usize, opcode: u8, adds: Adds, drained: &[u16]) 
         Adds::One(a) => put_line(page, w, opcode, 1, a, 0),
         Adds::Store(a, v) => put_line(page, w, 0x10, 2, a.0, v),
         Adds::Load(a) => put_line(page, w, opcode, 1, a.0, 0),
-        Adds::Drained(n) => put_counted(page, w, opcode, drained, n),
+        Adds::Drained(n) => put_drain(page, w, drained, n as u16),
         Adds::Refused(_) => w,
     }
 }

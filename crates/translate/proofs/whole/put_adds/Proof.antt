@@ -1,7 +1,7 @@
 -- `put_adds` meets its contract. Assumes nothing.
 use mathlib.Core.Path.{refl}
 use native.Mathlib.Omega.{arith}
-use Rattle.translate.proofs.Written.{alone, stored, loaded, short-room, short-put, line-room, line-put, none-put, few}
+use Rattle.translate.proofs.Written.{alone, stored, loaded, short-room, short-put, line-room, line-put, none-put, few, drain-length}
 use borrow.Author.Needs.{needs}
 use Rattle.translate.proofs.whole.put_adds.Statement.{statement}
 use Rattle.translate.proofs.whole.put_adds.Tie as tie
@@ -12,7 +12,7 @@ enum-told c = search needs
 put-line-requires : tie.Need-put-line-requires
 put-line-requires c κs =
     let a = c .before .before .before .before .before in
-    short-room (a .args .opcode) (a .args .drained .now) (c .before .enum-told .given .1) (a .args .opcode) 0 0 0 (alone _) (omega arith) _ _ (a .pre .1)
+    short-room (a .args .opcode) (a .args .drained .now) (c .before .enum-told .given .1) (a .args .opcode) 0 0 0 (alone _) (omega arith) _ _ (a .pre .2)
 
 enum-known-adds : tie.Need-enum-known-adds
 enum-known-adds c = search needs
@@ -20,7 +20,7 @@ enum-known-adds c = search needs
 put-line-requires-2 : tie.Need-put-line-requires-2
 put-line-requires-2 c κs =
     let a = c .before .before .before .before .before .before in
-    short-room (a .args .opcode) (a .args .drained .now) (c .before .before .adds .given .1) (a .args .opcode) 1 _ 0 (alone _) (omega arith) _ _ (a .pre .1)
+    short-room (a .args .opcode) (a .args .drained .now) (c .before .before .adds .given .1) (a .args .opcode) 1 _ 0 (alone _) (omega arith) _ _ (a .pre .2)
 
 enum-known-adds-2 : tie.Need-enum-known-adds-2
 enum-known-adds-2 c = search needs
@@ -28,7 +28,7 @@ enum-known-adds-2 c = search needs
 put-line-requires-3 : tie.Need-put-line-requires-3
 put-line-requires-3 c κs =
     let a = c .before .before .before .before .before .before in
-    short-room (a .args .opcode) (a .args .drained .now) (c .before .before .adds2 .given .1) 16 2 _ _ (stored _ _) (omega arith) _ _ (a .pre .1)
+    short-room (a .args .opcode) (a .args .drained .now) (c .before .before .adds2 .given .1) 16 2 _ _ (stored _ _) (omega arith) _ _ (a .pre .2)
 
 enum-known-adds-3 : tie.Need-enum-known-adds-3
 enum-known-adds-3 c = search needs
@@ -36,16 +36,25 @@ enum-known-adds-3 c = search needs
 put-line-requires-4 : tie.Need-put-line-requires-4
 put-line-requires-4 c κs =
     let a = c .before .before .before .before .before .before in
-    short-room (a .args .opcode) (a .args .drained .now) (c .before .before .adds3 .given .1) (a .args .opcode) 1 _ 0 (loaded _ _) (omega arith) _ _ (a .pre .1)
+    short-room (a .args .opcode) (a .args .drained .now) (c .before .before .adds3 .given .1) (a .args .opcode) 1 _ 0 (loaded _ _) (omega arith) _ _ (a .pre .2)
 
 enum-known-adds-4 : tie.Need-enum-known-adds-4
 enum-known-adds-4 c = search needs
 
-put-counted-requires : tie.Need-put-counted-requires
-put-counted-requires c κs =
+cast-put-drain : tie.Need-cast-put-drain
+cast-put-drain c =
+    let a = c .before .before .before .before .before .before in
+    let h = few (c .before .before .adds4 .given .1) (a .pre .0) in omega (arith, h)
+
+put-drain-requires : tie.Need-put-drain-requires
+put-drain-requires c κs =
     let a = c .before .before .before .before .before .before in
     let e = c .before .before .adds4 .given .1 in
-    let f = few (a .args .drained .now) e (a .pre .0) in (f .0, f .1, line-room (a .args .opcode) (a .args .drained .now) e _ refl _ _ (a .pre .1))
+    let h = few e (a .pre .0) in
+    let k = omega (arith, h, a .pre .1) in (
+      k,
+      omega (arith, line-room (a .args .opcode) (a .args .drained .now) e _ refl _ _ (a .pre .2), drain-length _ (a .args .drained .now) k),
+    )
 
 enum-told-2 : tie.Need-enum-told-2
 enum-told-2 c = search needs
@@ -93,7 +102,9 @@ returns-5 : tie.Need-returns-5
 returns-5 c =
     let a = c .before .before .before .before .before .before .before .before .before in
     let r = c .before .before in
-    line-put (a .args .opcode) (a .args .drained .now) (c .before .before .before .before .before .adds4 .given .1) _ refl (a .args .page .now) _ _ _ (r .put-counted .ensures .0) (r .put-counted .ensures .1)
+    let e = c .before .before .before .before .before .adds4 .given .1 in
+    let k = drain-length _ (a .args .drained .now) (omega (arith, few e (a .pre .0), a .pre .1)) in
+    line-put (a .args .opcode) (a .args .drained .now) e _ refl (a .args .page .now) _ _ _ (omega (arith, r .put-drain .ensures .0, k)) (r .put-drain .ensures .1)
 
 returns-6 : tie.Need-returns-6
 returns-6 c =
@@ -113,7 +124,8 @@ put-adds-spec =
     enum-known-adds-3
     put-line-requires-4
     enum-known-adds-4
-    put-counted-requires
+    cast-put-drain
+    put-drain-requires
     enum-told-2
     same-length
     returns

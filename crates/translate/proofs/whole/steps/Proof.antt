@@ -68,6 +68,7 @@ put-adds-requires c κs =
     let a = l .before .before .before .before in
     let go = sym (c .before .before .before .before .onward-of .ensures) ∙ c .before .before .enum-told .given .1 in (
       going-few (a .args .script .now) (a .args .page .now) (l .loop .s) (l .loop .handles) (l .loop .holders) (l .loop .drained) (l .loop .handed) (l .loop .p) (l .loop .i) (l .loop .w) (l .loop .page) (l .loop .inv) (fa .frame-at .result) (fa .frame-at .ensures) (fi .frame-in .result) (fi .frame-in .ensures) (st .step .result) (st .step .last .1 .0) (st .step .last .1 .1 .0) (st .step .last .1 .1 .1 .0) (st .step .ensures .0) (st .step .ensures .1) go,
+      st .step .ensures .1,
       going-room (a .args .script .now) (a .args .page .now) (l .loop .s) (l .loop .handles) (l .loop .holders) (l .loop .drained) (l .loop .handed) (l .loop .p) (l .loop .i) (l .loop .w) (l .loop .page) (l .loop .inv) (fa .frame-at .result) (fa .frame-at .ensures) (fi .frame-in .result) (fi .frame-in .ensures) (st .step .result) (st .step .last .1 .0) (st .step .last .1 .1 .0) (st .step .last .1 .1 .1 .0) (st .step .ensures .0) (st .step .ensures .1) go (a .pre .1),
     )
 
