@@ -8,3 +8,4 @@ pub mod named; // 09 to 0b
 pub mod frees; // 0c to 0e
 pub mod cells; // 0f to 12
 pub mod dispatch; // which step a frame is
+pub mod listing; // all frames of a script, into a page
