@@ -3,11 +3,14 @@ use mathlib.Core.Path.{_≡_, refl, sym, ap, subst, _∙_}
 use mathlib.Core.Option.{Option, none, some}
 use Prim.Native.Nat.{ℕ, _≤_, _<_}
 use native.Mathlib.Omega.{arith}
-use lib.Dec.{eqb}
-use borrow.Author.Tests.{ne-eqb}
+use mathlib.Core.Bool.{Bool, true, false}
+use lib.Dec.{eqb, ltb}
+use borrow.Author.Tests.{ne-eqb, ltb-true}
+use Rattle.rules.specs.Notation.{allOf}
+use Rattle.rules.proofs.Tells.{clash}
 use Rattle.rules.specs.Frames.{Frame, child, pop, dangle, restore, popLast, alloc, allocIn, linear, define, get, takeFrom, free, freeQuietly, forget, drain, write, read, readName}
 use mathlib.Core.List.{List, [], _∷_}
-use Rattle.rules.specs.Text.{Raw, Row, row, rowed, frameTable}
+use Rattle.rules.specs.Text.{Raw, Row, rowed, frameTable}
 use Rattle.rules.proofs.Chains.{none-some}
 use Rattle.scopes.specs.declared.Scopes.{Scopes}
 use Rattle.text.specs.Lines.{frameOf}
@@ -29,9 +32,15 @@ works-as {s} {handles} {holders} {handles′} {holders′} {drained} {handed} {r
 pub no-frame {ℓ} : {X : Type ℓ} {o : Option Frame} {g : Frame} → o ≡ none → o ≡ some g → X
 no-frame n e = none-some (sym n ∙ e)
 
-skip : {A : Type 0} (k : ℕ) (m : List ℕ → Option A) (ws : List (Row A)) (r : Raw) → k < 19 → 19 ≤ r .opcode → rowed (row k m ∷ ws) r ≡ rowed ws r
-unfolding rowed
-skip k m ws r l h = rw (ne-eqb k (r .opcode) (λ e. omega arith), rowed)
+-- no row has so high an opcode
+none-of : {A : Type 0} (ws : List (Row A)) (r : Raw) → allOf (λ w. ltb (w .opcode) 19) ws ≡ true → 19 ≤ r .opcode → rowed ws r ≡ none
+unfolding rowed allOf
+none-of [] r e l = refl
+none-of {A} (w ∷ ws) r e l = go (ltb (w .opcode) 19) refl (λ q. none-of ws r q l)
+  where
+    go : (b : Bool) → ltb (w .opcode) 19 ≡ b → (allOf (λ (x : Row A). ltb (x .opcode) 19) ws ≡ true → rowed ws r ≡ none) → rowed (w ∷ ws) r ≡ none
+    go true q ih = rw (ne-eqb (w .opcode) (r .opcode) (λ x. omega (arith, ltb-true (w .opcode) 19 q)), rowed) (ih (rw (q, allOf) at e))
+    go false q ih = clash (rw (q, allOf) at e) refl
 
 module _ (f : Code) where
   pub is-child : f .opcode ≡ 0x01 → frameOf f ≡ some child
@@ -111,23 +120,5 @@ module _ (f : Code) where
   is-none e = ap (λ (o : ℕ). frameOf (record { opcode = o; a = f .a; b = f .b })) e
 
   pub is-high : 19 ≤ f .opcode → frameOf f ≡ none
-  unfolding frameOf rowed frameTable
-  is-high l =
-      skip 0x01 _ _ _ (omega arith) l
-      ∙ skip 0x02 _ _ _ (omega arith) l
-      ∙ skip 0x03 _ _ _ (omega arith) l
-      ∙ skip 0x04 _ _ _ (omega arith) l
-      ∙ skip 0x05 _ _ _ (omega arith) l
-      ∙ skip 0x06 _ _ _ (omega arith) l
-      ∙ skip 0x07 _ _ _ (omega arith) l
-      ∙ skip 0x08 _ _ _ (omega arith) l
-      ∙ skip 0x09 _ _ _ (omega arith) l
-      ∙ skip 0x0a _ _ _ (omega arith) l
-      ∙ skip 0x0b _ _ _ (omega arith) l
-      ∙ skip 0x0c _ _ _ (omega arith) l
-      ∙ skip 0x0d _ _ _ (omega arith) l
-      ∙ skip 0x0e _ _ _ (omega arith) l
-      ∙ skip 0x0f _ _ _ (omega arith) l
-      ∙ skip 0x10 _ _ _ (omega arith) l
-      ∙ skip 0x11 _ _ _ (omega arith) l
-      ∙ skip 0x12 _ _ _ (omega arith) l
+  unfolding frameOf frameTable allOf
+  is-high l = none-of frameTable _ refl l
