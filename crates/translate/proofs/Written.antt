@@ -71,10 +71,10 @@ module _ {adds y : Adds} (o : ℕ) (drained : List ℕ) (e : adds ≡ y) (l : Li
   line : linesText (linesOf o adds drained) ≡ lineText l
   line = ap (λ (x : Adds). linesText (linesOf o x drained)) e ∙ ap linesText q ∙ alone l
 
-  pub line-room : (w m : ℕ) → w + length (linesText (linesOf o adds drained)) ≤ m → w + length (lineText l) ≤ m
+  line-room : (w m : ℕ) → w + length (linesText (linesOf o adds drained)) ≤ m → w + length (lineText l) ≤ m
   line-room w m h = omega (arith, ap length line)
 
-  pub line-put : (page : List ℕ) (w w′ : ℕ) (page′ : List ℕ) → w′ ≡ w + length (lineText l) → page′ ≡ over page w (lineText l) → Put o adds drained page w w′ page′
+  line-put : (page : List ℕ) (w w′ : ℕ) (page′ : List ℕ) → w′ ≡ w + length (lineText l) → page′ ≡ over page w (lineText l) → Put o adds drained page w w′ page′
   line-put page w w′ page′ h k = (omega (arith, ap length line), k ∙ ap (over page w) (sym line))
 
 -- a refusal writes nothing
@@ -89,5 +89,15 @@ none-put {adds} o n drained e page w =
 pub few : {adds : Adds} {n : ℕ} → adds ≡ Drained n → Few adds → n ≤ 1024
 few e h = subst Few e h
 
-pub drain-length : (n : ℕ) (ws : List ℕ) → n ≤ length ws → length (lineText (shows 0x0f (n ∷ take n ws))) ≡ 7 + 4 * n
-drain-length n ws h = line-length (shows 0x0f (n ∷ take n ws)) ∙ omega (arith, length-take-le n ws h)
+module _ {adds : Adds} {n : ℕ} (drained : List ℕ) (e : adds ≡ Drained n) (h : Few adds) (l : length drained ≡ 1024) where
+  within : n ≤ length drained
+  within = omega (arith, few e h, l)
+
+  drain-length : length (lineText (shows 0x0f (n ∷ take n drained))) ≡ 7 + 4 * n
+  drain-length = line-length (shows 0x0f (n ∷ take n drained)) ∙ omega (arith, length-take-le n drained within)
+
+  pub drain-room : (o w m : ℕ) → w + length (linesText (linesOf o adds drained)) ≤ m → (n ≤ length drained) × (w + 7 + 4 * n ≤ m)
+  drain-room o w m k = (within, omega (arith, line-room o drained e (shows 0x0f (n ∷ take n drained)) refl w m k, drain-length))
+
+  pub drain-put : (o : ℕ) (page : List ℕ) (w w′ : ℕ) (page′ : List ℕ) → w′ ≡ w + 7 + 4 * n → page′ ≡ over page w (lineText (shows 0x0f (n ∷ take n drained))) → Put o adds drained page w w′ page′
+  drain-put o page w w′ page′ k q = line-put o drained e (shows 0x0f (n ∷ take n drained)) refl page w w′ page′ (omega (arith, drain-length)) q

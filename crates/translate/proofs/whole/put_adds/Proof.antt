@@ -1,7 +1,6 @@
 -- `put_adds` meets its contract. Assumes nothing.
-use mathlib.Core.Path.{refl}
 use native.Mathlib.Omega.{arith}
-use Rattle.translate.proofs.Written.{alone, stored, loaded, short-room, short-put, line-room, line-put, none-put, few, drain-length}
+use Rattle.translate.proofs.Written.{alone, stored, loaded, short-room, short-put, none-put, few, drain-room, drain-put}
 use borrow.Author.Needs.{needs}
 use Rattle.translate.proofs.whole.put_adds.Statement.{statement}
 use Rattle.translate.proofs.whole.put_adds.Tie as tie
@@ -49,12 +48,7 @@ cast-put-drain c =
 put-drain-requires : tie.Need-put-drain-requires
 put-drain-requires c κs =
     let a = c .before .before .before .before .before .before in
-    let e = c .before .before .adds4 .given .1 in
-    let h = few e (a .pre .0) in
-    let k = omega (arith, h, a .pre .1) in (
-      k,
-      omega (arith, line-room (a .args .opcode) (a .args .drained .now) e _ refl _ _ (a .pre .2), drain-length _ (a .args .drained .now) k),
-    )
+    drain-room (a .args .drained .now) (c .before .before .adds4 .given .1) (a .pre .0) (a .pre .1) (a .args .opcode) _ _ (a .pre .2)
 
 enum-told-2 : tie.Need-enum-told-2
 enum-told-2 c = search needs
@@ -102,9 +96,7 @@ returns-5 : tie.Need-returns-5
 returns-5 c =
     let a = c .before .before .before .before .before .before .before .before .before in
     let r = c .before .before in
-    let e = c .before .before .before .before .before .adds4 .given .1 in
-    let k = drain-length _ (a .args .drained .now) (omega (arith, few e (a .pre .0), a .pre .1)) in
-    line-put (a .args .opcode) (a .args .drained .now) e _ refl (a .args .page .now) _ _ _ (omega (arith, r .put-drain .ensures .0, k)) (r .put-drain .ensures .1)
+    drain-put (a .args .drained .now) (c .before .before .before .before .before .adds4 .given .1) (a .pre .0) (a .pre .1) (a .args .opcode) (a .args .page .now) _ _ _ (r .put-drain .ensures .0) (r .put-drain .ensures .1)
 
 returns-6 : tie.Need-returns-6
 returns-6 c =
