@@ -22,6 +22,8 @@ pub mod Removing
 pub mod Naming
 pub mod Parents
 pub mod Owners
+pub mod Lengths
+pub mod Pages
 pub mod Names
 pub mod Changed
 pub mod KeepsScopes

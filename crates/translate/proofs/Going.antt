@@ -1,0 +1,300 @@
+-- The loop over the frames: with i of them done, what was written and what remains give the whole. Assumes nothing.
+use mathlib.Core.Path.{_≡_, refl, sym, ap, subst, _∙_, fun-ext}
+use mathlib.Core.Bool.{Bool, true, false}
+use mathlib.Core.Option.{Option, none, some}
+use mathlib.Core.List.{List, [], _∷_, _++_, append-assoc, append-nil}
+use Prim.Native.Nat.{ℕ, zero, suc, _+_, _*_, _≤_, _<_}
+use native.Mathlib.Omega.{arith}
+use native.Mathlib.Numerals.{add-one}
+use lib.Dec.{eqb}
+use lib.ListN.{length, getD, take, drop, replicate, length-append, length-replicate}
+use lib.Seq.{take-at}
+use Rattle.rules.specs.Notation.{given, refused}
+use Rattle.rules.specs.Sizes.{Room, base}
+use Rattle.rules.specs.Slots.{Placement, edition1, freshSlots}
+use Rattle.rules.specs.Scopes as rule
+use Rattle.rules.specs.Frames.{State, start, Frame, Line, shows, step, Step, Outcome, accepted, refusedAt, before, onward, steps}
+use Rattle.rules.specs.Demand3.{Fair}
+use Rattle.rules.specs.Sound.{sumBelow}
+use Rattle.rules.specs.Text.{Split, split, lineOf, frameTable, Script, frames, unread, frameBefore, scriptFrom, lineText, listText}
+use Rattle.rules.specs.Entries.{outcome, translated}
+use Rattle.rules.proofs.Sound.{SlotsSound, StateSound}
+use Rattle.rules.proofs.KeepsSteps.{keeps-step}
+use Rattle.rules.proofs.Reached.{start-sound}
+use Rattle.rules.proofs.Small.{Small, small-start, small-step}
+use Rattle.rules.proofs.Fits.{base-wide}
+use Rattle.rules.proofs.Editions.{edition1-fair-sound}
+use Rattle.rules.proofs.Demand3.{next-frame, no-frame}
+use Rattle.rules.proofs.Lengths.{line-length}
+use Rattle.rules.proofs.Pages.{owing, pays, linesLength}
+use Rattle.scopes.specs.View.{view}
+use Rattle.scopes.specs.Sound.{Sound}
+use Rattle.scopes.specs.declared.Scopes.{Scopes}
+use Rattle.text.specs.Lines.{codeOf, frameOf, framed, frameReading, Took}
+use Rattle.text.specs.Writing.{over}
+use Rattle.text.specs.declared.lines.Frame as code
+use Rattle.text.specs.declared.lines.Reading.{Reading}
+use Rattle.text.specs.declared.lines.Reading.the-variants as reading
+use Rattle.text.specs.declared.lines.Taken.{Taken}
+use Rattle.text.proofs.Splits.{split-end}
+use Rattle.text.proofs.Rows.{frame-code}
+use Rattle.text.proofs.Bounds.{ScriptIn, script-in}
+use Rattle.text.proofs.Over.{over-nothing, next}
+use Rattle.translate.specs.Handles.{handleAt, stateOf}
+use Rattle.translate.specs.Steps.{stepped, Few, Stands, Works}
+use Rattle.translate.specs.Whole.{frameIn, linesOf, linesText, onwardOf, Read, Ends, listed, refused as told}
+use Rattle.translate.specs.declared.steps.Adds.{Adds}
+use Rattle.translate.specs.declared.steps.Adds.the-variants.{Nothing, One, Store, Load, Drained, Refused}
+use Rattle.translate.specs.declared.steps.Stepped.{Stepped}
+use Rattle.translate.specs.declared.whole.Onward.the-variants.{Go, Stop}
+use Rattle.translate.specs.declared.whole.Ended.{Ended}
+use Rattle.translate.specs.declared.whole.Ended.the-variants as ended
+use Rattle.translate.proofs.Written.{lines-length, lines-on, list-on, Put}
+
+-- ---- a step of the code, as the rules' step
+
+stops : {P : Type 0} {n : ℕ} → Stop n ≡ Go → P
+stops e = absurd (let z : _≡_ {A = ℕ} 0 1 = cc in omega arith)
+
+pub goes-on : (o : ℕ) (adds : Adds) (t : State) (l : List ℕ) → onwardOf adds ≡ Go → stepped o adds t l ≡ given (linesOf o adds l, t)
+goes-on o Nothing t l e = refl
+goes-on o (One a) t l e = refl
+goes-on o (Store a v) t l e = refl
+goes-on o (Load a) t l e = refl
+goes-on o (Drained n) t l e = refl
+goes-on o (Refused n) t l e = stops e
+
+pub stops-by : (o : ℕ) (adds : Adds) (t : State) (l : List ℕ) (n : ℕ) → onwardOf adds ≡ Stop n → stepped o adds t l ≡ refused n
+stops-by o Nothing t l n e = stops (sym e)
+stops-by o (One a) t l n e = stops (sym e)
+stops-by o (Store a v) t l n e = stops (sym e)
+stops-by o (Load a) t l n e = stops (sym e)
+stops-by o (Drained m) t l n e = stops (sym e)
+stops-by o (Refused m) t l n e = let q : m ≡ n = cc in ap refused q
+
+-- ---- lines before others
+
+before-none : (o : Outcome) → o ≡ before [] o
+before-none (accepted ls size) = refl
+before-none (refusedAt n i) = refl
+
+before-before : (ls ms : List Line) (o : Outcome) → before ls (before ms o) ≡ before (ls ++ ms) o
+before-before ls ms (accepted more size) = ap (λ (l : List Line). accepted l size) (sym (append-assoc ls ms more))
+before-before ls ms (refusedAt n i) = refl
+
+-- ---- the frame of a line
+
+record Taking (room : Room) (i : ℕ) (x : Reading) (ls : List Split) (left : List Frame) : Type 0 where
+  frame : Frame
+  more : List Frame
+  is : left ≡ frame ∷ more
+  as-read : x ≡ reading.One (codeOf frame)
+  on : scriptFrom room (suc i) ls ≡ frames more
+
+not-read : {P : Type 0} {n j : ℕ} {fs : List Frame} → unread n j ≡ frames fs → P
+not-read e = absurd (let z : _≡_ {A = ℕ} 0 1 = cc in omega arith)
+
+taking : (room : Room) (i : ℕ) (l : Split) (ls : List Split) (left : List Frame) → scriptFrom room i (l ∷ ls) ≡ frames left → Taking room i (frameReading l) ls left
+unfolding scriptFrom frameReading
+taking room i l ls left e = go (eqb i (room .lines)) (lineOf frameTable l) (scriptFrom room (suc i) ls) refl refl e
+  where
+    go : (b : Bool) (o : Option Frame) (r : Script) → lineOf frameTable l ≡ o → scriptFrom room (suc i) ls ≡ r
+        → _≡_ {A = Script} (elim b [ true ↦ unread 2 i | false ↦ frameBefore i o r ]) (frames left) → Taking room i (framed (lineOf frameTable l)) ls left
+    go true o r p q e = not-read e
+    go false none r p q e = not-read e
+    go false (some f) (unread n j) p q e = not-read e
+    go false (some f) (frames gs) p q e = record { frame = f; more = gs; is = cc; as-read = ap framed p; on = q }
+
+-- ---- the loop
+
+abbrev place : Placement
+place = edition1 (base .segments)
+
+pub fair : Fair base place (SlotsSound (base .segments))
+fair = edition1-fair-sound base (base-wide .segments)
+
+pub record Going (script page₀ : List ℕ) (s : Scopes) (handles holders drained : List ℕ) (handed p i w : ℕ) (page : List ℕ) : Type 0 where
+  pub within : p ≤ length script
+  pub stands : Stands s handles holders handed
+  pub small : Small i (stateOf (view s) handles holders handed)
+  pub left : List Frame
+  pub reads : scriptFrom base i (split (drop p script)) ≡ frames left
+  pub early : i + length left ≤ 2048
+  pub done : List Line
+  pub comes : translated base place script ≡ before done (steps base place i (stateOf (view s) handles holders handed) left)
+  pub at : w ≡ length (linesText done)
+  pub written : page ≡ over page₀ 0 (linesText done)
+  pub owed : w + 4 * owing base (view s) ≤ 11 * i + 4 * handed
+  pub drained-length : length drained ≡ 1024
+  pub page-length : length page ≡ length page₀
+
+-- ---- before the first frame
+
+zeros : (n h : ℕ) → getD {A = ℕ} (replicate n 0) h 0 ≡ 0
+zeros zero zero = refl
+zeros zero (suc h) = refl
+zeros (suc n) zero = refl
+zeros (suc n) (suc h) = zeros n h
+
+starts : (c : rule.Scopes) (m n : ℕ) → c ≡ rule.freshScopes → stateOf c (replicate m 0) (replicate n 0) 0 ≡ start
+unfolding start rule.freshScopes freshSlots
+starts c m n e = rw e (ap (λ (f : ℕ → _). record { scopes = rule.freshScopes; handles = f; handed = 0 }) (fun-ext (λ h. rw (zeros m h))))
+
+pub owes-none : owing base (start .scopes) ≡ 0
+unfolding owing start rule.freshScopes base sumBelow
+owes-none = refl
+
+read-whole : (script : List ℕ) (fs : List Frame) → scriptFrom base 0 (split script) ≡ frames fs → translated base place script ≡ steps base place 0 start fs
+unfolding translated outcome
+read-whole script fs e = ap (outcome base place) e
+
+few-frames : (fs : List Frame) (r : Script) → ScriptIn base 0 r → r ≡ frames fs → 0 + length fs ≤ 2048
+unfolding base
+few-frames fs r h e = subst (ScriptIn base 0) e h
+
+pub going-start : (script page : List ℕ) (s : Scopes) → Read script → view s ≡ rule.freshScopes → Sound s → Going script page s (replicate 2048 0) (replicate 1024 0) (replicate 1024 0) 0 0 0 0 page
+unfolding linesText
+going-start script page s r v h =
+    let e = starts (view s) 2048 1024 v in
+    let o : owing base (view s) ≡ 0 = ap (λ (t : State). owing base (t .scopes)) e ∙ owes-none in
+    let k : s .counter ≡ start .scopes .counter = ap (λ (t : State). t .scopes .counter) e in
+    record {
+      within = omega arith;
+      stands = record {
+        sound = h;
+        state = subst (StateSound base) (sym e) (start-sound base (base-wide .segments) (base-wide .scopes));
+        counted = omega (arith, k, small-start .count);
+        handles-length = length-replicate {A = ℕ} 2048 0;
+        holders-length = length-replicate {A = ℕ} 1024 0;
+      };
+      small = subst (Small 0) (sym e) small-start;
+      left = r .all;
+      reads = r .reads;
+      early = few-frames (r .all) (scriptFrom base 0 (split script)) (script-in base (split script) 0 (omega arith)) (r .reads);
+      done = [];
+      comes = read-whole script (r .all) (r .reads) ∙ ap (λ (t : State). steps base place 0 t (r .all)) (sym e) ∙ before-none (steps base place 0 (stateOf (view s) (replicate 2048 0) (replicate 1024 0) 0) (r .all));
+      at = refl;
+      written = over-nothing page 0;
+      owed = omega (arith, o);
+      drained-length = length-replicate {A = ℕ} 1024 0;
+      page-length = refl;
+    }
+
+-- ---- one frame
+
+module _ (script page₀ : List ℕ) (s : Scopes) (handles holders drained : List ℕ) (handed p i w : ℕ) (page : List ℕ)
+    (g : Going script page₀ s handles holders drained handed p i w page) where
+  abbrev here : State
+  here = stateOf (view s) handles holders handed
+
+  module _ (t : Taken) (k : Took frameReading script p t) (f : code.Frame) (ef : f ≡ frameIn (t .reading))
+      (r : Stepped) (handles′ holders′ drained′ : List ℕ)
+      (works : (x : Frame) → frameOf f ≡ some x → Works x (f .opcode) s handles holders handed r handles′ holders′ drained′) where
+    taken : Taking base i (frameReading (k .line)) (split (drop (t .next) script)) (g .left)
+    taken = taking base i (k .line) (split (drop (t .next) script)) (g .left) (sym (ap (scriptFrom base i) (k .here)) ∙ g .reads)
+
+    is-frame : frameOf f ≡ some (taken .frame)
+    is-frame = ap frameOf ef ∙ ap (λ (x : Reading). frameOf (frameIn x)) (k .as-read ∙ taken .as-read) ∙ frame-code (taken .frame)
+
+    work : Works (taken .frame) (f .opcode) s handles holders handed r handles′ holders′ drained′
+    work = works (taken .frame) is-frame
+
+    abbrev there : State
+    there = stateOf (view (r .state)) handles′ holders′ (r .handed)
+
+    comes-on : translated base place script ≡ before (g .done) (onward i (step base place here (taken .frame)) (λ x. steps base place (suc i) x (taken .more)))
+    comes-on = g .comes ∙ ap (before (g .done)) (ap (steps base place i here) (taken .is) ∙ next-frame base place i here (taken .frame) (taken .more))
+
+    pub going-stop : (n : ℕ) → onwardOf (r .adds) ≡ Stop n → Ends (translated base place script) (ended.Refused n i) page
+    unfolding onward
+    going-stop n e =
+        let q : step base place here (taken .frame) ≡ refused n = work .does ∙ stops-by (f .opcode) (r .adds) there drained′ n e in
+        let o : translated base place script ≡ refusedAt n i = comes-on ∙ ap (λ (x : Step). before (g .done) (onward i x (λ y. steps base place (suc i) y (taken .more)))) q in
+        subst (λ (x : Outcome). Ends x (ended.Refused n i) page) (sym o) (told (omega (arith, g .early)))
+
+    module _ (dl : length drained′ ≡ 1024) (e : onwardOf (r .adds) ≡ Go) where
+      abbrev lines : List Line
+      lines = linesOf (f .opcode) (r .adds) drained′
+
+      gives : step base place here (taken .frame) ≡ given (lines, there)
+      gives = work .does ∙ goes-on (f .opcode) (r .adds) there drained′ e
+
+      pub going-few : Few (r .adds)
+      going-few = work .few
+
+      sound : StateSound base there
+      sound = keeps-step base here (g .stands .state) (base-wide .slots) place fair (taken .frame) .at (lines, there) gives
+
+      enough : suc i + length (taken .more) ≤ 2048
+      enough = omega (arith, g .early, ap length (taken .is))
+
+      paid : w + length (linesText lines) + 4 * owing base (view (r .state)) ≤ 11 * suc i + 4 * r .handed
+      paid = omega (arith, g .owed, pays base place here (g .stands .state) (taken .frame) .at (lines, there) gives .covers, lines-length lines)
+
+      handed-few : r .handed ≤ 2048
+      unfolding base
+      handed-few = sound .handles .few
+
+      pub going-room : length page₀ ≡ 32768 → w + length (linesText lines) ≤ length page
+      going-room h = omega (arith, paid, handed-few, enough, g .page-length)
+
+      small-on : Small (suc i) there
+      small-on = small-step base place fair (omega (arith, base-wide .slots, base-wide .size)) i here (g .stands .state .scopes .slots) (g .small) (taken .frame) .at (lines, there) gives
+
+      going-suc : (w′ : ℕ) (page′ : List ℕ) → length page′ ≡ length page → Put (f .opcode) (r .adds) drained′ page w w′ page′
+          → Going script page₀ (r .state) handles′ holders′ drained′ (r .handed) (t .next) (suc i) w′ page′
+      unfolding onward
+      going-suc w′ page′ l q = record {
+        within = k .within;
+        stands = record {
+          sound = work .sound;
+          state = sound;
+          counted = omega (arith, small-on .count, enough);
+          handles-length = work .handles-length;
+          holders-length = work .holders-length;
+        };
+        small = small-on;
+        left = taken .more;
+        reads = taken .on;
+        early = enough;
+        done = g .done ++ lines;
+        comes = comes-on ∙ ap (λ (x : Step). before (g .done) (onward i x (λ y. steps base place (suc i) y (taken .more)))) gives ∙ before-before (g .done) lines (steps base place (suc i) there (taken .more));
+        at = q .0 ∙ ap (λ (m : ℕ). m + length (linesText lines)) (g .at) ∙ sym (ap length (lines-on (g .done) lines) ∙ length-append (linesText (g .done)) (linesText lines));
+        written = next page₀ page page′ 0 w (linesText (g .done)) (linesText lines) (omega arith) (omega (arith, g .at)) (g .written) (q .1) ∙ ap (over page₀ 0) (sym (lines-on (g .done) lines));
+        owed = omega (arith, paid, q .0);
+        drained-length = dl;
+        page-length = l ∙ g .page-length;
+      }
+
+      pub going-on : (w′ : ℕ) (page′ : List ℕ) → length page′ ≡ length page → Put (f .opcode) (r .adds) drained′ page w w′ page′
+          → Going script page₀ (r .state) handles′ holders′ drained′ (r .handed) (t .next) (i + 1) w′ page′
+      going-on w′ page′ l q =
+          subst (λ (m : ℕ). Going script page₀ (r .state) handles′ holders′ drained′ (r .handed) (t .next) m w′ page′) (sym (add-one i)) (going-suc w′ page′ l q)
+
+  -- ---- after the last frame
+
+  pub going-size : s .size < 65536
+  going-size = omega (arith, g .stands .state .scopes .size .fits, base-wide .size)
+
+  pub going-last : length page₀ ≡ 32768 → w + 7 ≤ length page
+  unfolding base
+  going-last h = omega (arith, g .owed, g .stands .state .handles .few, g .early, g .page-length)
+
+  module _ (over-all : length script ≤ p) where
+    no-more : g .left ≡ []
+    unfolding scriptFrom
+    no-more = let q : scriptFrom base i [] ≡ frames (g .left) = sym (ap (scriptFrom base i) (split-end script p over-all)) ∙ g .reads in cc
+
+    comes-last : translated base place script ≡ accepted (g .done ++ []) (s .size)
+    comes-last = g .comes ∙ ap (before (g .done)) (ap (steps base place i here) no-more ∙ no-frame base place i here)
+
+    pub going-end : length page₀ ≡ 32768 → (v : ℕ) (page′ : List ℕ) → v ≡ w + 7 → length page′ ≡ length page → page′ ≡ over page w (lineText (shows 0x90 (s .size ∷ [])))
+        → Ends (translated base place script) (ended.Listed v) page′
+    unfolding over
+    going-end h v page′ ev l q =
+        let last : List ℕ = lineText (shows 0x90 (s .size ∷ [])) in
+        let text : List ℕ = listText (g .done ++ []) (s .size) in
+        let o : page′ ≡ over page₀ 0 text = next page₀ page page′ 0 w (linesText (g .done)) last (omega arith) (omega (arith, g .at)) (g .written) q ∙ ap (over page₀ 0) (sym (list-on (g .done) (s .size))) in
+        let n : v ≡ length text = omega (arith, g .at, ap length (list-on (g .done) (s .size)), length-append (linesText (g .done)) last, line-length (shows 0x90 (s .size ∷ []))) in
+        subst (λ (x : Outcome). Ends x (ended.Listed v) page′) (sym comes-last)
+        (listed n (omega (arith, going-last h)) (ap (take v) o ∙ take-at text (drop (0 + length text) page₀) v (sym n)))

@@ -1,0 +1,17 @@
+use borrow.Author.Needs.{needs}
+use Rattle.translate.proofs.steps.ended.Statement.{statement}
+use Rattle.translate.proofs.steps.ended.Tie as tie
+use Rattle.translate.proofs.steps.ended.Reads as reads
+use Rattle.translate.proofs.steps.ended.Lts as lts
+use Rattle.translate.proofs.steps.adds_of.Reads as adds-of-reads
+
+-- src/steps.rt:67:15
+adds-of-requires : tie.Need-adds-of-requires
+adds-of-requires c κs = search needs
+
+-- src/steps.rt:59:1
+returns : tie.Need-returns
+returns c = λ t. record { state = c .before .before .args .o .state; handed = c .before .before .args .handed; adds = c .adds-of .ensures t }
+
+pub ended-spec : {M : Type 1} → statement M
+ended-spec = tie.close (tie.spec adds-of-requires returns)

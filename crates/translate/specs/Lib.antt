@@ -1,0 +1,3 @@
+pub mod Handles
+pub mod Steps
+pub mod Whole

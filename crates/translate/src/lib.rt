@@ -1,0 +1,73 @@
+// Scripts into lists: handles, one step for each frame, and translate.
+use text::whole::Checked;
+use text::whole::check_script;
+use whole::Ended;
+use whole::steps as whole_steps;
+ghost use mathlib.Core.Path.{_≡_};
+ghost use mathlib.Core.List.{_++_};
+ghost use Prim.Native.Nat.{_+_, _*_, _^_, _≤_};
+ghost use lib.ListN.{length, take, drop};
+ghost use Rattle.rules.specs.Sizes.{base};
+ghost use Rattle.rules.specs.Slots.{edition1};
+ghost use Rattle.rules.specs.Entries.{refusalAnswer, translateEntry};
+ghost use Rattle.translate.specs.Whole.{Leaves, Read};
+
+pub mod handles; // handles as numbers of a table
+pub mod steps; // what a step is
+pub mod scoped; // 01 to 05
+pub mod allots; // 06 to 08
+pub mod named; // 09 to 0b
+pub mod frees; // 0c to 0e
+pub mod cells; // 0f to 12
+pub mod dispatch; // one step, by its opcode
+pub mod whole; // all steps of a script, and the page
+
+// The answer of a refusal: its number in the high 32 bits, its line in the low 32.
+fn refuse(number: u8, line: usize) -> u64
+    requires { ⌜ line ≤ 2 ^ 63 ⌝ }
+    ensures { λ r. ⌜ r ≡ refusalAnswer number line ⌝ }
+{
+    (number as u64) * 4294967296 + (line as u64)
+}
+
+// The first n bytes of the page go to the start of the list.
+fn copy(page: &[u8], list: &mut [u8], n: usize)
+    requires { ⌜ (n ≤ length (now page)) × (n ≤ length (now list)) ⌝ }
+    ensures { λ _. ⌜ now (list .exit) ≡ take n (now (page .entry)) ++ drop n (now (list .entry)) ⌝ }
+{
+    let mut i: usize = 0;
+    while i < n {
+        list[i] = page[i];
+        i += 1;
+    }
+}
+
+// The script is read: its steps, and 17 last.
+fn translate_read(script: &[u8], list: &mut [u8]) -> u64
+    requires { ⌜ Read (now script) ⌝ }
+    ensures { λ r. ⌜ Leaves (translateEntry base (edition1 8) (now (script .entry)) (now (list .entry))) r (now (list .exit)) ⌝ }
+{
+    let mut page = [0u8; 32768];
+    match whole_steps(script, &mut page) {
+        Ended::Refused(m, i) => refuse(m, i),
+        Ended::Listed(n) => {
+            if list.len() < n {
+                return refuse(17, 0);
+            }
+            copy(&page, list, n);
+            n as u64
+        }
+    }
+}
+
+// Translates the script. The answer is how many bytes the list takes; or, on a refusal, its number and its line, and then the lent memory is
+// as it was.
+#[no_mangle]
+pub extern "C" fn translate(script: &[u8], list: &mut [u8]) -> u64
+    ensures { λ r. ⌜ Leaves (translateEntry base (edition1 8) (now (script .entry)) (now (list .entry))) r (now (list .exit)) ⌝ }
+{
+    match check_script(script) {
+        Checked::Refused(m, i) => refuse(m, i),
+        Checked::Good(_) => translate_read(script, list),
+    }
+}

@@ -1,0 +1,107 @@
+// The frames of a script, one after another, over tables of their own; the list is written on a page.
+ghost use mathlib.Core.Path.{_≡_};
+ghost use Prim.Native.Nat.{_+_, _≤_};
+ghost use lib.ListN.{length};
+ghost use Rattle.rules.specs.Sizes.{base};
+ghost use Rattle.rules.specs.Slots.{edition1};
+ghost use Rattle.rules.specs.Entries.{translated};
+ghost use Rattle.text.specs.Writing.{over};
+ghost use Rattle.translate.specs.Steps.{Few};
+ghost use Rattle.translate.specs.Whole.{frameIn, linesOf, linesText, onwardOf, Read, Ends};
+use crate::dispatch::step;
+use crate::steps::Adds;
+use text::lines::Frame;
+use text::lines::Reading;
+use text::lines::frame_at;
+use text::writing::put_drain;
+use text::writing::put_line;
+use text::writing::put_size;
+
+// Whether the script goes on, or the number that stops it.
+enum Onward {
+    Go,
+    Stop(u8),
+}
+
+// How many bytes of the page the list takes; or the number and the line of a refusal.
+pub enum Ended {
+    Listed(usize),
+    Refused(u8, usize),
+}
+
+fn frame_in(x: Reading) -> Frame
+    ensures { λ r. ⌜ r ≡ frameIn x ⌝ }
+{
+    match x {
+        Reading::Malformed => Frame {
+            opcode: 0,
+            a: 0,
+            b: 0,
+        },
+        Reading::One(f) => f,
+    }
+}
+
+fn onward_of(adds: Adds) -> Onward
+    ensures { λ r. ⌜ r ≡ onwardOf adds ⌝ }
+{
+    match adds {
+        Adds::Nothing => Onward::Go,
+        Adds::One(_) => Onward::Go,
+        Adds::Store(_, _) => Onward::Go,
+        Adds::Load(_) => Onward::Go,
+        Adds::Drained(_) => Onward::Go,
+        Adds::Refused(n) => Onward::Stop(n),
+    }
+}
+
+// The line of a frame at w of the page.
+fn put_adds(page: &mut [u8], w: usize, opcode: u8, adds: Adds, drained: &[u16]) -> usize
+    requires { ⌜ Few adds × (length (now drained) ≡ 1024) × (w + length (linesText (linesOf opcode adds (now drained))) ≤ length (now page)) ⌝ }
+    ensures { λ r. ⌜ r ≡ w + length (linesText (linesOf opcode adds (now (drained .entry)))) ⌝ }
+    ensures { λ _. ⌜ now (page .exit) ≡ over (now (page .entry)) w (linesText (linesOf opcode adds (now (drained .entry)))) ⌝ }
+{
+    match adds {
+        Adds::Nothing => put_line(page, w, opcode, 0, 0, 0),
+        Adds::One(a) => put_line(page, w, opcode, 1, a, 0),
+        Adds::Store(a, v) => put_line(page, w, 0x10, 2, a.0, v),
+        Adds::Load(a) => put_line(page, w, opcode, 1, a.0, 0),
+        Adds::Drained(n) => put_drain(page, w, drained, n as u16),
+        Adds::Refused(_) => w,
+    }
+}
+
+// The script is read: every frame of it, then the size line.
+pub fn steps(script: &[u8], page: &mut [u8]) -> Ended
+    requires { ⌜ Read (now script) × (length (now page) ≡ 32768) ⌝ }
+    ensures { λ r. ⌜ Ends (translated base (edition1 8) (now (script .entry))) r (now (page .exit)) ⌝ }
+{
+    let mut handles = [0u64; 2048];
+    let mut holders = [0u16; 1024];
+    let mut drained = [0u16; 1024];
+    let mut s = scopes::fresh();
+    let mut handed: usize = 0;
+    let mut p: usize = 0;
+    let mut i: usize = 0;
+    let mut w: usize = 0;
+    while p < script.len() {
+        let t = frame_at(script, p);
+        let x = t.reading;
+        let f = frame_in(x);
+        let r = step(s, &mut handles, &mut holders, &mut drained, handed, f);
+        let adds = r.adds;
+        match onward_of(adds) {
+            Onward::Stop(n) => return Ended::Refused(n, i),
+            Onward::Go => {
+                w = put_adds(page, w, f.opcode, adds, &drained);
+                let u = r.state;
+                s = u;
+                handed = r.handed;
+                p = t.next;
+                i += 1;
+            }
+        }
+    }
+    let size = s.size as u16;
+    Ended::Listed(put_size(page, w, size))
+}
