@@ -5,3 +5,4 @@ pub mod Climbs
 pub mod Places
 pub mod Keys
 pub mod Agrees
+pub mod Entered
