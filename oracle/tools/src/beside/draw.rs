@@ -9,13 +9,36 @@ const RIGHT: f64 = 190.0;
 const ABOVE: f64 = 34.0;
 const BELOW: f64 = 40.0;
 
-/// Neighbouring handles get hues far apart.
-fn hue(handle: usize) -> f64 {
-    (handle as f64 * 137.508 + 205.0) % 360.0
+/// A colour for each handle, and how many there are.
+struct Colours(usize);
+
+/// Up to here neighbouring handles get hues far apart. More would blend into grey, so they go through the hues once.
+const APART: usize = 60;
+
+impl Colours {
+    fn new(old: &[Block], ours: &[Block]) -> Colours {
+        let all = || old.iter().chain(ours);
+        match old.len().max(ours.len()) > APART {
+            true => Colours(all().map(|b| b.first.handle + b.count).max().unwrap_or(1)),
+            false => Colours(0),
+        }
+    }
+
+    /// Hue and lightness.
+    fn of(&self, handle: usize) -> (f64, u32) {
+        match self.0 {
+            0 => ((handle as f64 * 137.508 + 205.0) % 360.0, 76),
+            all => {
+                let part = handle as f64 / all as f64;
+                (320.0 * part, if handle.is_multiple_of(2) { 74 } else { 66 })
+            }
+        }
+    }
 }
 
 struct Pen<'a> {
     axes: &'a Axes,
+    colours: Colours,
     top: f64,
     out: String,
 }
@@ -93,7 +116,8 @@ impl Pen<'_> {
         }
     }
 
-    fn bar(&mut self, block: &Block) {
+    /// Its label stands before the line from which another one covers it.
+    fn bar(&mut self, block: &Block, covered: Option<usize>) {
         let (x, past) = (self.x(block.first.from), self.x(block.until));
         let (y, below) = (self.y(block.past()), self.y(block.first.slot));
         let label = block.label();
@@ -104,18 +128,19 @@ impl Pen<'_> {
         let (from, until) = (block.first.from, block.until - 1);
         let title = format!("handle {label}, {slots}, lines {from}\u{2013}{until}");
         self.coloured(block.first.handle, (x, y, past - x, below - y), &title);
+        let past = covered.map_or(past, |line| self.x(line));
         self.label(&label, (x, y, past - x, below - y));
     }
 
     fn coloured(&mut self, handle: usize, (x, y, w, h): (f64, f64, f64, f64), title: &str) {
-        let hue = hue(handle);
+        let (hue, light) = self.colours.of(handle);
         // thin bars have no edge: it would hide them
         let edge = match h > 3.0 && w > 3.0 {
             true => format!(" stroke='hsl({hue:.0} 45% 42%)' stroke-width='.7'"),
             false => String::new(),
         };
         self.put(format_args!(
-            "<rect x='{x:.1}' y='{y:.2}' width='{:.1}' height='{:.2}' fill='hsl({hue:.0} 68% 76%)'{edge}><title>{title}</title></rect>",
+            "<rect x='{x:.1}' y='{y:.2}' width='{:.1}' height='{:.2}' fill='hsl({hue:.0} 68% {light}%)'{edge}><title>{title}</title></rect>",
             w.max(0.6),
             h.max(0.5)
         ));
@@ -211,17 +236,22 @@ pub fn draw(beside: &Beside) -> String {
     let axes = Axes::new(beside, &old, &ours);
     let mut pen = Pen {
         axes: &axes,
+        colours: Colours::new(&old, &ours),
         top: ABOVE,
         out: String::new(),
     };
     pen.panel("old", beside, &beside.old);
-    old.iter().for_each(|b| pen.bar(b));
+    for block in &old {
+        let shares = |s: &&Shared| [s.older.handle, s.newer.handle].contains(&block.first.handle);
+        let covered = beside.shared.iter().find(shares).map(|s| s.newer.from);
+        pen.bar(block, covered);
+    }
     let end = beside.old.end;
     beside.shared.iter().for_each(|s| pen.twice(s, end));
     pen.calls(&beside.shared);
     pen.top += axes.height + BELOW + ABOVE - 8.0;
     pen.panel("ours", beside, &beside.ours);
-    ours.iter().for_each(|b| pen.bar(b));
+    ours.iter().for_each(|b| pen.bar(b, None));
     let bottom = pen.top + axes.height;
     left(&mut pen, beside, bottom);
     let (w, h) = (LEFT + axes.width() + RIGHT, bottom + BELOW);

@@ -8,7 +8,10 @@ use std::fmt;
 pub fn sentence(beside: &Beside) -> String {
     let at = beside.refused.map_or(0, |(line, _)| line);
     let differing = beside.rows.iter().filter(|r| r.mark == Mark::Outside);
-    let differing = differing.count();
+    let differing = match differing.count() {
+        1 => "1 line differs".into(),
+        n => format!("{n} lines differ"),
+    };
     if let (true, false) = (
         beside.fault(),
         matches!(beside.verdict, Verdict::Differs(_)),
@@ -25,10 +28,10 @@ pub fn sentence(beside: &Beside) -> String {
         Verdict::Text(n) => format!("not compared: no script (line {at}, {n}: {})", words(*n)),
         Verdict::Outside(_) => match beside.left {
             Some((line, Outside::HeadAboveLength)) => format!(
-                "the known fault of the old allocator at line {line} (an insert meets H > L): {differing} lines differ, outside 01's domain"
+                "the known fault of the old allocator at line {line} (an insert meets H > L): {differing}, outside 01's domain"
             ),
             Some((line, Outside::RootFreedLate)) => format!(
-                "outside 01's domain from line {line} (a root Scope handle is freed after 05): {differing} lines differ"
+                "outside 01's domain from line {line} (a root Scope handle is freed after 05): {differing}"
             ),
             None => "outside 01's domain".into(),
         },
