@@ -72,6 +72,8 @@ const HIGHEST: f64 = 460.0;
 const SLOT: f64 = 18.0;
 const SHARED: f64 = 30.0;
 const UNUSED: f64 = 9.0;
+/// A label can be read in a band of this height: where bands are few, none is lower.
+const LABELLED: f64 = 13.0;
 
 impl Axes {
     /// One pair of axes for both allocators.
@@ -97,10 +99,11 @@ impl Axes {
             frames: beside.frames.len(),
         };
         let few = beside.shared.len() <= 12;
+        let lowest = if spans.len() <= 40 { LABELLED } else { 0.0 };
         for (first, past) in spans {
             let height = match few && gives_twice(first) {
                 true => SHARED,
-                false => scale * wanted(first, past),
+                false => (scale * wanted(first, past)).max(lowest.min(wanted(first, past))),
             };
             axes.push(first, past, height);
         }

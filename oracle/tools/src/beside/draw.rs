@@ -146,16 +146,20 @@ impl Pen<'_> {
         ));
     }
 
+    /// In the middle of the bar, upright where it is narrow; left out where there is no room.
     fn label(&mut self, label: &str, (x, y, w, h): (f64, f64, f64, f64)) {
-        let size = (h - 2.0).min(12.0);
-        let wide = 0.6 * size * label.chars().count() as f64 + 4.0;
-        if size >= 7.0 && w >= wide {
-            self.put(format_args!(
-                "<text class='label' text-anchor='middle' font-size='{size:.1}' x='{:.1}' y='{:.1}'>{label}</text>",
-                x + w / 2.0,
-                y + h / 2.0 + 0.36 * size
-            ));
-        }
+        let wide = |size: f64| 0.6 * size * label.chars().count() as f64 + 4.0;
+        let (across, up) = ((h - 2.0).min(12.0), (w - 2.0).min(12.0));
+        let (size, turn) = match () {
+            () if across >= 7.0 && w >= wide(across) => (across, ""),
+            () if up >= 7.0 && h >= wide(up) => (up, "rotate(-90) "),
+            () => return,
+        };
+        let (x, y) = (x + w / 2.0, y + h / 2.0);
+        self.put(format_args!(
+            "<text class='label' text-anchor='middle' font-size='{size:.1}' transform='translate({x:.1} {y:.1}) {turn}translate(0 {:.1})'>{label}</text>",
+            0.36 * size
+        ));
     }
 
     /// Both holders, one over the other, in a red frame.

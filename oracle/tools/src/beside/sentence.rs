@@ -78,7 +78,11 @@ impl Counts {
 
 impl fmt::Display for Counts {
     fn fmt(&self, f: &mut fmt::Formatter<'_>) -> fmt::Result {
-        write!(f, "{} scripts: {} equal", self.scripts, self.equal)?;
+        let scripts = match self.scripts {
+            1 => "1 script".into(),
+            n => format!("{n} scripts"),
+        };
+        write!(f, "{scripts}: {} equal", self.equal)?;
         let more = [
             (self.both_refuse, "refused by both"),
             (self.ours_alone, "refused by ours alone"),

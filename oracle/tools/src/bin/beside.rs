@@ -8,6 +8,8 @@ use std::process::ExitCode;
 #[derive(Default)]
 struct Plan {
     program: Option<String>,
+    /// what to call the program
+    called: Option<String>,
     html: Option<String>,
     whole: bool,
     brief: bool,
@@ -20,6 +22,7 @@ fn plan() -> Option<Plan> {
     while let Some(word) = words.next() {
         match word.as_str() {
             "--program" => plan.program = Some(words.next()?),
+            "--called" => plan.called = Some(words.next()?),
             "--html" => plan.html = Some(words.next()?),
             "--whole" => plan.whole = true,
             "--brief" => plan.brief = true,
@@ -64,14 +67,15 @@ fn compare(plan: &Plan, ours: &mut dyn Ours) -> std::io::Result<Counts> {
 
 fn main() -> ExitCode {
     let Some(plan) = plan() else {
-        eprintln!("beside [--program \"PATH ARGS\"] [--html OUT] [--whole | --brief] FILE..");
+        eprintln!("beside [--program \"PATH ARGS\" [--called NAME]] [--html OUT] [--whole | --brief] FILE..");
         return ExitCode::from(2);
     };
     let mut ours: Box<dyn Ours> = match &plan.program {
         Some(command) => Box::new(Program::new(command)),
         None => Box::new(Model(None)),
     };
-    println!("old: rune 0.14.2; ours: {}", ours.name());
+    let name = plan.called.clone().unwrap_or_else(|| ours.name());
+    println!("old: rune 0.14.2; ours: {name}");
     match compare(&plan, ours.as_mut()) {
         Err(e) => {
             eprintln!("beside: {e}");
