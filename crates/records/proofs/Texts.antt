@@ -1,15 +1,16 @@
 -- When two texts are one, and a record by its tests. Assumes nothing.
-use mathlib.Core.Path.{_≡_, refl, sym, ap, _∙_}
+use mathlib.Core.Path.{_≡_, refl, sym, ap, subst, _∙_}
 use mathlib.Core.Bool.{Bool, true, false, true≢false}
 use mathlib.Core.List.{List}
 use Prim.Native.Nat.{ℕ, _+_, _-_, _≤_, _<_}
 use native.Mathlib.Omega.{arith}
 use lib.ListN.{length, getD}
 use lib.Seq.{ext-getD}
-use borrow.Author.Tests.{lt-ltb, le-ltb}
+use lib.Dec.{ltb}
+use borrow.Author.Tests.{lt-ltb, le-ltb, ltb-false}
 use Rattle.text.specs.Lines.{wordAt}
 use Rattle.rules.proofs.Tables.{by-eqb}
-use Rattle.records.specs.Records.{Same, numberAt, brokenIf, foundBy, foundAt}
+use Rattle.records.specs.Records.{Same, numberAt, brokenIf, foundBy, foundAt, Bounded}
 use Rattle.records.specs.declared.Found.{Found}
 use Rattle.records.specs.declared.Found.the-variants.{Broken, Record}
 
@@ -66,3 +67,24 @@ pub whole :
     (s : List ℕ) (p a b : ℕ) → 18 ≤ length s - p → a ≡ numberAt s (p + 1) → a ≤ length s - p - 18 → b ≡ numberAt s (p + 9) → b ≤ length s - p - 18 - a
     → Record (p + 18) (p + 18 + a) (p + 18 + a + b) ≡ foundAt s p
 whole s p a b h e k f m = sym (numbers s p a b e f ∙ whole-by p (length s - p) a b h k m)
+
+bounded-by : (p n a b : ℕ) → p ≤ n → Bounded p n (foundBy p (n - p) a b)
+unfolding brokenIf
+bounded-by p n a b h = go (ltb (n - p) 18) refl (ltb (n - p - 18) a) refl (ltb (n - p - 18 - a) b) refl
+  where
+    go :
+        (x : Bool) → ltb (n - p) 18 ≡ x → (y : Bool) → ltb (n - p - 18) a ≡ y → (z : Bool) → ltb (n - p - 18 - a) b ≡ z
+        → Bounded p n (brokenIf x (brokenIf y (brokenIf z (Record (p + 18) (p + 18 + a) (p + 18 + a + b)))))
+    go true e y f z g = tt
+    go false e true f z g = tt
+    go false e false f true g = tt
+    go false e false f false g =
+        let i = ltb-false (n - p) 18 e in
+        let j = ltb-false (n - p - 18) a f in
+        let k = ltb-false (n - p - 18 - a) b g in
+        (omega arith, omega arith, omega arith, omega (arith, i, j, k, h))
+
+-- what a record is told to be lies within the text
+pub bounded : (s : List ℕ) (p : ℕ) → p ≤ length s → (f : Found) → foundAt s p ≡ f → Bounded p (length s) f
+unfolding foundAt
+bounded s p h f e = subst (Bounded p (length s)) e (bounded-by p (length s) (numberAt s (p + 1)) (numberAt s (p + 9)) h)

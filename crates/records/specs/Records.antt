@@ -2,7 +2,7 @@
 use mathlib.Core.Path.{_≡_}
 use mathlib.Core.Bool.{Bool, true, false}
 use mathlib.Core.List.{List}
-use Prim.Native.Nat.{ℕ, _+_, _*_, _-_}
+use Prim.Native.Nat.{ℕ, _+_, _*_, _-_, _≤_}
 use lib.ListN.{length}
 use lib.Dec.{ltb}
 use Rattle.text.specs.Lines.{wordAt}
@@ -29,3 +29,8 @@ foundBy p left a b =
 
 unfoldable pub foundAt : List ℕ → ℕ → Found
 foundAt s p = foundBy p (length s - p) (numberAt s (p + 1)) (numberAt s (p + 9))
+
+-- the parts of a record lie in a row behind its head, below n
+abbrev pub Bounded : ℕ → ℕ → Found → Type 0
+Bounded p n Broken = Unit {0}
+Bounded p n (Record a b e) = (p + 18 ≤ a) × (a ≤ b) × (b ≤ e) × (e ≤ n)
