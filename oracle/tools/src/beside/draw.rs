@@ -1,6 +1,7 @@
 //! Draws who holds which slot from frame to frame: the old allocator above, ours below, on the same axes.
 
 use super::axes::{blocks, Axes, Block};
+use super::colours::Colours;
 use super::{Beside, Outside, Shared, Side};
 use std::fmt::Write;
 
@@ -8,33 +9,6 @@ const LEFT: f64 = 64.0;
 const RIGHT: f64 = 190.0;
 const ABOVE: f64 = 34.0;
 const BELOW: f64 = 40.0;
-
-/// A colour for each handle, and how many there are.
-struct Colours(usize);
-
-/// Up to here neighbouring handles get hues far apart. More would blend into grey, so they go through the hues once.
-const APART: usize = 60;
-
-impl Colours {
-    fn new(old: &[Block], ours: &[Block]) -> Colours {
-        let all = || old.iter().chain(ours);
-        match old.len().max(ours.len()) > APART {
-            true => Colours(all().map(|b| b.first.handle + b.count).max().unwrap_or(1)),
-            false => Colours(0),
-        }
-    }
-
-    /// Hue and lightness.
-    fn of(&self, handle: usize) -> (f64, u32) {
-        match self.0 {
-            0 => ((handle as f64 * 137.508 + 205.0) % 360.0, 76),
-            all => {
-                let part = handle as f64 / all as f64;
-                (320.0 * part, if handle.is_multiple_of(2) { 74 } else { 66 })
-            }
-        }
-    }
-}
 
 struct Pen<'a> {
     axes: &'a Axes,

@@ -1,6 +1,7 @@
 //! A script through the old allocator and through ours, side by side: what the track crew did by hand.
 
 mod axes;
+mod colours;
 mod draw;
 mod held;
 mod page;
