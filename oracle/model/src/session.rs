@@ -53,6 +53,11 @@ impl Session {
         self.handles.len()
     }
 
+    /// Is the handle's slot held?
+    pub fn holds(&self, handle: usize) -> bool {
+        self.handles.get(handle).is_some_and(|h| h.held)
+    }
+
     /// Is the handle held and not Freed?
     pub fn usable(&self, handle: usize) -> bool {
         let found = self.handles.get(handle);

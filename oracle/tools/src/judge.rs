@@ -48,12 +48,13 @@ pub enum Verdict {
 }
 
 /// What our side printed.
-enum Answer<'a> {
+pub enum Answer<'a> {
     List(&'a [u8]),
     Refused(u8, usize),
 }
 
-fn answer(printed: &[u8]) -> Option<Answer<'_>> {
+/// None where it is neither.
+pub fn answer(printed: &[u8]) -> Option<Answer<'_>> {
     if !printed.starts_with(b"ee") {
         return Some(Answer::List(printed));
     }

@@ -12,6 +12,17 @@ pub struct Shared {
     pub newer: usize,
 }
 
+/// An allocation, and how long it had its slot.
+#[derive(Clone, Copy, Debug, PartialEq, Eq)]
+pub struct Held {
+    pub handle: usize,
+    pub slot: usize,
+    /// the line that gave it
+    pub from: usize,
+    /// the line that gave it back, if one did
+    pub until: Option<usize>,
+}
+
 struct Owned {
     scope: ScopeId,
     address: usize,
@@ -25,6 +36,8 @@ pub(super) struct Books {
     owned: Vec<Owned>,
     /// by address, the newest handle that holds it
     holders: Vec<Option<usize>>,
+    /// by handle
+    pub(super) held: Vec<Held>,
     /// the first line whose insert met H > L; the second `Slots` isn't told more from there on
     pub(super) head_above_length: Option<usize>,
     pub(super) shared: Option<Shared>,
@@ -63,6 +76,12 @@ impl Books {
                 newer: handle,
             });
         }
+        self.held.push(Held {
+            handle,
+            slot: address,
+            from: line,
+            until: None,
+        });
         self.owned.push(Owned {
             scope,
             address,
@@ -70,9 +89,13 @@ impl Books {
         });
     }
 
-    fn removed(&mut self, gone: &[usize]) {
-        for address in gone {
+    fn removed(&mut self, line: usize, gone: &[Owned]) {
+        for Owned {
+            address, handle, ..
+        } in gone
+        {
             self.holders[*address] = None;
+            self.held[*handle].until = Some(line);
             if self.head_above_length.is_none() {
                 assert!(self.beside.remove(*address), "the books are wrong");
             }
@@ -80,21 +103,20 @@ impl Books {
     }
 
     /// The slot of this handle went back.
-    pub(super) fn give_back(&mut self, handle: usize) {
+    pub(super) fn give_back(&mut self, line: usize, handle: usize) {
         if let Some(place) = self.owned.iter().position(|o| o.handle == handle) {
-            let gone = self.owned.remove(place).address;
-            self.removed(&[gone]);
+            let gone = self.owned.remove(place);
+            self.removed(line, &[gone]);
         }
     }
 
     /// The scope was popped.
-    pub(super) fn close(&mut self, scope: ScopeId) {
+    pub(super) fn close(&mut self, line: usize, scope: ScopeId) {
         let (gone, kept) = std::mem::take(&mut self.owned)
             .into_iter()
             .partition(|o| o.scope == scope);
         self.owned = kept;
         let gone: Vec<Owned> = gone;
-        let gone: Vec<usize> = gone.iter().map(|o| o.address).collect();
-        self.removed(&gone);
+        self.removed(line, &gone);
     }
 }

@@ -2,7 +2,7 @@
 
 use model::Frame;
 
-use super::books::{Books, Shared};
+use super::books::{Books, Held, Shared};
 use super::{Address, Any, DanglingScope, ScopeHandle, ScopeId, Scopes};
 use crate::alloc::Vec as List;
 use crate::ast::Span;
@@ -33,6 +33,8 @@ pub struct Driven {
     pub root_freed_late: Option<usize>,
     /// the first two allocations that hold one slot
     pub shared: Option<Shared>,
+    /// every allocation, by handle
+    pub held: Vec<Held>,
 }
 
 struct Handle<'a> {
@@ -141,13 +143,13 @@ impl<'a> Driver<'a> {
     fn pop(&mut self, number: u16) -> Step {
         let id = self.id(number)?;
         self.scopes.pop(&SPAN, ScopeHandle { id })?;
-        self.books.close(id);
+        self.books.close(self.line, id);
         Ok(vec![])
     }
 
     fn pop_last(&mut self) -> Step {
         self.scopes.pop_last(&SPAN)?;
-        self.books.close(self.ids[0]);
+        self.books.close(self.line, self.ids[0]);
         self.root_closed = true;
         Ok(vec![])
     }
@@ -242,7 +244,7 @@ impl<'a> Driver<'a> {
             false => address.free_non_dangling()?,
         }
         if goes_back {
-            self.books.give_back(handle.into());
+            self.books.give_back(self.line, handle.into());
         }
         Ok(vec![])
     }
@@ -299,5 +301,6 @@ pub fn drive(frames: &[Frame]) -> Driven {
         head_above_length: driver.books.head_above_length,
         root_freed_late: driver.root_freed_late,
         shared: driver.books.shared,
+        held: driver.books.held,
     }
 }

@@ -11,7 +11,7 @@ pub mod probe;
 mod slab;
 
 pub use self::bare::Bare;
-pub use self::books::Shared;
+pub use self::books::{Held, Shared};
 pub use self::drive::{drive, Driven, Stop};
 
 use self::ctxt::Ctxt;

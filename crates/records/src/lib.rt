@@ -1,0 +1,82 @@
+// Stored answers, read where they lie: a row of records, each a head of 18 bytes (a mark, two lengths of eight digits, LF), a script and
+// what is printed for it.
+use text::digits::digit_value;
+ghost use mathlib.Core.Path.{_≡_};
+ghost use Prim.Native.Nat.{ℕ, _+_, _≤_};
+ghost use lib.ListN.{length};
+ghost use Rattle.text.specs.Lines.{wordAt};
+ghost use Rattle.records.specs.Records.{Same, numberAt, foundAt};
+
+// Where a record's script and answer begin, and where the answer ends.
+pub enum Found {
+    Broken,
+    Record {
+        script: usize,
+        answer: usize,
+        end: usize,
+    },
+}
+
+// Whether two texts are one, byte for byte.
+pub fn same(a: &[u8], b: &[u8]) -> bool
+    ensures { λ r. ⌜ Same (now (a .entry)) (now (b .entry)) r ⌝ }
+{
+    if a.len() != b.len() {
+        return false;
+    }
+    let mut i: usize = 0;
+    while i < a.len() {
+        if a[i] != b[i] {
+            return false;
+        }
+        i += 1;
+    }
+    true
+}
+
+// The number that four digits show; a byte that is no digit counts as 16.
+fn four_at(s: &[u8], p: usize) -> usize
+    requires { ⌜ p + 4 ≤ length (now s) ⌝ }
+    ensures { λ r. ⌜ (r ≡ wordAt (now (s .entry)) p) × (r ≤ 1114095) ⌝ }
+{
+    let a = digit_value(s[p]) as usize;
+    let b = digit_value(s[p + 1]) as usize;
+    let c = digit_value(s[p + 2]) as usize;
+    let d = digit_value(s[p + 3]) as usize;
+    a * 4096 + b * 256 + c * 16 + d
+}
+
+// The number that eight digits show.
+fn number_at(s: &[u8], p: usize) -> usize
+    requires { ⌜ p + 8 ≤ length (now s) ⌝ }
+    ensures { λ r. ⌜ r ≡ numberAt (now (s .entry)) p ⌝ }
+{
+    let high = four_at(s, p);
+    let low = four_at(s, p + 4);
+    high * 65536 + low
+}
+
+// The record at p.
+pub fn record_at(s: &[u8], p: usize) -> Found
+    requires { ⌜ p ≤ length (now s) ⌝ }
+    ensures { λ r. ⌜ r ≡ foundAt (now (s .entry)) p ⌝ }
+{
+    let left = s.len() - p;
+    if left < 18 {
+        return Found::Broken;
+    }
+    let most = left - 18;
+    let script = number_at(s, p + 1);
+    if most < script {
+        return Found::Broken;
+    }
+    let answer = number_at(s, p + 9);
+    if most - script < answer {
+        return Found::Broken;
+    }
+    Found::Record {
+        script: p + 18,
+        answer: p + 18 + script,
+        end: p + 18 + script + answer,
+    }
+}

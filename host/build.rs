@@ -1,0 +1,73 @@
+//! Links the archive of our two functions, target/staticlib/libmboxalind.a, which host/archive writes.
+
+use std::env;
+use std::path::{Path, PathBuf};
+
+/// The message is all that a person sees.
+fn stop(message: &str) -> ! {
+    println!("cargo::error={message}");
+    std::process::exit(0)
+}
+
+fn archive() -> PathBuf {
+    let here = PathBuf::from(env::var_os("CARGO_MANIFEST_DIR").expect("cargo sets it"));
+    match env::var_os("MBOXALIND_ARCHIVE") {
+        Some(path) => here.join(path),
+        None => here.join("../target/staticlib/libmboxalind.a"),
+    }
+}
+
+/// The names that an archive defines: its first member is a table of a count, as many places, then the names.
+fn names(bytes: &[u8]) -> Option<Vec<&str>> {
+    let table = bytes.strip_prefix(b"!<arch>\n")?;
+    let (head, rest) = table.split_at_checked(60)?;
+    if !head.starts_with(b"/ ") {
+        return None;
+    }
+    let length: usize = std::str::from_utf8(&head[48..58])
+        .ok()?
+        .trim()
+        .parse()
+        .ok()?;
+    let (count, rest) = rest.get(..length)?.split_at_checked(4)?;
+    let count = u32::from_be_bytes(count.try_into().ok()?) as usize;
+    let names = std::str::from_utf8(rest.get(4 * count..)?).ok()?;
+    Some(names.split('\0').take(count).collect())
+}
+
+fn read(path: &Path) -> Vec<u8> {
+    std::fs::read(path).unwrap_or_else(|e| {
+        stop(&format!(
+            "{}: {e}. host/archive writes it; that needs rt, the command of the Rattle kit. MBOXALIND_ARCHIVE names another one",
+            path.display()
+        ))
+    })
+}
+
+fn main() {
+    println!("cargo::rustc-check-cfg=cfg(translate)");
+    println!("cargo::rerun-if-env-changed=MBOXALIND_ARCHIVE");
+    let path = archive();
+    println!("cargo::rerun-if-changed={}", path.display());
+    let target = env::var("TARGET").expect("cargo sets it");
+    if !target.starts_with("x86_64-") || !target.contains("linux") {
+        stop(&format!("the archive is for x86-64 Linux, not for {target}: host/README.md says what another machine needs"));
+    }
+    let bytes = read(&path);
+    let Some(names) = names(&bytes) else {
+        stop(&format!(
+            "{} is no archive with a table of names",
+            path.display()
+        ));
+    };
+    if !names.contains(&"run") {
+        stop(&format!("{} has no function run", path.display()));
+    }
+    match names.contains(&"translate") {
+        true => println!("cargo::rustc-cfg=translate"),
+        false => println!("cargo::warning=the archive has no function translate: the host is built with run alone"),
+    }
+    let folder = path.parent().expect("a file is in a folder");
+    println!("cargo::rustc-link-search=native={}", folder.display());
+    println!("cargo::rustc-link-lib=static=mboxalind");
+}

@@ -1,0 +1,32 @@
+/* The proved translate and run, for a host in C: link target/staticlib/libmboxalind.a (x86-64 Linux). */
+#ifndef MBOXALIND_H
+#define MBOXALIND_H
+
+#include <stddef.h>
+#include <stdint.h>
+
+#ifdef __cplusplus
+extern "C" {
+#endif
+
+/* The answer of both: the number of bytes written; or, on a refusal, its number in the high 32 bits and its line, from 0, in the low
+ * 32. A refusal leaves all lent memory as it was. Each pointer may be read, and if it isn't const written, over the length that
+ * follows it; what is lent must not overlap. */
+
+/* Translates a script into list. No list of a script is longer than 32,768 bytes. */
+uint64_t translate(const uint8_t *script, size_t script_len, uint8_t *list, size_t list_len);
+
+/* Runs a list over cells, two bytes each, high first, and writes what its loads show into out, 7 bytes a load. Cells from the
+ * list's size on stay as they are. */
+uint64_t run(const uint8_t *list, size_t list_len, uint8_t *cells, size_t cells_len, uint8_t *out, size_t out_len);
+
+/* 0 if it was no refusal. */
+static inline unsigned mboxalind_number(uint64_t answer) { return (unsigned)(answer >> 32); }
+
+/* The line of a refusal, or the number of bytes written. */
+static inline uint32_t mboxalind_low(uint64_t answer) { return (uint32_t)answer; }
+
+#ifdef __cplusplus
+}
+#endif
+#endif

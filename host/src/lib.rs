@@ -1,0 +1,131 @@
+//! The proved `translate` and `run` for a Rust host: byte slices in, an [`Answer`] out.
+//!
+//! Each takes the memory that it writes to from the caller, and asks for nothing else: no allocation, no file, no global state.
+
+mod words;
+
+pub use words::words;
+
+use std::fmt;
+
+/// What a call came to.
+#[derive(Clone, Copy, Debug, PartialEq, Eq)]
+#[must_use]
+pub enum Answer {
+    /// so many bytes of the lent memory were written
+    Written(usize),
+    /// nothing was written: cells and lent memory are as they were
+    Refused(Refusal),
+}
+
+/// "A refusal is answered as a number and a line (from 0; line 0 for 17)."
+#[derive(Clone, Copy, Debug, PartialEq, Eq)]
+pub struct Refusal {
+    pub number: u8,
+    pub line: u32,
+}
+
+impl Refusal {
+    /// Document 01's words for the number.
+    pub fn words(&self) -> &'static str {
+        words(self.number)
+    }
+}
+
+impl fmt::Display for Refusal {
+    fn fmt(&self, f: &mut fmt::Formatter<'_>) -> fmt::Result {
+        let Refusal { number, line } = self;
+        write!(f, "refused by {number} at line {line}: {}", self.words())
+    }
+}
+
+impl std::error::Error for Refusal {}
+
+impl Answer {
+    /// For `?`.
+    pub fn written(self) -> Result<usize, Refusal> {
+        match self {
+            Answer::Written(bytes) => Ok(bytes),
+            Answer::Refused(refusal) => Err(refusal),
+        }
+    }
+
+    /// The number in the high 32 bits and the line in the low 32; or 0 there and the bytes written.
+    fn new(answer: u64) -> Answer {
+        match (answer >> 32) as u8 {
+            0 => Answer::Written(answer as usize),
+            number => Answer::Refused(Refusal {
+                number,
+                line: answer as u32,
+            }),
+        }
+    }
+}
+
+// A slice goes over as its first byte's place and its length.
+#[link(name = "mboxalind", kind = "static")]
+extern "C" {
+    #[cfg(translate)]
+    #[link_name = "translate"]
+    fn translate_lent(script: *const u8, script_len: usize, list: *mut u8, list_len: usize) -> u64;
+
+    #[link_name = "run"]
+    fn run_lent(
+        list: *const u8,
+        list_len: usize,
+        cells: *mut u8,
+        cells_len: usize,
+        out: *mut u8,
+        out_len: usize,
+    ) -> u64;
+}
+
+/// Translates a script into `list`. No list of a script is longer than 32,768 bytes.
+#[cfg(translate)]
+pub fn translate(script: &[u8], list: &mut [u8]) -> Answer {
+    // SAFETY: both are slices, so they may be read, and the second written, over their lengths, and they don't overlap. The
+    // function is proved to stay within them.
+    let answer =
+        unsafe { translate_lent(script.as_ptr(), script.len(), list.as_mut_ptr(), list.len()) };
+    Answer::new(answer)
+}
+
+/// Runs a list over lent cells, two bytes each, high first, and writes what its loads show into `out`, 7 bytes a load. Cells
+/// from the list's size on stay as they are.
+pub fn run(list: &[u8], cells: &mut [u8], out: &mut [u8]) -> Answer {
+    // SAFETY: as for translate.
+    let answer = unsafe {
+        run_lent(
+            list.as_ptr(),
+            list.len(),
+            cells.as_mut_ptr(),
+            cells.len(),
+            out.as_mut_ptr(),
+            out.len(),
+        )
+    };
+    Answer::new(answer)
+}
+
+#[cfg(test)]
+mod tests {
+    use super::*;
+
+    #[test]
+    fn an_answer_is_taken_apart() {
+        assert_eq!(Answer::new(0), Answer::Written(0));
+        assert_eq!(Answer::new(32768), Answer::Written(32768));
+        let refusal = Refusal {
+            number: 20,
+            line: 2047,
+        };
+        assert_eq!(Answer::new((20 << 32) + 2047), Answer::Refused(refusal));
+    }
+
+    #[test]
+    fn a_refusal_speaks() {
+        let answer = Answer::new((7 << 32) + 3);
+        let said = answer.written().map_err(|r| r.to_string());
+        assert_eq!(said, Err("refused by 7 at line 3: no slot".into()));
+    }
+}

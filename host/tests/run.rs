@@ -1,0 +1,83 @@
+//! `run`, as a host calls it: 01's session, each refusal, what is left of lent memory, and the model beside it.
+
+use mboxalind::{run, Answer, Refusal};
+
+const LIST: &[u8] =
+    b"010001\n080000\n10000100ff\n09\n120001\n0e\n0c\n02\n0f0003000200000001\n060000\n05\n900003\n";
+
+fn refused(number: u8, line: u32) -> Answer {
+    Answer::Refused(Refusal { number, line })
+}
+
+/// The answer; cells and out have to be as they were if it is a refusal.
+fn run_over(list: &[u8], cells: usize, out: usize) -> Answer {
+    let (mut cells, mut out) = (vec![0x5a; cells], vec![0x5a; out]);
+    let answer = run(list, &mut cells, &mut out);
+    if matches!(answer, Answer::Refused(_)) {
+        assert!(cells.iter().chain(&out).all(|b| *b == 0x5a));
+    }
+    answer
+}
+
+#[test]
+fn the_whole_session() {
+    let (mut cells, mut out) = ([0x5a; 10], [0x5a; 9]);
+    assert_eq!(run(LIST, &mut cells, &mut out), Answer::Written(7));
+    assert_eq!(&out, b"a000ff\nZZ");
+    assert_eq!(cells, [0, 0, 0, 0xff, 0, 0, 0x5a, 0x5a, 0x5a, 0x5a]);
+}
+
+#[test]
+fn each_refusal() {
+    assert_eq!(run_over(b"", 8, 8), refused(1, 0));
+    assert_eq!(run_over(b"05\nzz\n900000\n", 8, 8), refused(1, 1));
+    assert_eq!(run_over(b"900401\n", 4096, 8), refused(1, 0));
+    assert_eq!(run_over(&b"05\n".repeat(2049), 8, 8), refused(2, 2048));
+    assert_eq!(run_over(b"110001\n900001\n", 8, 8), refused(20, 0));
+    assert_eq!(run_over(LIST, 5, 7), refused(17, 0));
+    assert_eq!(run_over(LIST, 6, 6), refused(17, 0));
+    assert_eq!(run_over(LIST, 6, 7), Answer::Written(7));
+}
+
+#[test]
+fn nothing_lent() {
+    assert_eq!(run(b"900000\n", &mut [], &mut []), Answer::Written(0));
+    assert_eq!(run(b"110000\n900001\n", &mut [], &mut []), refused(17, 0));
+}
+
+fn by_model(list: &[u8], cells: &mut [u8], out: &mut [u8]) -> Answer {
+    match model::run(list, cells, out) {
+        Ok(bytes) => Answer::Written(bytes),
+        Err(r) => refused(r.number, r.line as u32),
+    }
+}
+
+/// Each list as it is, and with one byte of it another.
+#[test]
+fn the_stored_lists_and_the_model() {
+    let bytes = std::fs::read("../oracle/stored/answers.txt").expect("the stored answers");
+    let mut rest = &bytes[..];
+    let mut asked = 0;
+    while !rest.is_empty() {
+        let length = |at| {
+            let digits = std::str::from_utf8(&rest[at..at + 8]).expect("digits");
+            usize::from_str_radix(digits, 16).expect("a length")
+        };
+        let (script, answer) = (18 + length(1), length(9));
+        let mut list = rest[script..script + answer].to_vec();
+        for bend in 0..4 {
+            if bend > 0 {
+                let at = (asked * 31 + bend * 97) % list.len();
+                list[at] = b"0f9\n"[bend];
+            }
+            let (mut cells, mut out) = (vec![7; 2048], vec![7; 8000]);
+            let (mut their_cells, mut their_out) = (cells.clone(), out.clone());
+            let theirs = by_model(&list, &mut their_cells, &mut their_out);
+            assert_eq!(run(&list, &mut cells, &mut out), theirs);
+            assert!(cells == their_cells && out == their_out);
+            asked += 1;
+        }
+        rest = &rest[script + answer..];
+    }
+    assert!(asked > 1000);
+}

@@ -1,0 +1,63 @@
+//! `translate`, as a host calls it: 01's session, lent memory, and the stored answers.
+#![cfg(translate)]
+
+use mboxalind::{run, translate, Answer, Refusal};
+
+const SCRIPT: &[u8] = include_bytes!("../../samples/whole-session.script");
+const LIST: &[u8] =
+    b"010001\n080000\n10000100ff\n09\n120001\n0e\n0c\n02\n0f0003000200000001\n060000\n05\n900003\n";
+
+fn refused(number: u8, line: u32) -> Answer {
+    Answer::Refused(Refusal { number, line })
+}
+
+#[test]
+fn the_whole_session() {
+    let mut list = [0x5a; LIST.len() + 2];
+    assert_eq!(translate(SCRIPT, &mut list), Answer::Written(LIST.len()));
+    assert_eq!(list, *[LIST, b"ZZ"].concat());
+    let mut out = [0; 7];
+    let answer = run(&list[..LIST.len()], &mut [0; 6], &mut out);
+    assert_eq!((answer, &out), (Answer::Written(7), b"a000ff\n"));
+}
+
+/// 17 comes last, and a refusal leaves lent memory as it was.
+#[test]
+fn lent_memory() {
+    let mut list = [0x5a; LIST.len()];
+    let short = LIST.len() - 1;
+    assert_eq!(translate(SCRIPT, &mut list[..short]), refused(17, 0));
+    assert_eq!(translate(b"06\n05\n06\n", &mut list), refused(3, 2));
+    assert_eq!(translate(b"06\n05\n06\n", &mut []), refused(3, 2));
+    assert!(list.iter().all(|b| *b == 0x5a));
+    assert_eq!(translate(SCRIPT, &mut list), Answer::Written(LIST.len()));
+    assert_eq!(translate(b"", &mut []), refused(17, 0));
+}
+
+/// What the program prints.
+fn printed(script: &[u8]) -> Vec<u8> {
+    let mut list = vec![0; 32768];
+    // the limit of the program's input isn't the library's: no stored script is that long
+    match translate(script, &mut list) {
+        Answer::Written(bytes) => list[..bytes].to_vec(),
+        Answer::Refused(r) => format!("ee{:02x}{:04x}\n", r.number, r.line).into_bytes(),
+    }
+}
+
+#[test]
+fn the_stored_answers() {
+    let bytes = std::fs::read("../oracle/stored/answers.txt").expect("the stored answers");
+    let mut rest = &bytes[..];
+    let mut replayed = 0;
+    while !rest.is_empty() {
+        let length = |at| {
+            let digits = std::str::from_utf8(&rest[at..at + 8]).expect("digits");
+            usize::from_str_radix(digits, 16).expect("a length")
+        };
+        let (script, end) = (18 + length(1), 18 + length(1) + length(9));
+        assert_eq!(printed(&rest[18..script]), rest[script..end]);
+        rest = &rest[end..];
+        replayed += 1;
+    }
+    assert_eq!(replayed, 314);
+}

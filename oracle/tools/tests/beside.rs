@@ -1,0 +1,134 @@
+//! Side by side: what is marked and what isn't, who shares a slot, and that a page can be drawn of any script.
+
+use model::{Fault, Frame};
+use oracle::beside::{page, sentence, shared, table, Beside, Counts, Mark};
+use oracle::ours::{Model, Ours};
+use oracle::random;
+use oracle::rng::Rng;
+
+fn text(script: &str) -> Vec<u8> {
+    (script.replace(" / ", "\n") + "\n").into_bytes()
+}
+
+fn beside(script: &str) -> Beside {
+    Beside::new("a script", &text(script), &mut Model(None))
+}
+
+fn marks(beside: &Beside) -> Vec<Mark> {
+    beside.rows.iter().map(|r| r.mark).collect()
+}
+
+#[test]
+fn the_whole_session_is_equal() {
+    let sample = include_bytes!("../../../samples/whole-session.script");
+    let beside = Beside::new("whole-session", sample, &mut Model(None));
+    assert_eq!(beside.rows.len(), 12);
+    assert!(!beside.differs() && beside.shared.is_empty());
+    assert_eq!(sentence(&beside), "equal: 12 lines");
+    assert_eq!(beside.old.held, beside.ours.held);
+    let until: Vec<_> = beside.ours.held.iter().map(|h| h.until).collect();
+    assert_eq!(until, [Some(7), Some(7), Some(6), Some(10)]);
+}
+
+/// D1 with its follow-up run.
+#[test]
+fn the_known_fault_is_named() {
+    let sample = include_bytes!("../../../samples/shared-slot.script");
+    let beside = Beside::new("shared-slot", sample, &mut Model(None));
+    assert!(beside.differs() && !beside.fault());
+    assert_eq!(beside.rows[4].mark, Mark::Outside);
+    assert!(beside.rows[4].notes[0].starts_with("the known fault: this insert meets H > L"));
+    let twice = "slot 256 given twice: handle 259 (line 4) and handle 387 (line 5) both hold it";
+    assert_eq!(beside.rows[5].notes, [twice]);
+    let [one] = &beside.shared[..] else {
+        panic!("{:?}", beside.shared);
+    };
+    assert_eq!(
+        (one.slot, one.older.handle, one.newer.handle),
+        (256, 259, 387)
+    );
+    assert!(shared(&beside.ours.held).is_empty());
+    assert!(table(&beside, false).contains("060100     ~ 060080"));
+}
+
+#[test]
+fn after_a_refusal_nothing_is_compared() {
+    // ours alone: no slot; then what the old allocator would go on with
+    let alone = beside("080400 / 06 / 0f");
+    assert!(!alone.differs());
+    assert_eq!(marks(&alone), [Mark::Equal, Mark::Apart, Mark::Apart]);
+    assert_eq!(alone.rows[1].ours, "refused 7");
+    // both
+    let both = beside("06 / 0a0007 / 0f");
+    assert_eq!(marks(&both), [Mark::Equal, Mark::Equal, Mark::Apart]);
+    assert!(sentence(&both).starts_with("equal: both refuse line 1 (10: name missing)"));
+    // the old one, outside the domain
+    let late = beside("070000 / 05 / 0c0000 / 0f");
+    let expected = [
+        Mark::Equal,
+        Mark::Equal,
+        Mark::Outside,
+        Mark::Apart,
+        Mark::Apart,
+    ];
+    assert_eq!(marks(&late), expected);
+    assert!(!late.fault());
+}
+
+#[test]
+fn a_damaged_text_is_not_compared() {
+    let torn = Beside::new("torn", b"06\n06", &mut Model(None));
+    assert!(torn.rows.is_empty() && !torn.differs());
+    assert!(sentence(&torn).starts_with("not compared: no script (line 1, 1: "));
+}
+
+/// A run in a gap: wrong, and inside the domain.
+#[test]
+fn a_fault_of_ours_is_marked() {
+    let mut wrong = Model(Some(Fault::RunInGap));
+    let script = text("06 / 06 / 06 / 0c0000 / 080002");
+    let beside = Beside::new("wrong", &script, &mut wrong);
+    assert!(beside.fault());
+    assert_eq!(beside.rows[4].mark, Mark::Differs);
+    let mut counts = Counts::default();
+    counts.count(&beside);
+    assert_eq!((counts.faults, counts.differ), (1, 1));
+    assert!(sentence(&beside).starts_with("DIFFERS inside 01's domain"));
+}
+
+#[test]
+fn a_long_equal_part_is_folded() {
+    let long = Beside::new("long", &b"0f\n".repeat(2048), &mut Model(None));
+    assert!(table(&long, false).contains(".. 2043 lines, equal .."));
+    assert_eq!(table(&long, true).lines().count(), 2050);
+}
+
+#[test]
+fn every_script_can_be_drawn() {
+    let mut ours = Model(None);
+    let mut rng = Rng::new(5);
+    let mut all: Vec<Beside> = [
+        "05",
+        "0f",
+        "080400",
+        "080000",
+        "01 / 080101 / 020001 / 080002 / 06 / 0c0103",
+    ]
+    .into_iter()
+    .map(beside)
+    .collect();
+    all.push(Beside::new("empty", b"", &mut ours));
+    all.push(Beside::new(
+        "longest",
+        &b"06\n0c0000\n".repeat(1024),
+        &mut ours,
+    ));
+    for n in 0..60 {
+        let script = Frame::script(&random::script(&mut rng).frames);
+        let made = Beside::new(&n.to_string(), &script, &mut ours as &mut dyn Ours);
+        assert!(!made.fault(), "{}", sentence(&made));
+        all.push(made);
+    }
+    let page = page(&all, &Counts::default());
+    assert!(!page.contains("NaN") && !page.contains("inf'") && !page.contains("='-"));
+}
