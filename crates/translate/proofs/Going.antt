@@ -2,7 +2,7 @@
 use mathlib.Core.Path.{_≡_, refl, sym, ap, subst, _∙_, fun-ext}
 use mathlib.Core.Bool.{Bool, true, false}
 use mathlib.Core.Option.{Option, none, some}
-use mathlib.Core.List.{List, [], _∷_, _++_, append-assoc, append-nil}
+use mathlib.Core.List.{List, [], _∷_, _++_, append-assoc}
 use Prim.Native.Nat.{ℕ, zero, suc, _+_, _*_, _≤_, _<_}
 use native.Mathlib.Omega.{arith}
 use native.Mathlib.Numerals.{add-one}
@@ -26,7 +26,7 @@ use Rattle.rules.proofs.Fits.{base-wide}
 use Rattle.rules.proofs.Editions.{edition1-fair-sound}
 use Rattle.rules.proofs.Demand3.{next-frame, no-frame}
 use Rattle.rules.proofs.Lengths.{line-length}
-use Rattle.rules.proofs.Pages.{owing, pays, linesLength}
+use Rattle.rules.proofs.Pages.{owing, pays}
 use Rattle.scopes.specs.View.{view}
 use Rattle.scopes.specs.Sound.{Sound}
 use Rattle.scopes.specs.declared.Scopes.{Scopes}
@@ -40,14 +40,13 @@ use Rattle.text.proofs.Splits.{split-end}
 use Rattle.text.proofs.Rows.{frame-code}
 use Rattle.text.proofs.Bounds.{ScriptIn, script-in}
 use Rattle.text.proofs.Over.{over-nothing, next}
-use Rattle.translate.specs.Handles.{handleAt, stateOf}
+use Rattle.translate.specs.Handles.{stateOf}
 use Rattle.translate.specs.Steps.{stepped, Few, Stands, Works}
 use Rattle.translate.specs.Whole.{frameIn, linesOf, linesText, onwardOf, Read, Ends, listed, refused as told}
 use Rattle.translate.specs.declared.steps.Adds.{Adds}
 use Rattle.translate.specs.declared.steps.Adds.the-variants.{Nothing, One, Store, Load, Drained, Refused}
 use Rattle.translate.specs.declared.steps.Stepped.{Stepped}
 use Rattle.translate.specs.declared.whole.Onward.the-variants.{Go, Stop}
-use Rattle.translate.specs.declared.whole.Ended.{Ended}
 use Rattle.translate.specs.declared.whole.Ended.the-variants as ended
 use Rattle.translate.proofs.Written.{lines-length, lines-on, list-on, Put}
 

@@ -1,18 +1,17 @@
 -- What `translate` leaves: a refusal leaves the list as it was, 17 where it is too short, else the list's bytes go to its start; and what the
 -- promise admits is one result, whose two halves can't be mistaken for each other. Assumes nothing.
-use mathlib.Core.Path.{_≡_, refl, sym, ap, subst, _∙_}
-use mathlib.Core.Bool.{Bool, true, false}
+use mathlib.Core.Path.{_≡_, refl, sym, ap, _∙_}
 use mathlib.Core.List.{List, [], _∷_, _++_}
-use Prim.Native.Nat.{ℕ, suc, _+_, _*_, _≤_, _<_}
+use Prim.Native.Nat.{ℕ, suc, _+_, _≤_, _<_}
 use native.Mathlib.Omega.{arith}
 use native.Mathlib.Numerals.{add-one}
 use lib.ListN.{length, getD, take, drop, set}
 use lib.Seq.{take-suc, drop-cons, set-at, length-take-le}
 use borrow.Author.Tests.{le-leb, lt-leb}
 use Rattle.rules.specs.Notation.{if_then_else_}
-use Rattle.rules.specs.Sizes.{Room, base}
+use Rattle.rules.specs.Sizes.{base}
 use Rattle.rules.specs.Slots.{Placement}
-use Rattle.rules.specs.Frames.{Outcome, accepted, refusedAt}
+use Rattle.rules.specs.Frames.{Outcome}
 use Rattle.rules.specs.Text.{split, Script, frames, unread, scriptFrom, listText}
 use Rattle.rules.specs.Entries.{outcome, translated, refusalAnswer, Translation, listLeft, translateEntry}
 use Rattle.text.specs.Whole.{ofScript, scriptChecked}

@@ -1,10 +1,10 @@
 -- What a translation comes to: a refusal has a number from 1 to 20 and the line of a frame, and a list is at most 30,727 bytes. So the two
 -- halves of the answer can't be mistaken for each other. Assumes nothing.
-use mathlib.Core.Path.{_≡_, refl, sym, ap, subst, _∙_}
+use mathlib.Core.Path.{_≡_, refl, sym, subst, _∙_}
 use mathlib.Core.Bool.{Bool, true, false, _&&_}
 use mathlib.Core.Option.{Option, none, some}
 use mathlib.Core.List.{List, [], _∷_}
-use Prim.Native.Nat.{ℕ, zero, suc, _+_, _*_, _/_, _%_, _≤_, _<_}
+use Prim.Native.Nat.{ℕ, zero, suc, _+_, _/_, _%_, _≤_, _<_}
 use native.Mathlib.Omega.{arith}
 use lib.Dec.{leb}
 use lib.ListN.{length}
@@ -21,7 +21,7 @@ use Rattle.rules.proofs.Demand3.{next-frame, no-frame}
 use Rattle.rules.proofs.Reached.{start-sound}
 use Rattle.rules.proofs.KeepsSteps.{keeps-step}
 use Rattle.rules.proofs.Fits.{base-wide}
-use Rattle.rules.proofs.Pages.{owing, list-length}
+use Rattle.rules.proofs.Pages.{list-length}
 use Rattle.text.proofs.Bounds.{ScriptIn, script-in}
 use Rattle.translate.proofs.Going.{fair, owes-none}
 

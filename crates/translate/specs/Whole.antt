@@ -1,7 +1,7 @@
 -- What the loop over the frames writes on its page, and what `translate` leaves. Assumes nothing.
 use mathlib.Core.Path.{_≡_}
 use mathlib.Core.List.{List, [], _∷_, _++_}
-use Prim.Native.Nat.{ℕ, _+_, _≤_, _<_}
+use Prim.Native.Nat.{ℕ, _+_, _≤_}
 use lib.ListN.{length, take}
 use Rattle.rules.specs.Sizes.{base}
 use Rattle.rules.specs.Frames as rules

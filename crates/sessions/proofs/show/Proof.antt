@@ -1,0 +1,46 @@
+-- `show` is safe and ends. Assumes nothing.
+use Prim.Native.Nat.{_-_}
+use borrow.Author.Needs.{needs}
+use Rattle.sessions.proofs.show.Statement.{statement}
+use Rattle.sessions.proofs.show.Tie as tie
+
+abbrev Inv-loop : tie.InvT-loop
+Inv-loop text from to i₀ i = Unit {0}
+
+abbrev μ-loop : tie.MeasureT-loop
+μ-loop text from to i₀ i = to - i
+
+loop-holds : tie.Need-loop-holds Inv-loop μ-loop
+loop-holds c = search needs
+
+shared-slice-read-show-char : tie.Need-shared-slice-read-show-char Inv-loop μ-loop
+shared-slice-read-show-char c = search needs
+
+show-char-requires : tie.Need-show-char-requires Inv-loop μ-loop
+show-char-requires c κs = search needs
+
+add-i : tie.Need-add-i Inv-loop μ-loop
+add-i c = search needs
+
+loop-less : tie.Need-loop-less Inv-loop μ-loop
+loop-less c = search needs
+
+loop-again : tie.Need-loop-again Inv-loop μ-loop
+loop-again c = search needs
+
+returns : tie.Need-returns Inv-loop μ-loop
+returns c = search needs
+
+pub show-spec : {M : Type 1} → statement M
+show-spec =
+    tie.close
+    (tie.spec
+    Inv-loop
+    μ-loop
+    loop-holds
+    shared-slice-read-show-char
+    show-char-requires
+    add-i
+    loop-less
+    loop-again
+    returns)

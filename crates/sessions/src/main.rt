@@ -1,0 +1,150 @@
+// Document 01's sessions A to K and its five to run, through `translate`: for each its label and what came of it, the list or the `ee` line, LF
+// shown as /. Of a long list the last two lines are shown.
+use text::writing::put_refusal;
+ghost use Prim.Native.Nat.{_+_, _*_, _≤_};
+ghost use lib.ListN.{length};
+
+fn show_char(b: u8) {
+    if b == 10 {
+        io::write_all(1, b"/");
+    } else {
+        io::write_all(1, &[b]);
+    }
+}
+
+// The bytes of text before `to`, from `from` on.
+fn show(text: &[u8], from: usize, to: usize)
+    requires { ⌜ to ≤ length (now text) ⌝ }
+{
+    let mut i = from;
+    while i < to {
+        show_char(text[i]);
+        i += 1;
+    }
+}
+
+// Where the last bytes of n begin.
+fn back(n: usize, last: usize) -> usize {
+    if n > last {
+        return n - last;
+    }
+    0
+}
+
+// What `translate` answered: the last bytes of the list, or the `ee` line.
+fn say(r: u64, list: &[u8], last: usize) {
+    if r < 4294967296 {
+        let n = io::count(r as isize, list);
+        show(list, back(n, last), n);
+        return;
+    }
+    let mut line = [0u8; 9];
+    put_refusal(
+        &mut line,
+        0,
+        (r / 4294967296 % 256) as u8,
+        (r % 65536) as u16,
+    );
+    show(&line, 0, 9);
+}
+
+fn case(label: &[u8], script: &[u8], last: usize) {
+    let mut list = [0u8; 32768];
+    io::write_all(1, label);
+    let r = translate::translate(script, &mut list);
+    say(r, &list, last);
+    io::write_all(1, b"\n");
+}
+
+// n allocs from w on.
+fn put_allocs(script: &mut [u8], w: usize, n: usize)
+    requires { ⌜ w + 3 * n ≤ length (now script) ⌝ }
+{
+    let line = b"06\n";
+    let mut i: usize = 0;
+    while i < 3 * n {
+        script[w + i] = line[i % 3];
+        i += 1;
+    }
+}
+
+fn put_tail(script: &mut [u8], w: usize, tail: &[u8])
+    requires { ⌜ w + length (now tail) ≤ length (now script) ⌝ }
+{
+    let mut i: usize = 0;
+    while i < tail.len() {
+        script[w + i] = tail[i];
+        i += 1;
+    }
+}
+
+// The script's first `end` bytes, of whose list the last two lines are shown.
+fn part(label: &[u8], script: &[u8], end: usize)
+    requires { ⌜ end ≤ length (now script) ⌝ }
+{
+    case(label, &script[..end], 14);
+}
+
+// n allocs, and what follows them.
+fn long(label: &[u8], n: usize, tail: &[u8]) {
+    let mut script = [0u8; 1024];
+    if n <= 256 {
+        let w = 3 * n;
+        if tail.len() <= 64 {
+            let end = w + tail.len();
+            put_allocs(&mut script, 0, n);
+            put_tail(&mut script, w, tail);
+            part(label, &script, end);
+        }
+    }
+}
+
+// 128 allocs, child, 384 allocs, pop 1, linear 2, alloc: 256, where an insert meets H above L.
+fn head_above() {
+    let mut script = [0u8; 2048];
+    put_allocs(&mut script, 0, 128);
+    put_tail(&mut script, 384, b"01\n");
+    put_allocs(&mut script, 387, 384);
+    put_tail(&mut script, 1539, b"020001\n080002\n06\n");
+    part(b"R5   ", &script, 1556);
+}
+
+fn a_to_f() {
+    case(b"A    ", b"", 1024);
+    case(b"B    ", b"080000\n", 1024);
+    case(
+        b"C    ",
+        b"01\n080003\n10000100ff\n0900070001\n120007\n0e0001\n0c0002\n020001\n0f\n06\n05\n",
+        1024,
+    );
+    case(b"D    ", b"06\n06\n0c0000\n06\n", 1024);
+    case(b"E    ", b"06\n06\n0c0000\n080002\n", 1024);
+    case(b"F    ", b"06\n06\n0c0000\n080001\n", 1024);
+}
+
+fn g_to_k() {
+    case(b"G    ", b"01\n06\n020001\n06\n0c0000\n", 1024);
+    case(b"H    ", b"01\n030001\n020001\n", 1024);
+    case(b"I    ", b"01\n01\n020001\n", 1024);
+    case(
+        b"J    ",
+        b"06\n06\n0900070000\n0b0007\n0900070001\n0a0007\n",
+        1024,
+    );
+    case(b"K    ", b"01\n070000\n0c0000\n06\n", 1024);
+}
+
+fn runs() {
+    long(b"R1   ", 129, b"0c0005\n0c0080\n06\n");
+    long(b"R2   ", 127, b"080002\n");
+    case(b"R3   ", b"080400\n", 1024);
+    case(b"R3,7 ", b"080400\n06\n", 1024);
+    case(b"R4   ", b"080401\n", 1024);
+}
+
+fn main() {
+    a_to_f();
+    g_to_k();
+    runs();
+    head_above();
+}
