@@ -1,4 +1,4 @@
-//! Each entry of docs/parts/differences.md: its smallest script, what 01 says and what the original does.
+//! Each entry of docs/DIFFERENCES.md: its smallest script, what 01 says and what the original does.
 
 use model::{Frame, Refusal, Slots};
 use rune::{drive, Bare, Driven, Stop};
