@@ -20,7 +20,7 @@ use Rattle.machine.specs.Machine.{Leaves, Bytes}
 use Rattle.machine.proofs.Cells.{cells-length}
 use Rattle.machine.proofs.Answer as machine
 use Rattle.demand3.specs.Promises.{Translates, Runs, Accepts, means, Prints}
-use Rattle.demand3.specs.Together.{refusal, frameAfter, togetherOn, together}
+use Rattle.demand3.specs.Together.{refusal, frameAfter, worked, togetherOn, together}
 use Rattle.demand3.proofs.Frame.{text-length, frame-front}
 use Rattle.demand3.proofs.Ran.{below, ran-short, ran-on, loaded}
 use Rattle.demand3.proofs.Demand3.{come, listed-by, left-ran}
@@ -33,32 +33,33 @@ unfolding runLeft if_then_else_
 left-short x cells out h = rw (lt-leb (length (loadsText (x .loaded))) (length out) (omega (arith, text-length (x .loaded))), if_then_else_)
 
 module _ (script : List ℕ) (ls : List Line) (size : ℕ) (ok : translated base (edition1 8) script ≡ accepted ls size) (cells out : List ℕ) (bytes : Bytes cells) where
+  -- with cells enough: 17 for out, or the work
+  roomy : (x : Ran) → x .loaded ≡ means script → bytesOf (x .cells) ++ oddByte cells ≡ overFront (frameAfter ls size) cells
+      → runLeft (ran x) cells out ≡ (if leb (7 * length (means script)) (length out) then worked ls size (means script) cells out else refusal 17 0 cells out)
+  unfolding if_then_else_
+  roomy x m w = go (leb (7 * length (means script)) (length out)) refl
+    where
+      go : (b : Bool) → leb (7 * length (means script)) (length out) ≡ b
+          → runLeft (ran x) cells out ≡ (if leb (7 * length (means script)) (length out) then worked ls size (means script) cells out else refusal 17 0 cells out)
+      go false q = rw (q, if_then_else_) (left-short x cells out (rw m (leb-false _ _ q)))
+      go true q = rw (q, if_then_else_) (left-ran x cells out (rw m (leb-true _ _ q)) ∙ rw (m, w))
+
   run-is : runEntry base (listText ls size) cells out ≡ togetherOn (accepted ls size) (means script) cells out
   unfolding runEntry togetherOn if_then_else_ runLeft
-  run-is = go (leb (2 * size) (length cells)) (leb (7 * length (means script)) (length out)) refl refl
+  run-is = go (leb (2 * size) (length cells)) refl
     where
       n : length (cellsOf cells) ≡ length cells / 2
       n = cells-length cells
 
-      go : (a b : Bool) → leb (2 * size) (length cells) ≡ a → leb (7 * length (means script)) (length out) ≡ b
-          → runEntry base (listText ls size) cells out ≡ togetherOn (accepted ls size) (means script) cells out
-      go false b p q =
+      go : (b : Bool) → leb (2 * size) (length cells) ≡ b → runEntry base (listText ls size) cells out ≡ togetherOn (accepted ls size) (means script) cells out
+      go false p =
           let f : length (cellsOf cells) < size = omega (arith, n, leb-false (2 * size) (length cells) p) in
           rw (p, if_then_else_) (ap (λ o. runLeft o cells out) (ran-short script ls size ok (cellsOf cells) f))
-      go true b p q =
+      go true p =
           let f : size ≤ length (cellsOf cells) = omega (arith, n, leb-true (2 * size) (length cells) p) in
           rw p
           (ap (λ o. runLeft o cells out) (ran-on script ls size ok (cellsOf cells) f)
-          ∙ on f b q (obey (replicate size 0 ++ drop size (cellsOf cells)) ls) (loaded script ls size ok (cellsOf cells) f) (frame-front ls size cells (below script ls size ok) bytes f))
-        where
-          on : size ≤ length (cellsOf cells) → (b : Bool) → leb (7 * length (means script)) (length out) ≡ b → (x : Ran) → x .loaded ≡ means script
-              → bytesOf (x .cells) ++ oddByte cells ≡ overFront (frameAfter ls size) cells
-              → runLeft (ran x) cells out
-              ≡ (if leb (7 * length (means script)) (length out)
-              then record { answer = 7 * length (means script); cells = overFront (frameAfter ls size) cells; out = overFront (loadsText (means script)) out }
-              else refusal 17 0 cells out)
-          on f false q x m w = rw (q, if_then_else_) (left-short x cells out (rw m (leb-false _ _ q)))
-          on f true q x m w = rw (q, if_then_else_) (left-ran x cells out (rw m (leb-true _ _ q)) ∙ rw (m, w))
+          ∙ roomy _ (loaded script ls size ok (cellsOf cells) f) (frame-front ls size cells (below script ls size ok) bytes f))
 
 -- ---- by what translate answered
 
@@ -104,7 +105,7 @@ together-prints script cells out r cells′ out′ h k = go (translated base (ed
     go _ (to-list {ls = ls} {size = size} a) h = on (leb (2 * size) (length cells) && leb (7 * length (means script)) (length out)) h
       where
         on : (b : Bool)
-            → Leaves (if b then record { answer = 7 * length (means script); cells = overFront (frameAfter ls size) cells; out = overFront (loadsText (means script)) out } else refusal 17 0 cells out) r cells′ out′
+            → Leaves (if b then worked ls size (means script) cells out else refusal 17 0 cells out) r cells′ out′
             → Prints script out r out′
         on true h = record { count = h .answered; text = h .out-left }
         on false h = absurd (omega (arith, h .answered))

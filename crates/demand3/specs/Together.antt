@@ -21,13 +21,17 @@ refusal n i cells out = record { answer = refusalAnswer n i; cells = cells; out 
 abbrev pub frameAfter : List Line → ℕ → List ℕ
 frameAfter ls size = bytesOf (obey (replicate size 0) ls .cells)
 
--- translate's refusal with its number and line; else 17, "lent memory too short for the answer, or fewer cells than the size"; else the text
--- of the values over the front of out, and the frame over the front of the cells
+-- the text of the values over the front of out, 7 bytes a load, and the frame over the front of the cells
+abbrev pub worked : List Line → ℕ → List ℕ → List ℕ → List ℕ → Running
+worked ls size values cells out =
+    record { answer = 7 * length values; cells = overFront (frameAfter ls size) cells; out = overFront (loadsText values) out }
+
+-- translate's refusal with its number and line; else 17, "lent memory too short for the answer, or fewer cells than the size"; else the work
 unfoldable pub togetherOn : Outcome → List ℕ → List ℕ → List ℕ → Running
 togetherOn (refusedAt n i) values cells out = refusal n i cells out
 togetherOn (accepted ls size) values cells out =
     if (leb (2 * size) (length cells) && leb (7 * length values) (length out))
-    then record { answer = 7 * length values; cells = overFront (frameAfter ls size) cells; out = overFront (loadsText values) out }
+    then worked ls size values cells out
     else refusal 17 0 cells out
 
 unfoldable pub together : List ℕ → List ℕ → List ℕ → Running
