@@ -108,6 +108,7 @@ pub fn push_run(
     ensures { λ r. ⌜ ((s : Scopes) → Pushes (withSlots s (now (halves .entry)) (now (links .entry)) (now (owner .entry)) n) k g many (withSlots s (now (halves .exit)) (now (links .exit)) (now (owner .exit)) r)) ⌝ }
 {
     let end = g + many;
+    let size = bits::most(n.size, end);
     let mut segments = n.segments;
     let mut a = g;
     while a < end {
@@ -123,7 +124,7 @@ pub fn push_run(
         head: n.head,
         top: n.top,
         counter: n.counter,
-        size: bits::most(n.size, end),
+        size: size,
     }
 }
 
