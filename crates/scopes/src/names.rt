@@ -1,7 +1,8 @@
 // Names are bound in the top scope, and looked for from there up to root: the leaves, and `lent::names` by value.
 ghost use mathlib.Core.Path.{_≡_};
 ghost use mathlib.Core.Bool.{false};
-ghost use Prim.Native.Nat.{ℕ, _≤_, _<_};
+ghost use mathlib.Core.Logic.{_≢_};
+ghost use Prim.Native.Nat.{ℕ, _+_, _%_, _≤_, _<_};
 ghost use lib.ListN.{length, getD};
 ghost use Rattle.rules.specs.Sizes.{base};
 ghost use Rattle.rules.specs.Scopes as rule;
@@ -83,6 +84,14 @@ pub fn bound_of(b: u64) -> Bound
     }
 }
 
+// An unmoved binding, marked moved.
+pub fn moved(b: u64) -> u64
+    requires { ⌜ b % 2 ≢ 1 ⌝ }
+    ensures { λ r. ⌜ r ≡ b + 1 ⌝ }
+{
+    b + 1
+}
+
 // A binding in one number.
 pub fn packed(i: usize, name: u16, address: SlotAddress, handle: HandleNumber) -> u64
     requires { ⌜ i < 64 ⌝ }
@@ -96,7 +105,7 @@ pub fn packed(i: usize, name: u16, address: SlotAddress, handle: HandleNumber) -
 // The bindings of scope i go; the others keep their order. How many are left.
 pub fn forget_names(bindings: &mut [u64; 256], count: usize, i: usize) -> usize
     requires { ⌜ (count ≤ 256) × (length (now bindings) ≡ 256) ⌝ }
-    ensures { λ r. ⌜ (r ≤ count) × (bindingsOf (now (bindings .exit)) r ≡ rule.unbound i (bindingsOf (now (bindings .entry)) count)) ⌝ }
+    ensures { λ r. ⌜ (r ≤ count) × (bindingsOf (now (bindings .exit)) r ≡ rule.unbound i (bindingsOf (now (bindings .entry)) count)) × (length (now (bindings .exit)) ≡ 256) ⌝ }
     ensures { λ r. ⌜ (((j : ℕ) → count ≤ j → getD (now (bindings .entry)) j 0 ≡ 0) → (j : ℕ) → r ≤ j → getD (now (bindings .exit)) j 0 ≡ 0) ⌝ }
 {
     let mut w: usize = 0;

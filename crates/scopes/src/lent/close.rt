@@ -65,7 +65,7 @@ pub fn close(
     ensures { λ r. ⌜ Closes (made (now (halves .entry)) (now (links .entry)) (now (owner .entry)) (now (live .entry)) (now (dangled .entry)) (now (parent .entry)) (now (number .entry)) (now (bindings .entry)) n) i (made (now (halves .exit)) (now (links .exit)) (now (owner .exit)) (now (live .exit)) (now (dangled .exit)) (now (parent .exit)) (now (number .exit)) (now (bindings .exit)) r) ⌝ }
 {
     let m = empty(halves, links, owner, n, i);
-    let count = names::forget_names(bindings, n.count, i);
+    let count = names::forget_names(bindings, m.count, i);
     let up = open::wide8(parent[i]);
     live[i] = false;
     dangled[i] = false;

@@ -70,7 +70,7 @@ pub fn take<'a>(
             reply: Reply::Refused(11),
         };
     }
-    bindings[j] = b + 1;
+    bindings[j] = names::moved(b);
     LentOutcome {
         numbers: n,
         reply: Reply::Found(names::bound_of(b)),
