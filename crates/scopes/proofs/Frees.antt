@@ -49,6 +49,10 @@ released s a o halves links =
       size = s .size;
     }
 
+pub released-sized : (s : Scopes) → Sized s → (a o : ℕ) (halves links : List ℕ) → length halves ≡ 16 → length links ≡ 2178 → Sized (released s a o halves links)
+released-sized s z a o halves links lh ll =
+    record { halves = lh; links = ll; owner = length-set (s .owner) a o ∙ z .owner; live = z .live; dangled = z .dangled; parent = z .parent; number = z .number; bindings = z .bindings }
+
 -- a number that is no address is on no list
 pub far : (links owner : List ℕ) (a i : ℕ) → Ringed links owner → 1024 ≤ a → i < 65 → member a (held links i) ≡ false
 far links owner a i h l hi = no-member a (held links i) (λ m. omega (arith, h .rings .ring i hi .addr a m))
@@ -118,9 +122,6 @@ module _ (s : Scopes) (h : Sound s) (z : Sized s) (a k : ℕ) (ha : a < 1024) (h
             named = h .named;
           }
 
-      pub sized : length halves ≡ 16 → length links ≡ 2178 → Sized (released s a o halves links)
-      sized lh ll = record { halves = lh; links = ll; owner = length-set (s .owner) a o ∙ z .owner; live = z .live; dangled = z .dangled; parent = z .parent; number = z .number; bindings = z .bindings }
-
       -- where k is the top
       rule-is : (dangles : Bool) → s .top ≡ k → Topped s → ys 64 ≡ elim dangles [ true ↦ added a (held (s .links) 64) | false ↦ held (s .links) 64 ]
           → record { next = view (released s a o halves links); says = Done } ≡ toldOnly (view s) (giveBack dangles a (view s))
@@ -167,7 +168,7 @@ module _ (s : Scopes) (h : Sound s) (z : Sized s) (a k : ℕ) (ha : a < 1024) (h
           → (record { next = view (released s a 64 halves links); says = Done } ≡ toldOnly (view s) (giveBack dangles a (view s))) × Whole (released s a 64 halves links)
       gives-back lh ll dangles e et top = (
         rule-is links 64 (omega arith) (omega arith) _ c told-there back-k back-other dangles et top (back-64 ∙ rw e),
-        record { sound = back-sound; sized = sized links 64 (omega arith) (omega arith) _ c told-there back-k back-other lh ll },
+        record { sound = back-sound; sized = released-sized s z a 64 halves links lh ll },
       )
 
     -- ---- to none
@@ -178,5 +179,5 @@ module _ (s : Scopes) (h : Sound s) (z : Sized s) (a k : ℕ) (ha : a < 1024) (h
         let t = leaves-tells 1024 65 (owners (s .owner)) (held (s .links)) (h .ringed .tells) a ha 65 (omega arith) in
         let other : (j : ℕ) → j < 64 → j ≢ k → leaves a (held (s .links)) j ≡ held (s .links) j = λ j hj n. unowned j (omega arith) n in (
           rule-is links 65 (omega arith) (omega arith) _ c t refl other dangles et top (unowned 64 (omega arith) (omega arith) ∙ rw e),
-          record { sound = sound links 65 (omega arith) (omega arith) _ c t refl other; sized = sized links 65 (omega arith) (omega arith) _ c t refl other lh ll },
+          record { sound = sound links 65 (omega arith) (omega arith) _ c t refl other; sized = released-sized s z a 65 halves links lh ll },
         )

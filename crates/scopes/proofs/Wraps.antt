@@ -14,7 +14,7 @@ abbrev pub numbered : Scopes → Numbers → Scopes
 numbered s n = made (s .halves) (s .links) (s .owner) (s .live) (s .dangled) (s .parent) (s .number) (s .bindings) n
 
 module _ (s : Scopes) (h : Whole s) (n : Numbers) (e : n ≡ numbersOf s) where
-  own : numbered s n ≡ s
+  pub own : numbered s n ≡ s
   own = ap (numbered s) e
 
   pub lends : Whole (numbered s n)

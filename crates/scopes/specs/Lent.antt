@@ -1,14 +1,15 @@
 -- The state whose arrays are lent. Its record is made of the lists and the numbers, and is seen as one by value is. Assumes nothing.
 use mathlib.Core.Path.{_≡_}
 use mathlib.Core.Bool.{Bool, true, false}
-use mathlib.Core.List.{List}
+use mathlib.Core.List.{List, []}
 use Prim.Native.Nat.{ℕ, _+_, _≤_, _<_}
-use lib.ListN.{getD}
+use lib.ListN.{getD, take}
 use Rattle.rules.specs.Notation.{pastLast}
 use Rattle.rules.specs.Scopes as rule
 use Rattle.slots.specs.Halves.{occ}
-use Rattle.scopes.specs.View.{view, Seen, runFor}
+use Rattle.scopes.specs.View.{held, foundAt, view, Seen, runFor}
 use Rattle.scopes.specs.Sound.{Sound, Sized}
+use Rattle.scopes.specs.Leaves.{NoChild}
 use Rattle.scopes.specs.declared.Scopes.{Scopes}
 use Rattle.scopes.specs.declared.Numbers.{Numbers}
 use Rattle.scopes.specs.declared.Reply.{Reply}
@@ -70,3 +71,18 @@ Pushes s k g n t = Whole s → Lives s k → Fits s g n → (view t ≡ runFor s
 -- the top owns the slot a
 abbrev pub TopOwns : Scopes → ℕ → Type 0
 TopOwns s a = (a < 1024) × (s .top < 64) × (getD (s .owner) a 0 ≡ s .top)
+
+-- ---- closing
+
+-- list i is empty then, and closing scope i comes to the same as before
+abbrev pub Empties : Scopes → ℕ → Scopes → Type 0
+Empties s i t = Whole s → (held (t .links) i ≡ []) × (rule.closed (foundAt t i) (view t) ≡ rule.closed (foundAt s i) (view s)) × Whole t
+
+abbrev pub Closes : Scopes → ℕ → Scopes → Type 0
+Closes s i t = Whole s → Lives s i → NoChild (s .live) (s .parent) i → (view t ≡ rule.closed (foundAt s i) (view s)) × Whole t
+
+-- ---- draining
+
+-- the first n of `out` are the dangling list of s
+abbrev pub Drains : Scopes → Scopes → ℕ → List ℕ → Type 0
+Drains s t n out = Whole s → (view t ≡ rule.drainDangling (view s) .1) × (take n out ≡ rule.drainDangling (view s) .0) × Whole t

@@ -45,10 +45,11 @@ pub fn alloc(s: Scopes) -> Outcome
     requires { ⌜ Sound s ⌝ }
     ensures { λ r. ⌜ (seen r ≡ told at (view s) (rule.allocTop (edition1 (base .segments)) (view s))) × Sound (r .state) ⌝ }
 {
+    let n = numbers_of(s);
     let mut halves = s.halves;
     let mut links = s.links;
     let mut owner = s.owner;
-    let o = lent::alloc(&mut halves, &mut links, &mut owner, numbers_of(s));
+    let o = lent::alloc(&mut halves, &mut links, &mut owner, n);
     with_slots(s, halves, links, owner, o)
 }
 
@@ -57,32 +58,32 @@ pub fn alloc_in(s: Scopes, id: ScopeId) -> Outcome
     requires { ⌜ Sound s ⌝ }
     ensures { λ r. ⌜ (seen r ≡ told at (view s) (rule.allocIn (edition1 (base .segments)) (rule.byId base (view s) (idOf id)) (view s))) × Sound (r .state) ⌝ }
 {
+    let n = numbers_of(s);
     let mut halves = s.halves;
     let mut links = s.links;
     let mut owner = s.owner;
-    let live = s.live;
-    let number = s.number;
     let o = lent::alloc_in(
         &mut halves,
         &mut links,
         &mut owner,
-        &live,
-        &number,
-        numbers_of(s),
+        &s.live,
+        &s.number,
+        n,
         id,
     );
     with_slots(s, halves, links, owner, o)
 }
 
-// linear n: 0 gives an empty run, 1 acts as alloc, more are pushed.
-pub fn alloc_run(s: Scopes, n: u16) -> Outcome
+// linear: 0 gives an empty run, 1 acts as alloc, more are pushed.
+pub fn alloc_run(s: Scopes, many: u16) -> Outcome
     requires { ⌜ Sound s ⌝ }
-    ensures { λ r. ⌜ (seen r ≡ told atFirst (view s) (rule.allocRun (edition1 (base .segments)) n (view s))) × Sound (r .state) ⌝ }
+    ensures { λ r. ⌜ (seen r ≡ told atFirst (view s) (rule.allocRun (edition1 (base .segments)) many (view s))) × Sound (r .state) ⌝ }
 {
+    let n = numbers_of(s);
     let mut halves = s.halves;
     let mut links = s.links;
     let mut owner = s.owner;
-    let o = lent::alloc_run(&mut halves, &mut links, &mut owner, numbers_of(s), n);
+    let o = lent::alloc_run(&mut halves, &mut links, &mut owner, n, many);
     with_slots(s, halves, links, owner, o)
 }
 
@@ -91,16 +92,10 @@ pub fn give_back(s: Scopes, a: SlotAddress, dangles: bool) -> Outcome
     requires { ⌜ Sound s ⌝ }
     ensures { λ r. ⌜ (seen r ≡ toldOnly (view s) (giveBack dangles (a .0) (view s))) × Sound (r .state) ⌝ }
 {
+    let n = numbers_of(s);
     let mut halves = s.halves;
     let mut links = s.links;
     let mut owner = s.owner;
-    let o = lent::give_back(
-        &mut halves,
-        &mut links,
-        &mut owner,
-        numbers_of(s),
-        a,
-        dangles,
-    );
+    let o = lent::give_back(&mut halves, &mut links, &mut owner, n, a, dangles);
     with_slots(s, halves, links, owner, o)
 }

@@ -15,23 +15,23 @@ use Rattle.scopes.proofs.lent.place.alloc_in.Reads as alloc-in-reads
 use Rattle.scopes.proofs.numbers_of.Reads as numbers-of-reads
 use Rattle.scopes.proofs.place.with_slots.Reads as with-slots-reads
 
-abbrev start : tie.After-numbers-of → tie.Start
-start c = c .before .before .before .before .before .before .before .before .before .before .before
+abbrev lending : tie.After-alloc-in-arg2 → tie.After-numbers-of
+lending c = c .before .before .before .before .before .before .before .before .before
 
-whole : (w : tie.Start) → Whole (w .args .s)
+whole : (w : tie.Start) → Whole (w .args .t1)
 whole w = record { sound = w .pre; sized = search needs }
 
 numbers-of-requires : tie.Need-numbers-of-requires
 numbers-of-requires c κs = search needs
 
 alloc-in-requires : tie.Need-alloc-in-requires
-alloc-in-requires c κs = (start c .args .s, lends _ (whole (start c)) _ (c .numbers-of .ensures))
+alloc-in-requires c κs = let n = lending c in (n .before .args .t1, lends _ (whole (n .before)) _ (n .numbers-of .ensures))
 
 with-slots-requires : tie.Need-with-slots-requires
 with-slots-requires c κs = search needs
 
 returns : tie.Need-returns
-returns c = let n = c .before .before in by-value _ (whole (start n)) _ (n .numbers-of .ensures) _ _ (λ x. told at x (rule.allocIn (edition1 (base .segments)) (rule.byId base x (idOf (start n .args .id))) x)) (c .before .alloc-in .ensures (start n .args .s)) _ (c .with-slots .ensures)
+returns c = let n = lending (c .before .before) in by-value _ (whole (n .before)) _ (n .numbers-of .ensures) _ _ (λ x. told at x (rule.allocIn (edition1 (base .segments)) (rule.byId base x (idOf (n .before .args .id))) x)) (c .before .alloc-in .ensures (n .before .args .t1)) _ (c .with-slots .ensures)
 
 pub alloc-in-spec : {M : Type 1} → statement M
 alloc-in-spec =

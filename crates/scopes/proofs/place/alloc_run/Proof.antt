@@ -15,8 +15,8 @@ use Rattle.scopes.proofs.lent.place.alloc_run.Reads as alloc-run-reads
 use Rattle.scopes.proofs.numbers_of.Reads as numbers-of-reads
 use Rattle.scopes.proofs.place.with_slots.Reads as with-slots-reads
 
-abbrev start : tie.After-numbers-of → tie.Start
-start c = c .before .before .before .before .before .before .before
+abbrev lending : tie.After-owner2 → tie.After-numbers-of
+lending c = c .before .before .before .before .before .before
 
 whole : (w : tie.Start) → Whole (w .args .s)
 whole w = record { sound = w .pre; sized = search needs }
@@ -25,13 +25,13 @@ numbers-of-requires : tie.Need-numbers-of-requires
 numbers-of-requires c κs = search needs
 
 alloc-run-requires : tie.Need-alloc-run-requires
-alloc-run-requires c κs = (start c .args .s, lends _ (whole (start c)) _ (c .numbers-of .ensures))
+alloc-run-requires c κs = let n = lending c in (n .before .args .s, lends _ (whole (n .before)) _ (n .numbers-of .ensures))
 
 with-slots-requires : tie.Need-with-slots-requires
 with-slots-requires c κs = search needs
 
 returns : tie.Need-returns
-returns c = let n = c .before .before in by-value _ (whole (start n)) _ (n .numbers-of .ensures) _ _ (λ x. told atFirst x (rule.allocRun (edition1 (base .segments)) (start n .args .n) x)) (c .before .alloc-run .ensures (start n .args .s)) _ (c .with-slots .ensures)
+returns c = let n = lending (c .before .before) in by-value _ (whole (n .before)) _ (n .numbers-of .ensures) _ _ (λ x. told atFirst x (rule.allocRun (edition1 (base .segments)) (n .before .args .many) x)) (c .before .alloc-run .ensures (n .before .args .s)) _ (c .with-slots .ensures)
 
 pub alloc-run-spec : {M : Type 1} → statement M
 alloc-run-spec =
