@@ -133,7 +133,6 @@ module _ (s : Scopes) (handles holders : List ℕ) (handed : ℕ) (stands : Stan
     unfolding step rule.popScope
     pop-does n is q =
         let e = q ∙ ap (λ (x : Option Found). toldOnly c (rule.popScope base x c)) is in
-
         close-does c handles holders handed drained 0x02 d y (rule.poppable base (rule.byNumber base c n) c) e
         (λ k q. closes k (poppable-is base c (stands .state .scopes) (rule.byNumber base c n) (number-here base c n) .at k q .0))
 

@@ -43,7 +43,19 @@ fn scope_step(
         return scoped::child(live, parent, number, n, handed);
     }
     if f.opcode == 0x02 {
-        return scoped::pop(halves, links, owner, live, dangled, parent, number, bindings, n, handed, f.a);
+        return scoped::pop(
+            halves,
+            links,
+            owner,
+            live,
+            dangled,
+            parent,
+            number,
+            bindings,
+            n,
+            handed,
+            f.a,
+        );
     }
     if f.opcode == 0x03 {
         return scoped::dangle(live, dangled, parent, number, n, handed, f.a);
@@ -52,7 +64,18 @@ fn scope_step(
         return scoped::restore(live, dangled, number, n, handed, f.a);
     }
     if f.opcode == 0x05 {
-        return scoped::pop_last(halves, links, owner, live, dangled, parent, number, bindings, n, handed);
+        return scoped::pop_last(
+            halves,
+            links,
+            owner,
+            live,
+            dangled,
+            parent,
+            number,
+            bindings,
+            n,
+            handed,
+        );
     }
     refused(n, handed, 1)
 }
@@ -77,7 +100,18 @@ fn allot_step<'a>(
         return allots::alloc(halves, links, owner, n, handles, holders, handed);
     }
     if f.opcode == 0x07 {
-        return allots::alloc_in(halves, links, owner, live, number, n, handles, holders, handed, f.a);
+        return allots::alloc_in(
+            halves,
+            links,
+            owner,
+            live,
+            number,
+            n,
+            handles,
+            holders,
+            handed,
+            f.a,
+        );
     }
     allots::linear(halves, links, owner, n, handles, holders, handed, f.a)
 }
@@ -126,10 +160,32 @@ fn free_step(
 {
     let h = HandleNumber(f.a);
     if f.opcode == 0x0c {
-        return frees::free(halves, links, owner, number, n, handles, holders, handed, h, true);
+        return frees::free(
+            halves,
+            links,
+            owner,
+            number,
+            n,
+            handles,
+            holders,
+            handed,
+            h,
+            true,
+        );
     }
     if f.opcode == 0x0d {
-        return frees::free(halves, links, owner, number, n, handles, holders, handed, h, false);
+        return frees::free(
+            halves,
+            links,
+            owner,
+            number,
+            n,
+            handles,
+            holders,
+            handed,
+            h,
+            false,
+        );
     }
     let adds = frees::forget(handles, handed, h);
     Stepped {
@@ -161,7 +217,17 @@ fn cell_step<'a>(
         return cells::read(halves, handles, holders, handed, HandleNumber(f.a));
     }
     if f.opcode == 0x12 {
-        return cells::read_name(halves, live, parent, bindings, n, handles, holders, handed, f.a);
+        return cells::read_name(
+            halves,
+            live,
+            parent,
+            bindings,
+            n,
+            handles,
+            holders,
+            handed,
+            f.a,
+        );
     }
     Adds::Refused(1)
 }
@@ -188,10 +254,33 @@ pub fn step(
     ensures { λ r. ⌜ length (now (drained .exit)) ≡ 1024 ⌝ }
 {
     if f.opcode < 0x06 {
-        return scope_step(halves, links, owner, live, dangled, parent, number, bindings, n, handed, f);
+        return scope_step(
+            halves,
+            links,
+            owner,
+            live,
+            dangled,
+            parent,
+            number,
+            bindings,
+            n,
+            handed,
+            f,
+        );
     }
     if f.opcode < 0x09 {
-        return allot_step(halves, links, owner, live, number, n, handles, holders, handed, f);
+        return allot_step(
+            halves,
+            links,
+            owner,
+            live,
+            number,
+            n,
+            handles,
+            holders,
+            handed,
+            f,
+        );
     }
     if f.opcode < 0x0c {
         return name_step(live, parent, bindings, n, handles, handed, f);
@@ -207,7 +296,17 @@ pub fn step(
             adds: Adds::Drained(count),
         };
     }
-    let adds = cell_step(halves, live, parent, bindings, n, handles, holders, handed, f);
+    let adds = cell_step(
+        halves,
+        live,
+        parent,
+        bindings,
+        n,
+        handles,
+        holders,
+        handed,
+        f,
+    );
     Stepped {
         numbers: n,
         handed,

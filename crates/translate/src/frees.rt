@@ -110,7 +110,18 @@ pub fn free(
         return refused(n, handed, 13);
     }
     if goes_back(number, n.top, kind) {
-        return hand_back(halves, links, owner, n, handles, holders, handed, h, x, dangles);
+        return hand_back(
+            halves,
+            links,
+            owner,
+            n,
+            handles,
+            holders,
+            handed,
+            h,
+            x,
+            dangles,
+        );
     }
     handles[i] = forgotten(x);
     Stepped {

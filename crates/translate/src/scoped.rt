@@ -45,7 +45,18 @@ pub fn pop(
     ensures { λ r. ⌜ ((handles holders : List ℕ) → Leads (frame.pop k) 0x02 (made (now (halves .entry)) (now (links .entry)) (now (owner .entry)) (now (live .entry)) (now (dangled .entry)) (now (parent .entry)) (now (number .entry)) (now (bindings .entry)) n) (made (now (halves .exit)) (now (links .exit)) (now (owner .exit)) (now (live .exit)) (now (dangled .exit)) (now (parent .exit)) (now (number .exit)) (now (bindings .exit)) (r .numbers)) handles holders handed r handles holders) ⌝ }
 {
     let id = meant(live, number, k);
-    let o = close::pop(halves, links, owner, live, dangled, parent, number, bindings, n, id);
+    let o = close::pop(
+        halves,
+        links,
+        owner,
+        live,
+        dangled,
+        parent,
+        number,
+        bindings,
+        n,
+        id,
+    );
     ended(o, handed)
 }
 
@@ -97,6 +108,16 @@ pub fn pop_last(
     requires { ⌜ Whole (made (now halves) (now links) (now owner) (now live) (now dangled) (now parent) (now number) (now bindings) n) ⌝ }
     ensures { λ r. ⌜ ((handles holders : List ℕ) → Leads frame.popLast 0x05 (made (now (halves .entry)) (now (links .entry)) (now (owner .entry)) (now (live .entry)) (now (dangled .entry)) (now (parent .entry)) (now (number .entry)) (now (bindings .entry)) n) (made (now (halves .exit)) (now (links .exit)) (now (owner .exit)) (now (live .exit)) (now (dangled .exit)) (now (parent .exit)) (now (number .exit)) (now (bindings .exit)) (r .numbers)) handles holders handed r handles holders) ⌝ }
 {
-    let o = close::pop_last(halves, links, owner, live, dangled, parent, number, bindings, n);
+    let o = close::pop_last(
+        halves,
+        links,
+        owner,
+        live,
+        dangled,
+        parent,
+        number,
+        bindings,
+        n,
+    );
     ended(o, handed)
 }

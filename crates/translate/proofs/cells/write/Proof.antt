@@ -55,7 +55,7 @@ allocated-requires : tie.Need-allocated-requires
 allocated-requires c κs = search needs
 
 packed-requires : tie.Need-packed-requires
-packed-requires c κs = 
+packed-requires c κs =
     let st = start (c .before .before) in
     let k = c .before .before .before .before .before .before .before in
     subst (λ (a : ℕ). a < 1024) (sym (ap (λ (a : Address). a .slot) (c .allocated .ensures))) (slot-low _ _ _ _ (st .pre .1) (st .args .h .0) (k .unpacked .result) (k .unpacked .ensures))

@@ -44,9 +44,11 @@ drain-requires c κs = let st = c .before .before .before .before .before .befor
 returns-5 : tie.Need-returns-5
 returns-5 c =
     let st = c .before .before .before .before .before .before .before .before .before .before .before .before .before .before in
-    let d = c .drain .ensures .0 (state st) (st .pre .0 .whole) in
-    (λ g q. works-as (st .args .f) 0x0f frame.drain g (c .before .before .before .before .if5 .taken) (is-drain (st .args .f) (c .before .before .before .before .if5 .taken)) q
-    (drain-works _ _ _ _ (st .pre .0) _ (c .drain .result) _ (d .0) (d .1) (d .2) (c .drain .ensures .1 .1) (c .drain .ensures .1 .2)), c .drain .ensures .1 .1)
+    let d = c .drain .ensures .0 (state st) (st .pre .0 .whole) in (
+      λ g q. works-as (st .args .f) 0x0f frame.drain g (c .before .before .before .before .if5 .taken) (is-drain (st .args .f) (c .before .before .before .before .if5 .taken)) q
+          (drain-works _ _ _ _ (st .pre .0) _ (c .drain .result) _ (d .0) (d .1) (d .2) (c .drain .ensures .1 .1) (c .drain .ensures .1 .2)),
+      c .drain .ensures .1 .1,
+    )
 
 cell-step-requires : tie.Need-cell-step-requires
 cell-step-requires c κs = let st = c .before .before .before .before .before .before .before .before .before .before .before .before .before .before .before .before in ((state st, st .pre .0), omega (arith, c .before .before .before .before .before .before .before .before .if4 .left, c .before .before .before .before .before .before .if5 .left))

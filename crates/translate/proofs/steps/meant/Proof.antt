@@ -3,19 +3,13 @@ use native.Mathlib.Omega.{arith}
 use mathlib.Core.Path.{_≡_, refl, sym, ap, subst, _∙_}
 use Rattle.rules.specs.Frames as frame
 use Rattle.rules.specs.Sizes.{base}
-use mathlib.Core.List.{[]}
 use Rattle.scopes.specs.View.{view}
-use Rattle.scopes.specs.declared.Scopes.{Scopes}
-use Rattle.scopes.proofs.Finds.{numbered-none, numbered-is, numbered-small}
+use Rattle.scopes.proofs.Finds.{numbered-none, numbered-is, number-small}
 use Rattle.translate.specs.Steps.{onNumbered}
 use Rattle.translate.proofs.Meant.{meant-is, meant-none}
 use borrow.Author.Needs.{needs}
 use Rattle.translate.proofs.steps.meant.Statement.{statement}
 use Rattle.translate.proofs.steps.meant.Tie as tie
-
--- some state: the index of a scope is below 64 in any
-anyone : Scopes
-anyone = record { halves = []; links = []; owner = []; live = []; dangled = []; parent = []; number = []; bindings = []; count = 0; segments = 0; head = 0; top = 0; counter = 0; size = 0 }
 
 with-number-requires : tie.Need-with-number-requires
 with-number-requires c κs = search needs
@@ -28,7 +22,7 @@ returns c = λ s.
     record { is = meant-is (view t) (w .before .args .n) _ e; nowhere = λ q. refl }
 
 cast-t7 : tie.Need-cast-t7
-cast-t7 c = let w = c .before in omega (arith, numbered-small (onNumbered anyone (w .before .args .live .now) (w .before .args .number .now)) (w .before .args .n) _ (w .with-number .ensures) (c .if1 .left))
+cast-t7 c = let w = c .before in omega (arith, number-small (w .before .args .live .now) (w .before .args .number .now) (w .before .args .n) _ (w .with-number .ensures) (c .if1 .left))
 
 returns-2 : tie.Need-returns-2
 returns-2 c = λ s.

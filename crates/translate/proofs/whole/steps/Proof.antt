@@ -1,5 +1,5 @@
 -- `steps` meets its contract: `Going` holds before each frame, of the state that is made of the local arrays. Assumes nothing.
-use mathlib.Core.Path.{sym, _∙_}
+use mathlib.Core.Path.{_≡_, sym, _∙_}
 use Prim.Native.Nat.{_-_}
 use native.Mathlib.Omega.{arith}
 use lib.ListN.{length}
@@ -23,6 +23,16 @@ abbrev μ-loop : tie.MeasureT-loop
 abbrev reached : tie.After-step Inv-loop μ-loop → Reached
 reached c = record { state = made (c .step .last .0) (c .step .last .1 .0) (c .step .last .1 .1 .0) (c .step .last .1 .1 .1 .0) (c .step .last .1 .1 .1 .1 .0) (c .step .last .1 .1 .1 .1 .1 .0) (c .step .last .1 .1 .1 .1 .1 .1 .0) (c .step .last .1 .1 .1 .1 .1 .1 .1 .0) (c .step .result .numbers); handed = c .step .result .handed; adds = c .step .result .adds }
 
+-- facts of the types that lie far back where the loop begins
+parent-length : (c : tie.After-parent Inv-loop μ-loop) → length (c .before .before .before .before .before .before .fresh .result .parent) ≡ 64
+parent-length c = search needs
+
+number-length : (c : tie.After-number Inv-loop μ-loop) → length (c .before .before .before .before .before .before .before .fresh .result .number) ≡ 64
+number-length c = search needs
+
+bindings-length : (c : tie.After-bindings Inv-loop μ-loop) → length (c .before .before .before .before .before .before .before .before .fresh .result .bindings) ≡ 256
+bindings-length c = search needs
+
 fresh-requires : tie.Need-fresh-requires Inv-loop μ-loop
 fresh-requires c κs = tt
 
@@ -34,7 +44,7 @@ loop-holds c =
     let f = c .before .before .before .before .before .before .before .before .before in
     let a = f .before .before .before in
     going-fresh (a .args .script .now) (a .args .page .now) (f .fresh .result) (a .pre .0) (f .fresh .ensures .0)
-    (record { sound = f .fresh .ensures .1; sized = record { halves = search needs; links = search needs; owner = search needs; live = search needs; dangled = search needs; parent = search needs; number = search needs; bindings = search needs } })
+    (record { sound = f .fresh .ensures .1; sized = record { halves = search needs; links = search needs; owner = search needs; live = search needs; dangled = search needs; parent = parent-length (c .before .before .before); number = number-length (c .before .before); bindings = bindings-length (c .before) } })
     (c .numbers-of .result) (c .numbers-of .ensures)
 
 frame-at-requires : tie.Need-frame-at-requires Inv-loop μ-loop
