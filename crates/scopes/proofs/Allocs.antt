@@ -23,10 +23,11 @@ use Rattle.slots.proofs.Steps.{insert-within, insert-none, insert-some}
 use Rattle.links.specs.Links.{Held, leaves, gains}
 use Rattle.scopes.specs.View.{held, index, view, scopeOf, foundAt, at, atFirst, told}
 use Rattle.scopes.specs.Sound.{Slotted, Sound, Sized}
+use Rattle.scopes.specs.Lent.{Whole}
 use Rattle.scopes.specs.declared.Scopes.{Scopes}
 use Rattle.scopes.specs.declared.Reply.the-variants.{Empty, Refused}
 use Rattle.scopes.proofs.Finds.{no-top, Topped, Known}
-use Rattle.scopes.proofs.Places.{taken, at-64, live-is, sound}
+use Rattle.scopes.proofs.Places.{taken, at-64, live-is, sound, sized}
 
 -- ---- the slots as the rules' test sees them
 
@@ -70,11 +71,15 @@ module _ (s : Scopes) (h : Sound s) (k : ℕ) (hk : k < 64) (lk : getD (s .live)
             none = λ b lo hi. ap (λ (f : ℕ → Bool). f b) slot ∙ put-other (occ (s .halves)) a true b (omega arith) ∙ h .slotted .none b (omega arith) hi;
           }
 
-      pub alloc-gives : (record { next = view (taken s k a halves links segments (a / 128) size); says = at a } ≡ told at (view s) (rule.allocate (edition1 (base .segments)) (foundAt s k) 1 (view s)))
-          × Sound (taken s k a halves links segments (a / 128) size)
-      alloc-gives = (
+      pub alloc-gives : length halves ≡ 16 → length links ≡ 2178
+          → (record { next = view (taken s k a halves links segments (a / 128) size); says = at a } ≡ told at (view s) (rule.allocate (edition1 (base .segments)) (foundAt s k) 1 (view s)))
+          × Whole (taken s k a halves links segments (a / 128) size)
+      alloc-gives lh ll = (
         ap (told at (view s)) (sym rule-is),
-        sound s h z k hk lk a small clear halves links slot c segments (a / 128) size slotted (omega arith) (omega arith) (omega (arith, h .owned .most, small)),
+        record {
+          sound = sound s h z k hk lk a small clear halves links slot c segments (a / 128) size slotted (omega arith) (omega arith) (omega (arith, h .owned .most, small));
+          sized = sized s h z k hk lk a small clear halves links slot c segments (a / 128) size lh ll;
+        },
       )
 
 -- ---- which scope it is for

@@ -23,11 +23,12 @@ use Rattle.links.proofs.Walks.{without-first}
 use Rattle.scopes.specs.View.{held, index, view, bindingsOf, scopeOf, foundAt}
 use Rattle.scopes.specs.Sound.{Sound, Leads, root, up, Each, BoundOnce, Sized}
 use Rattle.scopes.specs.Leaves.{NoChild}
+use Rattle.scopes.specs.Lent.{Whole}
 use Rattle.scopes.specs.declared.Scopes.{Scopes}
 use Rattle.scopes.proofs.Tables.{put-ext, put-again}
 use Rattle.scopes.proofs.Finds.{in-range}
 use Rattle.scopes.proofs.Marks.{leads-live, parent-live}
-use Rattle.scopes.proofs.Frees.{released, removed, back-sound, back-live, back-lists}
+use Rattle.scopes.proofs.Frees.{released, released-sized, removed, back-sound, back-live, back-lists}
 
 -- ---- the first of a list
 
@@ -92,17 +93,12 @@ module _ (t : Scopes) (h : Sound t) (z : Sized t) (i a : ℕ) (hi : i < 64) (u :
       ap (λ (f : ℕ → Option rule.Scope). put f i none) (back-live t h z a i (u .small) hi (u .owner) halves slot links c) ∙ put-again (view t .live) i _ none in
       λ v. record { slots = s v; live = l v; top = index (getD (t .parent) i 0); counter = t .counter; bindings = rule.unbound i (view t .bindings); dangling = d v; size = t .size }
 
-  step-sized : length halves ≡ 16 → length links ≡ 2178 → Sized then
-  step-sized lh ll =
-      record { halves = lh; links = ll; owner = length-set (t .owner) a 64 ∙ z .owner; live = z .live; dangled = z .dangled; parent = z .parent; number = z .number; bindings = z .bindings }
-
 -- the loop: t has come from t₀, and a is next
 pub record Closing (i : ℕ) (t₀ t : Scopes) (a : ℕ) : Type 0 where
   pub at : Ahead (nextIn (t .links)) a (held (t .links) i) (1024 + i)
   pub sound : Sound t
   pub sized : Sized t
   pub live : getD (t .live) i false ≡ true
-  pub alone : NoChild (t .live) (t .parent) i
   pub closes : rule.closed (foundAt t i) (view t) ≡ rule.closed (foundAt t₀ i) (view t₀)
 
 module _ (i : ℕ) (t₀ t : Scopes) (a : ℕ) (hi : i < 64) (g : Closing i t₀ t a) (u : Turn t i a) (halves links : List ℕ) (lh : length halves ≡ 16) (ll : length links ≡ 2178)
@@ -115,9 +111,8 @@ module _ (i : ℕ) (t₀ t : Scopes) (a : ℕ) (hi : i < 64) (g : Closing i t₀
       record {
         at = at;
         sound = closing-sound;
-        sized = step-sized t (g .sound) (g .sized) i a hi u halves links slot c lh ll;
+        sized = released-sized t (g .sized) a 64 halves links lh ll;
         live = g .live;
-        alone = g .alone;
         closes = step-closes t (g .sound) (g .sized) i a hi u halves links slot c ∙ g .closes;
       }
 
@@ -196,7 +191,7 @@ module _ (t : Scopes) (h : Sound t) (z : Sized t) (i : ℕ) (hi : i < 64) (li : 
   still : (j : ℕ) → j ≢ i → getD (t .live) j false ≡ true → getD (set (t .live) i false) j false ≡ true
   still j n l = getD-set-other (t .live) i j false false n ∙ l
 
-  pub gone-sound : Sound (gone t i bindings count top)
+  gone-sound : Sound (gone t i bindings count top)
   gone-sound =
       record {
         slotted = h .slotted;
@@ -240,6 +235,22 @@ module _ (t : Scopes) (h : Sound t) (z : Sized t) (i : ℕ) (hi : i < 64) (li : 
       first : Dec (0 ≡ i) → getD (set (t .number) i 0) 0 0 ≡ 0
       first (yes e) = rw (← e) (getD-set-same (t .number) 0 0 0 (omega (arith, z .number)))
       first (no n) = getD-set-other (t .number) i 0 0 0 n ∙ h .rooted .first
+
+  pub gone-whole : length bindings ≡ 256 → Whole (gone t i bindings count top)
+  gone-whole lb =
+      record {
+        sound = gone-sound;
+        sized = record {
+          halves = z .halves;
+          links = z .links;
+          owner = z .owner;
+          live = length-set (t .live) i false ∙ z .live;
+          dangled = length-set (t .dangled) i false ∙ z .dangled;
+          parent = length-set (t .parent) i 64 ∙ z .parent;
+          number = length-set (t .number) i 0 ∙ z .number;
+          bindings = lb;
+        };
+      }
 
 -- ---- what the code reads fits
 

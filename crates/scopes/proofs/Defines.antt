@@ -7,7 +7,7 @@ use mathlib.Core.List.{List, [], _∷_, _++_, map, map-append}
 use Prim.Native.Nat.{ℕ, _+_, _≤_, _<_}
 use native.Mathlib.Numerals.{add-one}
 use native.Mathlib.Omega.{arith}
-use lib.ListN.{length, getD, set, take, length-map}
+use lib.ListN.{length, getD, set, take, length-map, length-set}
 use lib.Seq.{length-take-le, take-suc-set, getD-set-other}
 use lib.Dec.{leb}
 use borrow.Author.Tests.{le-leb, lt-leb}
@@ -15,8 +15,9 @@ use Rattle.rules.specs.Notation.{_>>=_, refuse_unless_, refuse_when_, isSome}
 use Rattle.rules.specs.Sizes.{base}
 use Rattle.rules.specs.Scopes as rule
 use Rattle.scopes.specs.View.{view, index, binding, bindingsOf, toldOnly, defined}
-use Rattle.scopes.specs.Sound.{Sound}
+use Rattle.scopes.specs.Sound.{Sound, Sized}
 use Rattle.scopes.specs.Leaves.{Spot}
+use Rattle.scopes.specs.Lent.{Whole}
 use Rattle.scopes.specs.declared.Scopes.{Scopes}
 use Rattle.scopes.specs.declared.Reply.the-variants.{Done, Refused}
 use Rattle.scopes.proofs.Tables.{and-false}
@@ -41,6 +42,9 @@ withBindings s bindings count =
       counter = s .counter;
       size = s .size;
     }
+
+pub sized-with : (s : Scopes) → Sized s → (bindings : List ℕ) (count : ℕ) → length bindings ≡ 256 → Sized (withBindings s bindings count)
+sized-with s z bindings count l = record { halves = z .halves; links = z .links; owner = z .owner; live = z .live; dangled = z .dangled; parent = z .parent; number = z .number; bindings = l }
 
 abbrev pub Rebound : Scopes → ℕ → List ℕ → ℕ → Type 0
 Rebound s b bindings count = bindingsOf bindings count ≡ rule.rebound (binding b) (bindingsOf (s .bindings) (s .count))
@@ -74,10 +78,10 @@ module _ (s : Scopes) (name address handle : ℕ) where
   unfolding _>>=_ refuse_unless_
   define-no-top e = rw (no-top s e)
 
-  module _ (h : Sound s) (t : Topped s) (b : ℕ) (is : binding b ≡ record { scope = s .top; name = name; address = address; handle = handle; moved = false }) (long : length (s .bindings) ≡ 256)
+  module _ (h : Sound s) (t : Topped s) (b : ℕ) (is : binding b ≡ record { scope = s .top; name = name; address = address; handle = handle; moved = false }) (z : Sized s)
       (r : ℕ) (p : Spot (s .bindings) (s .count) (s .top) name r) where
     len : length (bindingsOf (s .bindings) (s .count)) ≡ s .count
-    len = length-map (take (s .count) (s .bindings)) binding ∙ length-take-le (s .count) (s .bindings) (omega (arith, h .named .most))
+    len = length-map (take (s .count) (s .bindings)) binding ∙ length-take-le (s .count) (s .bindings) (omega (arith, h .named .most, z .bindings))
 
     for-scope : binding b .scope ≡ s .top
     for-scope = ap (λ (x : rule.Binding). x .scope) is
@@ -100,25 +104,31 @@ module _ (s : Scopes) (name address handle : ℕ) where
           says = Done;
         })
 
-    pub define-there : r < 256 → Told (withBindings s (set (s .bindings) r b) (s .count)) × Sound (withBindings s (set (s .bindings) r b) (s .count))
+    pub define-there : r < 256 → Told (withBindings s (set (s .bindings) r b) (s .count)) × Whole (withBindings s (set (s .bindings) r b) (s .count))
     define-there l =
         let f = p .there l in
         let q = f .replaced b for-scope for-name in (
           told (set (s .bindings) r b) (s .count) (rw (f .is, and-false)) q,
-          rebound-sound s h b alive (set (s .bindings) r b) (s .count) (h .named .most) q (set-clear s h r b (f .inside)),
+          record {
+            sound = rebound-sound s h b alive (set (s .bindings) r b) (s .count) (h .named .most) q (set-clear s h r b (f .inside));
+            sized = sized-with s z (set (s .bindings) r b) (s .count) (length-set (s .bindings) r b ∙ z .bindings);
+          },
         )
 
     at-end : 256 ≤ r → s .count < 256 → Rebound s b (set (s .bindings) (s .count) b) (s .count + 1)
     at-end l c =
         rw add-one
-        (ap (map binding) (take-suc-set (s .bindings) (s .count) b (omega arith)) ∙ map-append binding (take (s .count) (s .bindings)) (b ∷ []) ∙ sym (p .missing l .appended b for-scope for-name))
+        (ap (map binding) (take-suc-set (s .bindings) (s .count) b (omega (arith, z .bindings))) ∙ map-append binding (take (s .count) (s .bindings)) (b ∷ []) ∙ sym (p .missing l .appended b for-scope for-name))
 
-    pub define-new : 256 ≤ r → s .count ≢ 256 → Told (withBindings s (set (s .bindings) (s .count) b) (s .count + 1)) × Sound (withBindings s (set (s .bindings) (s .count) b) (s .count + 1))
+    pub define-new : 256 ≤ r → s .count ≢ 256 → Told (withBindings s (set (s .bindings) (s .count) b) (s .count + 1)) × Whole (withBindings s (set (s .bindings) (s .count) b) (s .count + 1))
     define-new l n =
         let c : s .count < 256 = omega (arith, h .named .most) in (
           told (set (s .bindings) (s .count) b) (s .count + 1) (rw (len, lt-leb 256 (s .count) c)) (at-end l c),
-          rebound-sound s h b alive (set (s .bindings) (s .count) b) (s .count + 1) (omega arith) (at-end l c)
-              (λ j a. getD-set-other (s .bindings) (s .count) j b 0 (omega arith) ∙ h .named .clear j (omega arith)),
+          record {
+            sound = rebound-sound s h b alive (set (s .bindings) (s .count) b) (s .count + 1) (omega arith) (at-end l c)
+                (λ j a. getD-set-other (s .bindings) (s .count) j b 0 (omega arith) ∙ h .named .clear j (omega arith));
+            sized = sized-with s z (set (s .bindings) (s .count) b) (s .count + 1) (length-set (s .bindings) (s .count) b ∙ z .bindings);
+          },
         )
 
     pub define-full : 256 ≤ r → s .count ≡ 256 → record { next = view s; says = Refused 9 } ≡ toldOnly (view s) (defined name address handle (view s))

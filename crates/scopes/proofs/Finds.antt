@@ -36,6 +36,9 @@ module _ (live : List Bool) (number : List ℕ) (i n r : ℕ) (e : r ≡ i) wher
   pub place-far : 64 ≤ r → 64 ≡ placeOf live number i n
   place-far a = subst (λ (x : ℕ). 64 ≡ placeOf live number x n) e (rw (le-ltb r 64 a, placeOf))
 
+pub number-small : (live : List Bool) (number : List ℕ) (n r : ℕ) → r ≡ lowest (hasNumber live number n) 0 → r ≢ 64 → r < 64
+number-small live number n r e q = omega (arith, low (hasNumber live number n) 0 (omega arith) r e .most)
+
 -- ---- the arrays' tests are the rules'
 
 module _ (s : Scopes) where
@@ -126,9 +129,6 @@ module _ (s : Scopes) where
 
     numbers : _≡_ {A = ℕ → Bool} (λ j. rule.hasNumber n (view s .live j)) (hasNumber (s .live) (s .number) n)
     numbers = λ t j. has-number n j t
-
-    pub numbered-small : r ≢ 64 → r < 64
-    numbered-small q = omega (arith, lw .most)
 
     pub numbered-none : r ≡ 64 → Refused 4 ≡ replied (λ (k : rule.Found). opened (rule.idOf k)) (refuse 4 unless (rule.byNumber base (view s) n))
     unfolding rule.byNumber base refuse_unless_

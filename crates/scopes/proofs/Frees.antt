@@ -23,6 +23,7 @@ use Rattle.links.proofs.Walks.{chains-lists}
 use Rattle.links.proofs.Moves.{Tells, told-on, leaves-tells, places-tells}
 use Rattle.scopes.specs.View.{held, index, view, scopeOf, foundAt, toldOnly}
 use Rattle.scopes.specs.Sound.{Slotted, Ringed, Sound, Sized}
+use Rattle.scopes.specs.Lent.{Whole}
 use Rattle.scopes.specs.declared.Scopes.{Scopes}
 use Rattle.scopes.specs.declared.Reply.the-variants.{Done, Refused}
 use Rattle.scopes.proofs.Finds.{no-top, Topped, in-range}
@@ -47,6 +48,10 @@ released s a o halves links =
       counter = s .counter;
       size = s .size;
     }
+
+pub released-sized : (s : Scopes) → Sized s → (a o : ℕ) (halves links : List ℕ) → length halves ≡ 16 → length links ≡ 2178 → Sized (released s a o halves links)
+released-sized s z a o halves links lh ll =
+    record { halves = lh; links = ll; owner = length-set (s .owner) a o ∙ z .owner; live = z .live; dangled = z .dangled; parent = z .parent; number = z .number; bindings = z .bindings }
 
 -- a number that is no address is on no list
 pub far : (links owner : List ℕ) (a i : ℕ) → Ringed links owner → 1024 ≤ a → i < 65 → member a (held links i) ≡ false
@@ -159,17 +164,20 @@ module _ (s : Scopes) (h : Sound s) (z : Sized s) (a k : ℕ) (ha : a < 1024) (h
         now links 64 (omega arith) (omega arith) _ c told-there back-k back-other 64 (omega arith) ∙ back-64,
       )
 
-      pub gives-back : (dangles : Bool) → dangles ≡ true → s .top ≡ k → Topped s
-          → (record { next = view (released s a 64 halves links); says = Done } ≡ toldOnly (view s) (giveBack dangles a (view s))) × Sound (released s a 64 halves links)
-      gives-back dangles e et top = (rule-is links 64 (omega arith) (omega arith) _ c told-there back-k back-other dangles et top (back-64 ∙ rw e), back-sound)
+      pub gives-back : length halves ≡ 16 → length links ≡ 2178 → (dangles : Bool) → dangles ≡ true → s .top ≡ k → Topped s
+          → (record { next = view (released s a 64 halves links); says = Done } ≡ toldOnly (view s) (giveBack dangles a (view s))) × Whole (released s a 64 halves links)
+      gives-back lh ll dangles e et top = (
+        rule-is links 64 (omega arith) (omega arith) _ c told-there back-k back-other dangles et top (back-64 ∙ rw e),
+        record { sound = back-sound; sized = released-sized s z a 64 halves links lh ll },
+      )
 
     -- ---- to none
 
-    pub gives-quietly : (links : List ℕ) → Held 1024 65 links (leaves a (held (s .links))) → (dangles : Bool) → dangles ≡ false → s .top ≡ k → Topped s
-        → (record { next = view (released s a 65 halves links); says = Done } ≡ toldOnly (view s) (giveBack dangles a (view s))) × Sound (released s a 65 halves links)
-    gives-quietly links c dangles e et top =
+    pub gives-quietly : (links : List ℕ) → Held 1024 65 links (leaves a (held (s .links))) → length halves ≡ 16 → length links ≡ 2178 → (dangles : Bool) → dangles ≡ false → s .top ≡ k → Topped s
+        → (record { next = view (released s a 65 halves links); says = Done } ≡ toldOnly (view s) (giveBack dangles a (view s))) × Whole (released s a 65 halves links)
+    gives-quietly links c lh ll dangles e et top =
         let t = leaves-tells 1024 65 (owners (s .owner)) (held (s .links)) (h .ringed .tells) a ha 65 (omega arith) in
         let other : (j : ℕ) → j < 64 → j ≢ k → leaves a (held (s .links)) j ≡ held (s .links) j = λ j hj n. unowned j (omega arith) n in (
           rule-is links 65 (omega arith) (omega arith) _ c t refl other dangles et top (unowned 64 (omega arith) (omega arith) ∙ rw e),
-          sound links 65 (omega arith) (omega arith) _ c t refl other,
+          record { sound = sound links 65 (omega arith) (omega arith) _ c t refl other; sized = released-sized s z a 65 halves links lh ll },
         )

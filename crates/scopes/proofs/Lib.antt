@@ -16,3 +16,4 @@ pub mod Closes
 pub mod Pops
 pub mod Drains
 pub mod Unique
+pub mod Wraps

@@ -6,21 +6,22 @@ use mathlib.Core.Option.{Option, none, some}
 use mathlib.Core.List.{List}
 use Prim.Native.Nat.{ℕ, zero, suc, _+_, _-_, _/_, _%_, _≤_, _<_}
 use native.Mathlib.Omega.{arith}
-use lib.ListN.{getD, set}
+use lib.ListN.{getD, set, length-set}
 use borrow.Author.Tests.{lt-ltb, le-ltb, eq-eqb, ne-eqb}
 use Rattle.rules.specs.Notation.{Answer, given, refused, _>>=_, refuse_unless_, refuse_when_}
 use Rattle.rules.specs.Sizes.{base}
 use Rattle.rules.specs.Scopes as rule
 use Rattle.scopes.specs.View.{held, view, index, onlyIf, scopeAt, scopesFrom, binding, bindingsOf, bound, told}
-use Rattle.scopes.specs.Sound.{Sound}
+use Rattle.scopes.specs.Sound.{Sound, Sized}
 use Rattle.scopes.specs.Leaves.{There, Spot, spotted, Climbs}
+use Rattle.scopes.specs.Lent.{Whole}
 use Rattle.scopes.specs.declared.Scopes.{Scopes}
 use Rattle.scopes.specs.declared.Reply.{Reply}
 use Rattle.scopes.specs.declared.Reply.the-variants.{Found, Refused}
 use Rattle.scopes.specs.declared.Bound.{Bound}
 use Rattle.scopes.proofs.Finds.{no-top, Topped}
 use Rattle.scopes.proofs.Bindings.{marked-moved, each-bound}
-use Rattle.scopes.proofs.Defines.{withBindings, Rebound, rebound-sound, set-clear}
+use Rattle.scopes.proofs.Defines.{withBindings, sized-with, Rebound, rebound-sound, set-clear}
 
 spotted-some : (bindings : List ℕ) (r : ℕ) → r < 256 → spotted bindings r ≡ some (binding (getD bindings r 0))
 spotted-some bindings r l = rw (lt-ltb r 256 l, spotted)
@@ -118,13 +119,16 @@ module _ (s : Scopes) (name : ℕ) where
           alive : getD (s .live) (binding b .scope) false ≡ true
           alive = each-bound (λ x. getD (s .live) (x .scope) false ≡ true) (there .0) name (binding b) (bindingsOf (s .bindings) (s .count)) (there .1 .is) (h .named .alive)
 
-          pub take-sound : Sound (withBindings s (set (s .bindings) r (b + 1)) (s .count))
-          take-sound =
-              rebound-sound s h (b + 1)
-              (subst (λ (x : rule.Binding). getD (s .live) (x .scope) false ≡ true) (sym (marked-moved b e)) alive)
-              (set (s .bindings) r (b + 1)) (s .count) (h .named .most) replaced (set-clear s h r (b + 1) (there .1 .inside))
+          take-whole : Sized s → Whole (withBindings s (set (s .bindings) r (b + 1)) (s .count))
+          take-whole z =
+              record {
+                sound = rebound-sound s h (b + 1)
+                    (subst (λ (x : rule.Binding). getD (s .live) (x .scope) false ≡ true) (sym (marked-moved b e)) alive)
+                    (set (s .bindings) r (b + 1)) (s .count) (h .named .most) replaced (set-clear s h r (b + 1) (there .1 .inside));
+                sized = sized-with s z (set (s .bindings) r (b + 1)) (s .count) (length-set (s .bindings) r (b + 1) ∙ z .bindings);
+              }
 
-          pub take-found : record { next = view (withBindings s (set (s .bindings) r (b + 1)) (s .count)); says = bound (binding b) } ≡ told bound (view s) (rule.takeName base name (view s))
+          take-found : record { next = view (withBindings s (set (s .bindings) r (b + 1)) (s .count)); says = bound (binding b) } ≡ told bound (view s) (rule.takeName base name (view s))
           unfolding rule.takeName _>>=_
           take-found =
               let n = replaced ∙ ap (λ (x : rule.Binding). rule.rebound x (bindingsOf (s .bindings) (s .count))) (marked-moved b e) in
@@ -132,6 +136,13 @@ module _ (s : Scopes) (name : ℕ) where
                 next = record { slots = view s .slots; live = view s .live; top = index (s .top); counter = s .counter; bindings = n u; dangling = view s .dangling; size = s .size };
                 says = bound (binding b);
               })
+
+          pub take-moves : Sized s → (m : ℕ) → m ≡ b + 1 → (says : Reply) → says ≡ bound (binding b)
+              → (record { next = view (withBindings s (set (s .bindings) r m) (s .count)); says = says } ≡ told bound (view s) (rule.takeName base name (view s))) × Whole (withBindings s (set (s .bindings) r m) (s .count))
+          take-moves z m em says es =
+              subst
+              (λ (x : ℕ). (record { next = view (withBindings s (set (s .bindings) r x) (s .count)); says = says } ≡ told bound (view s) (rule.takeName base name (view s))) × Whole (withBindings s (set (s .bindings) r x) (s .count)))
+              (sym em) ((λ u. record { next = view (withBindings s (set (s .bindings) r (b + 1)) (s .count)); says = es u }) ∙ take-found, take-whole z)
 
   -- take refuses what get refuses
   pub take-refused : (n : ℕ) → rule.getName base name (view s) ≡ refused n → record { next = view s; says = Refused n } ≡ told bound (view s) (rule.takeName base name (view s))

@@ -8,14 +8,15 @@ use Prim.Native.Nat.{ℕ, _≤_, _<_}
 use native.Mathlib.Decide.{ℕ-discrete}
 use native.Mathlib.Omega.{arith}
 use lib.Dec.{eqb}
-use lib.ListN.{length, getD, set}
+use lib.ListN.{length, getD, set, length-set}
 use lib.Seq.{getD-set-same, getD-set-other}
 use borrow.Author.Tests.{lt-ltb, eq-eqb, ne-eqb}
 use Rattle.rules.specs.Notation.{_>>=_, refuse_unless_, refuse_when_, put}
 use Rattle.rules.specs.Scopes as rule
 use Rattle.rules.proofs.Tells.{clash}
 use Rattle.scopes.specs.View.{held, index, view, scopeOf, toldOnly}
-use Rattle.scopes.specs.Sound.{Sound, Rooted, Leads, root, up}
+use Rattle.scopes.specs.Sound.{Sound, Rooted, Leads, root, up, Sized}
+use Rattle.scopes.specs.Lent.{Whole}
 use Rattle.scopes.specs.declared.Scopes.{Scopes}
 use Rattle.scopes.specs.declared.Reply.the-variants.{Done, Refused}
 use Rattle.scopes.proofs.Tables.{put-ext}
@@ -83,6 +84,10 @@ module _ (s : Scopes) (h : Sound s) (i : ℕ) (hi : i < 64) (li : getD (s .live)
         named = h .named;
       }
 
+marked-sized : (s : Scopes) → Sized s → (i : ℕ) (b : Bool) (top : ℕ) → Sized (marked s i b top)
+marked-sized s z i b top =
+    record { halves = z .halves; links = z .links; owner = z .owner; live = z .live; dangled = length-set (s .dangled) i b ∙ z .dangled; parent = z .parent; number = z .number; bindings = z .bindings }
+
 module _ (s : Scopes) (o : Option rule.Found) where
   pub dangle-none : o ≡ none → record { next = view s; says = Refused 4 } ≡ toldOnly (view s) (rule.dangleScope o (view s))
   unfolding rule.dangleScope _>>=_ refuse_unless_
@@ -109,31 +114,31 @@ module _ (s : Scopes) (o : Option rule.Found) where
     unfolding rule.restoreScope _>>=_ refuse_unless_ refuse_when_
     restore-root d e = rw (k .is, d, eq-eqb i 0 e)
 
-    module _ (h : Sound s) (ld : length (s .dangled) ≡ 64) (ll : length (s .live) ≡ 64) (nz : i ≢ 0) where
+    module _ (h : Sound s) (z : Sized s) (nz : i ≢ 0) where
       pub dangle-marks : getD (s .dangled) i false ≡ false → (p : ℕ) → p ≡ getD (s .parent) i 0
-          → (record { next = view (marked s i true p); says = Done } ≡ toldOnly (view s) (rule.dangleScope o (view s))) × Sound (marked s i true p)
+          → (record { next = view (marked s i true p); says = Done } ≡ toldOnly (view s) (rule.dangleScope o (view s))) × Whole (marked s i true p)
       unfolding rule.dangleScope rule.setScope _>>=_ refuse_unless_ refuse_when_
       dangle-marks d p ep =
-          let l = live-is s h i (k .small) (k .live) ld true p in
-          let z : (getD (s .dangled) i false || eqb i 0) ≡ false = rw (d, ne-eqb i 0 nz) in
+          let l = live-is s h i (k .small) (k .live) (z .dangled) true p in
+          let y : (getD (s .dangled) i false || eqb i 0) ≡ false = rw (d, ne-eqb i 0 nz) in
           let q : getD (s .live) p false ≡ true = subst (λ (x : ℕ). getD (s .live) x false ≡ true) (sym ep) (parent-live s h i (k .live) nz) in (
-            rw (k .is, z) (λ u. record {
+            rw (k .is, y) (λ u. record {
               next = record { slots = view s .slots; live = l u; top = index (ep u); counter = s .counter; bindings = view s .bindings; dangling = view s .dangling; size = s .size };
               says = Done;
             }),
-            marked-sound s h i (k .small) (k .live) ld true p (in-range s ll p q) q,
+            record { sound = marked-sound s h i (k .small) (k .live) (z .dangled) true p (in-range s (z .live) p q) q; sized = marked-sized s z i true p },
           )
 
       pub restore-unmarks : getD (s .dangled) i false ≡ true
-          → (record { next = view (marked s i false i); says = Done } ≡ toldOnly (view s) (rule.restoreScope o (view s))) × Sound (marked s i false i)
+          → (record { next = view (marked s i false i); says = Done } ≡ toldOnly (view s) (rule.restoreScope o (view s))) × Whole (marked s i false i)
       unfolding rule.restoreScope rule.setScope _>>=_ refuse_unless_ refuse_when_
       restore-unmarks d =
-          let l = live-is s h i (k .small) (k .live) ld false i in
-          let z : (not (getD (s .dangled) i false) || eqb i 0) ≡ false = rw (d, ne-eqb i 0 nz) in
+          let l = live-is s h i (k .small) (k .live) (z .dangled) false i in
+          let y : (not (getD (s .dangled) i false) || eqb i 0) ≡ false = rw (d, ne-eqb i 0 nz) in
           let x : index i ≡ some i = rw (lt-ltb i 64 (k .small), index) in (
-            rw (k .is, z) (λ u. record {
+            rw (k .is, y) (λ u. record {
               next = record { slots = view s .slots; live = l u; top = x u; counter = s .counter; bindings = view s .bindings; dangling = view s .dangling; size = s .size };
               says = Done;
             }),
-            marked-sound s h i (k .small) (k .live) ld false i (k .small) (k .live),
+            record { sound = marked-sound s h i (k .small) (k .live) (z .dangled) false i (k .small) (k .live); sized = marked-sized s z i false i },
           )

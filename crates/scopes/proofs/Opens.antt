@@ -7,7 +7,7 @@ use mathlib.Core.List.{List, [], _∷_}
 use Prim.Native.Nat.{ℕ, _+_, _%_, _≤_, _<_}
 use native.Mathlib.Decide.{ℕ-discrete}
 use native.Mathlib.Omega.{arith}
-use lib.ListN.{length, getD, set}
+use lib.ListN.{length, getD, set, length-set}
 use lib.Seq.{getD-set-same, getD-set-other}
 use borrow.Author.Tests.{lt-ltb, ne-eqb, not-true}
 use Rattle.rules.specs.Notation.{_>>=_, refuse_unless_, isSome, put, first}
@@ -17,7 +17,8 @@ use Rattle.rules.specs.Scopes as rule
 use Rattle.rules.proofs.Sets.{member-same}
 use Rattle.rules.proofs.Tells.{clash}
 use Rattle.scopes.specs.View.{held, index, bindingsOf, view, opened, told}
-use Rattle.scopes.specs.Sound.{Sound, Leads, root, up, Each}
+use Rattle.scopes.specs.Sound.{Sound, Leads, root, up, Each, Sized}
+use Rattle.scopes.specs.Lent.{Whole}
 use Rattle.scopes.specs.Leaves.{lowest, isFree}
 use Rattle.scopes.specs.declared.Scopes.{Scopes}
 use Rattle.scopes.specs.declared.Reply.the-variants.{Refused}
@@ -102,11 +103,11 @@ module _ (s : Scopes) where
       dead : getD (s .live) i false ≡ false
       dead = not-true _ (f .at below)
 
-      module _ (n : ℕ) (en : n ≡ (s .counter + 1) % 4294967296) (ll : length (s .live) ≡ 64) (lp : length (s .parent) ≡ 64) (ln : length (s .number) ≡ 64) where
+      module _ (n : ℕ) (en : n ≡ (s .counter + 1) % 4294967296) (z : Sized s) where
         new : view (withChild s i n) .live ≡ put (view s .live) i (some (rule.newScope (s .counter) (index (s .top))))
         new =
             put-ext _ _ i _
-            (rw (getD-set-same (s .live) i true false (omega (arith, below)), getD-set-same (s .parent) i (s .top) 0 (omega (arith, below)), getD-set-same (s .number) i (s .counter) 0 (omega (arith, below)), owns-none s h i below dead, h .rooted .dead i below dead .0))
+            (rw (getD-set-same (s .live) i true false (omega (arith, below, z .live)), getD-set-same (s .parent) i (s .top) 0 (omega (arith, below, z .parent)), getD-set-same (s .number) i (s .counter) 0 (omega (arith, below, z .number)), owns-none s h i below dead, h .rooted .dead i below dead .0))
             (λ j q. rw (getD-set-other (s .live) i j true false q, getD-set-other (s .parent) i j (s .top) 0 q, getD-set-other (s .number) i j (s .counter) 0 q))
 
         pub child-rule : record { next = view (withChild s i n); says = opened (record { index = i; number = s .counter }) } ≡ told opened (view s) (rule.openChild base (view s))
@@ -119,12 +120,12 @@ module _ (s : Scopes) where
               says = opened (record { index = i; number = s .counter });
             })
 
-        pub child-sound : Sound (withChild s i n)
+        child-sound : Sound (withChild s i n)
         child-sound =
             record {
               slotted = h .slotted;
               ringed = h .ringed;
-              owned = record { taken = h .owned .taken; alive = λ a ha l. raised (s .live) i _ (omega (arith, below)) (h .owned .alive a ha l); above = h .owned .above; most = h .owned .most };
+              owned = record { taken = h .owned .taken; alive = λ a ha l. raised (s .live) i _ (omega (arith, below, z .live)) (h .owned .alive a ha l); above = h .owned .above; most = h .owned .most };
               rooted = record {
                 topped = inl (below, here);
                 leads = λ j l. leads j l (ℕ-discrete j i);
@@ -134,19 +135,35 @@ module _ (s : Scopes) where
               };
               named = record {
                 most = h .named .most;
-                alive = each-map (λ b l. raised (s .live) i (b .scope) (omega (arith, below)) l) (bindingsOf (s .bindings) (s .count)) (h .named .alive);
+                alive = each-map (λ b l. raised (s .live) i (b .scope) (omega (arith, below, z .live)) l) (bindingsOf (s .bindings) (s .count)) (h .named .alive);
                 once = h .named .once;
                 clear = h .named .clear;
               };
             }
           where
             here : getD (set (s .live) i true) i false ≡ true
-            here = getD-set-same (s .live) i true false (omega (arith, below))
+            here = getD-set-same (s .live) i true false (omega (arith, below, z .live))
 
             leads : (j : ℕ) → getD (set (s .live) i true) j false ≡ true → Dec (j ≡ i) → Leads (set (s .live) i true) (set (s .parent) i (s .top)) j
             leads j l (yes e) =
                 subst (λ (x : ℕ). Leads (set (s .live) i true) (set (s .parent) i (s .top)) x) (sym e)
                 (up (omega (arith, f .above)) here
-                (subst (λ (x : ℕ). Leads (set (s .live) i true) (set (s .parent) i (s .top)) x) (sym (getD-set-same (s .parent) i (s .top) 0 (omega (arith, below))))
+                (subst (λ (x : ℕ). Leads (set (s .live) i true) (set (s .parent) i (s .top)) x) (sym (getD-set-same (s .parent) i (s .top) 0 (omega (arith, below, z .parent))))
                 (leads-on (s .live) (s .parent) i (s .top) dead (h .rooted .leads (s .top) (t .live)))))
             leads j l (no q) = leads-on (s .live) (s .parent) i (s .top) dead (h .rooted .leads j (sym (getD-set-other (s .live) i j true false q) ∙ l))
+
+        pub child-whole : Whole (withChild s i n)
+        child-whole =
+            record {
+              sound = child-sound;
+              sized = record {
+                halves = z .halves;
+                links = z .links;
+                owner = z .owner;
+                live = length-set (s .live) i true ∙ z .live;
+                dangled = z .dangled;
+                parent = length-set (s .parent) i (s .top) ∙ z .parent;
+                number = length-set (s .number) i (s .counter) ∙ z .number;
+                bindings = z .bindings;
+              };
+            }

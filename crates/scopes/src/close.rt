@@ -1,23 +1,21 @@
-// Scopes are closed: by id, and root at the end.
+// Scopes are closed: by id, and root at the end: `lent::close` by value.
 ghost use mathlib.Core.Path.{_≡_};
-ghost use mathlib.Core.Bool.{true, false};
-ghost use Prim.Native.Nat.{ℕ, _<_};
-ghost use lib.ListN.{getD};
 ghost use Rattle.rules.specs.Sizes.{base};
 ghost use Rattle.rules.specs.Scopes as rule;
-ghost use Rattle.scopes.specs.View.{view, idOf, foundAt, seen, toldOnly};
+ghost use Rattle.scopes.specs.View.{view, idOf, seen, toldOnly};
 ghost use Rattle.scopes.specs.Sound.{Sound};
-ghost use Rattle.scopes.specs.Leaves.{lowest, childOf, NoChild};
+ghost use Rattle.scopes.specs.Leaves.{lowest, childOf};
+ghost use Rattle.scopes.specs.Lent.{made};
+use crate::LentOutcome;
 use crate::Outcome;
-use crate::Reply;
 use crate::ScopeId;
 use crate::Scopes;
-use crate::names;
+use crate::lent::close as lent;
+use crate::numbers_of;
 use crate::open;
-use slots::halves;
 
 // The lowest live scope whose parent is i, or 64.
-fn child_of<'a>(live: &'a [bool; 64], parent: &'a [u8; 64], i: usize) -> usize
+pub fn child_of<'a>(live: &'a [bool; 64], parent: &'a [u8; 64], i: usize) -> usize
     ensures { λ r. ⌜ r ≡ lowest (childOf (now (live .entry)) (now (parent .entry)) i) 0 ⌝ }
 {
     let mut j: usize = 0;
@@ -33,30 +31,43 @@ fn child_of<'a>(live: &'a [bool; 64], parent: &'a [u8; 64], i: usize) -> usize
     64
 }
 
-// Scope i, which is live and has no live child, is closed. Its addresses go to the dangling list in order.
-fn close(s: Scopes, i: usize) -> Scopes
-    requires { ⌜ Sound s × (i < 64) × (getD (s .live) i false ≡ true) × NoChild (s .live) (s .parent) i ⌝ }
-    ensures { λ r. ⌜ (view r ≡ rule.closed (foundAt s i) (view s)) × Sound r ⌝ }
+// ---- by value
+
+// The outcome for the whole state, where all its arrays were lent.
+fn made(
+    halves: [u64; 16],
+    links: [u16; 2178],
+    owner: [u8; 1024],
+    live: [bool; 64],
+    dangled: [bool; 64],
+    parent: [u8; 64],
+    number: [u32; 64],
+    bindings: [u64; 256],
+    o: LentOutcome,
+) -> Outcome
+    ensures { λ r. ⌜ r ≡ record { state = made halves links owner live dangled parent number bindings (o .numbers); reply = o .reply } ⌝ }
 {
-    let mut t = s;
-    let e = 1024 + i;
-    let mut a = links::first(&t.links, i);
-    while a != e {
-        halves::vacate(&mut t.halves, a);
-        links::place(&mut t.links, 64, a);
-        t.owner[a] = 64;
-        t.head = a / 128;
-        a = links::first(&t.links, i);
+    let n = o.numbers;
+    let reply = o.reply;
+    Outcome {
+        state: Scopes {
+            halves,
+            links,
+            owner,
+            live,
+            dangled,
+            parent,
+            number,
+            bindings,
+            count: n.count,
+            segments: n.segments,
+            head: n.head,
+            top: n.top,
+            counter: n.counter,
+            size: n.size,
+        },
+        reply,
     }
-    let count = t.count;
-    t.count = names::forget_names(&mut t.bindings, count, i);
-    let up = open::wide8(t.parent[i]);
-    t.live[i] = false;
-    t.dangled[i] = false;
-    t.parent[i] = 64;
-    t.number[i] = 0;
-    t.top = up;
-    t
 }
 
 // pop s: 4, 5 and 6 are looked at first.
@@ -64,37 +75,38 @@ pub fn pop(s: Scopes, id: ScopeId) -> Outcome
     requires { ⌜ Sound s ⌝ }
     ensures { λ r. ⌜ (seen r ≡ toldOnly (view s) (rule.popScope base (rule.byId base (view s) (idOf id)) (view s))) × Sound (r .state) ⌝ }
 {
-    let i = open::place_of(&s.live, &s.number, id);
-    if i == 64 {
-        return Outcome {
-            state: s,
-            reply: Reply::Refused(4),
-        };
-    }
-    if s.dangled[i] {
-        return Outcome {
-            state: s,
-            reply: Reply::Refused(5),
-        };
-    }
-    if i == 0 {
-        return Outcome {
-            state: s,
-            reply: Reply::Refused(5),
-        };
-    }
-    let k = child_of(&s.live, &s.parent, i);
-    if k < 64 {
-        return Outcome {
-            state: s,
-            reply: Reply::Refused(6),
-        };
-    }
-    let t = close(s, i);
-    Outcome {
-        state: t,
-        reply: Reply::Done,
-    }
+    let n = numbers_of(s);
+    let mut halves = s.halves;
+    let mut links = s.links;
+    let mut owner = s.owner;
+    let mut live = s.live;
+    let mut dangled = s.dangled;
+    let mut parent = s.parent;
+    let mut number = s.number;
+    let mut bindings = s.bindings;
+    let o = lent::pop(
+        &mut halves,
+        &mut links,
+        &mut owner,
+        &mut live,
+        &mut dangled,
+        &mut parent,
+        &mut number,
+        &mut bindings,
+        n,
+        id,
+    );
+    made(
+        halves,
+        links,
+        owner,
+        live,
+        dangled,
+        parent,
+        number,
+        bindings,
+        o,
+    )
 }
 
 // pop last: root is closed; then there is no top.
@@ -102,23 +114,35 @@ pub fn pop_last(s: Scopes) -> Outcome
     requires { ⌜ Sound s ⌝ }
     ensures { λ r. ⌜ (seen r ≡ toldOnly (view s) (rule.popLastScope base (view s))) × Sound (r .state) ⌝ }
 {
-    let top = s.top;
-    if top == 64 {
-        return Outcome {
-            state: s,
-            reply: Reply::Refused(3),
-        };
-    }
-    let k = child_of(&s.live, &s.parent, 0);
-    if k < 64 {
-        return Outcome {
-            state: s,
-            reply: Reply::Refused(6),
-        };
-    }
-    let t = close(s, 0);
-    Outcome {
-        state: t,
-        reply: Reply::Done,
-    }
+    let n = numbers_of(s);
+    let mut halves = s.halves;
+    let mut links = s.links;
+    let mut owner = s.owner;
+    let mut live = s.live;
+    let mut dangled = s.dangled;
+    let mut parent = s.parent;
+    let mut number = s.number;
+    let mut bindings = s.bindings;
+    let o = lent::pop_last(
+        &mut halves,
+        &mut links,
+        &mut owner,
+        &mut live,
+        &mut dangled,
+        &mut parent,
+        &mut number,
+        &mut bindings,
+        n,
+    );
+    made(
+        halves,
+        links,
+        owner,
+        live,
+        dangled,
+        parent,
+        number,
+        bindings,
+        o,
+    )
 }

@@ -1,4 +1,4 @@
-// The dangling list is handed out.
+// The dangling list is handed out: `lent::drain` by value.
 ghost use mathlib.Core.Path.{_≡_};
 ghost use Prim.Native.Nat.{ℕ, _≤_};
 ghost use lib.ListN.{length, getD, take};
@@ -6,6 +6,7 @@ ghost use Rattle.rules.specs.Scopes as rule;
 ghost use Rattle.scopes.specs.View.{view};
 ghost use Rattle.scopes.specs.Sound.{Sound};
 use crate::Scopes;
+use crate::lent::drain as lent;
 
 pub struct Drained {
     pub state: Scopes,
@@ -18,15 +19,11 @@ pub fn drain(s: Scopes, out: &mut [u16; 1024]) -> Drained
     ensures { λ r. ⌜ (view (r .state) ≡ rule.drainDangling (view s) .1) × (take (r .count) (now (out .exit)) ≡ rule.drainDangling (view s) .0) × Sound (r .state) ⌝ }
     ensures { λ r. ⌜ ((k : ℕ) → r .count ≤ k → getD (now (out .exit)) k 0 ≡ getD (now (out .entry)) k 0) × (length (now (out .exit)) ≡ 1024) × (r .count ≤ 1024) ⌝ }
 {
+    let mut links = s.links;
+    let mut owner = s.owner;
+    let count = lent::drain(&mut links, &mut owner, out);
     let mut t = s;
-    let mut n: usize = 0;
-    let mut a = links::first(&t.links, 64);
-    while a != 1088 {
-        out[n] = a as u16;
-        n += 1;
-        links::unlink(&mut t.links, a);
-        t.owner[a] = 65;
-        a = links::first(&t.links, 64);
-    }
-    Drained { state: t, count: n }
+    t.links = links;
+    t.owner = owner;
+    Drained { state: t, count }
 }

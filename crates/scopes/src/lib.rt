@@ -1,9 +1,10 @@
 // The allocator state, by value: scopes, their slots and their names. Beside the original's scopes.rs.
 // `open` opens, dangles and restores scopes, `place` gives slots and takes them back, `close` pops, `names` binds and finds names,
-// `drain` hands out the dangling list.
+// `drain` hands out the dangling list. Their work is done in `lent`, in modules of the same names, over the state's arrays where they stand.
 
 pub mod close;
 pub mod drain;
+pub mod lent;
 pub mod names;
 pub mod open;
 pub mod place;
@@ -12,6 +13,7 @@ ghost use mathlib.Core.Path.{_≡_};
 ghost use Rattle.rules.specs.Scopes.{freshScopes};
 ghost use Rattle.scopes.specs.View.{view};
 ghost use Rattle.scopes.specs.Sound.{Sound};
+ghost use Rattle.scopes.specs.Lent.{numbersOf};
 use slots::SlotAddress;
 
 pub struct HandleNumber(pub u16);
@@ -39,6 +41,16 @@ pub struct Scopes {
     pub size: usize,
 }
 
+// The numbers of a state: they go in and come back by value where the arrays are lent.
+pub struct Numbers {
+    pub count: usize,
+    pub segments: usize,
+    pub head: usize,
+    pub top: usize,
+    pub counter: u32,
+    pub size: usize,
+}
+
 // What a name is bound to.
 pub struct Bound {
     pub address: SlotAddress,
@@ -57,6 +69,25 @@ pub enum Reply {
 pub struct Outcome {
     pub state: Scopes,
     pub reply: Reply,
+}
+
+// An outcome where the arrays are lent.
+pub struct LentOutcome {
+    pub numbers: Numbers,
+    pub reply: Reply,
+}
+
+pub fn numbers_of(s: Scopes) -> Numbers
+    ensures { λ r. ⌜ r ≡ numbersOf s ⌝ }
+{
+    Numbers {
+        count: s.count,
+        segments: s.segments,
+        head: s.head,
+        top: s.top,
+        counter: s.counter,
+        size: s.size,
+    }
 }
 
 // Root alone is live, and is the top.

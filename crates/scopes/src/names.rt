@@ -1,18 +1,23 @@
-// Names are bound in the top scope, and looked for from there up to root.
+// Names are bound in the top scope, and looked for from there up to root: the leaves, and `lent::names` by value.
 ghost use mathlib.Core.Path.{_≡_};
 ghost use mathlib.Core.Bool.{false};
-ghost use Prim.Native.Nat.{ℕ, _≤_, _<_};
+ghost use mathlib.Core.Logic.{_≢_};
+ghost use Prim.Native.Nat.{ℕ, _+_, _%_, _≤_, _<_};
 ghost use lib.ListN.{length, getD};
 ghost use Rattle.rules.specs.Sizes.{base};
 ghost use Rattle.rules.specs.Scopes as rule;
 ghost use Rattle.scopes.specs.View.{view, binding, bindingsOf, bound, defined, seen, told, toldOnly, replied};
 ghost use Rattle.scopes.specs.Sound.{Sound};
+ghost use Rattle.scopes.specs.Lent.{withNames};
 ghost use Rattle.scopes.specs.Leaves.{Spot, Climbs, Wiped};
 use crate::Bound;
 use crate::HandleNumber;
+use crate::LentOutcome;
 use crate::Outcome;
 use crate::Reply;
 use crate::Scopes;
+use crate::lent::names as lent;
+use crate::numbers_of;
 use crate::open::wide8;
 use slots::SlotAddress;
 
@@ -70,7 +75,7 @@ pub fn lookup<'a>(
 }
 
 // What a binding says.
-fn bound_of(b: u64) -> Bound
+pub fn bound_of(b: u64) -> Bound
     ensures { λ r. ⌜ (r .address .0 ≡ binding b .address) × (r .handle .0 ≡ binding b .handle) ⌝ }
 {
     Bound {
@@ -79,62 +84,16 @@ fn bound_of(b: u64) -> Bound
     }
 }
 
-// get: the nearest binding of the name, from the top up to root.
-pub fn get(s: Scopes, name: u16) -> Reply
-    requires { ⌜ Sound s ⌝ }
-    ensures { λ r. ⌜ r ≡ replied bound (rule.getName base name (view s)) ⌝ }
+// An unmoved binding, marked moved.
+pub fn moved(b: u64) -> u64
+    requires { ⌜ b % 2 ≢ 1 ⌝ }
+    ensures { λ r. ⌜ r ≡ b + 1 ⌝ }
 {
-    let top = s.top;
-    if top == 64 {
-        return Reply::Refused(3);
-    }
-    let j = lookup(&s.live, &s.parent, &s.bindings, s.count, name, top, 64);
-    if 256 <= j {
-        return Reply::Refused(10);
-    }
-    let b = s.bindings[j];
-    if b % 2 == 1 {
-        return Reply::Refused(11);
-    }
-    Reply::Found(bound_of(b))
-}
-
-// take: the same, and the binding is marked moved where it stands.
-pub fn take(s: Scopes, name: u16) -> Outcome
-    requires { ⌜ Sound s ⌝ }
-    ensures { λ r. ⌜ (seen r ≡ told bound (view s) (rule.takeName base name (view s))) × Sound (r .state) ⌝ }
-{
-    let top = s.top;
-    if top == 64 {
-        return Outcome {
-            state: s,
-            reply: Reply::Refused(3),
-        };
-    }
-    let j = lookup(&s.live, &s.parent, &s.bindings, s.count, name, top, 64);
-    if 256 <= j {
-        return Outcome {
-            state: s,
-            reply: Reply::Refused(10),
-        };
-    }
-    let b = s.bindings[j];
-    if b % 2 == 1 {
-        return Outcome {
-            state: s,
-            reply: Reply::Refused(11),
-        };
-    }
-    let mut t = s;
-    t.bindings[j] = b + 1;
-    Outcome {
-        state: t,
-        reply: Reply::Found(bound_of(b)),
-    }
+    b + 1
 }
 
 // A binding in one number.
-fn packed(i: usize, name: u16, address: SlotAddress, handle: HandleNumber) -> u64
+pub fn packed(i: usize, name: u16, address: SlotAddress, handle: HandleNumber) -> u64
     requires { ⌜ i < 64 ⌝ }
     ensures { λ r. ⌜ binding r ≡ record { scope = i; name = name; address = address .0; handle = handle .0; moved = false } ⌝ }
 {
@@ -143,47 +102,10 @@ fn packed(i: usize, name: u16, address: SlotAddress, handle: HandleNumber) -> u6
     key * 8589934592 + place
 }
 
-// define: binds in the top, replacing an equal name there and its moved mark.
-pub fn define(s: Scopes, name: u16, address: SlotAddress, handle: HandleNumber) -> Outcome
-    requires { ⌜ Sound s ⌝ }
-    ensures { λ r. ⌜ (seen r ≡ toldOnly (view s) (defined name (address .0) (handle .0) (view s))) × Sound (r .state) ⌝ }
-{
-    let top = s.top;
-    let count = s.count;
-    if top == 64 {
-        return Outcome {
-            state: s,
-            reply: Reply::Refused(3),
-        };
-    }
-    let j = find(&s.bindings, count, top, name);
-    let b = packed(top, name, address, handle);
-    let mut t = s;
-    if j < 256 {
-        t.bindings[j] = b;
-        return Outcome {
-            state: t,
-            reply: Reply::Done,
-        };
-    }
-    if count == 256 {
-        return Outcome {
-            state: s,
-            reply: Reply::Refused(9),
-        };
-    }
-    t.bindings[count] = b;
-    t.count = count + 1;
-    Outcome {
-        state: t,
-        reply: Reply::Done,
-    }
-}
-
 // The bindings of scope i go; the others keep their order. How many are left.
 pub fn forget_names(bindings: &mut [u64; 256], count: usize, i: usize) -> usize
     requires { ⌜ (count ≤ 256) × (length (now bindings) ≡ 256) ⌝ }
-    ensures { λ r. ⌜ (r ≤ count) × (bindingsOf (now (bindings .exit)) r ≡ rule.unbound i (bindingsOf (now (bindings .entry)) count)) ⌝ }
+    ensures { λ r. ⌜ (r ≤ count) × (bindingsOf (now (bindings .exit)) r ≡ rule.unbound i (bindingsOf (now (bindings .entry)) count)) × (length (now (bindings .exit)) ≡ 256) ⌝ }
     ensures { λ r. ⌜ (((j : ℕ) → count ≤ j → getD (now (bindings .entry)) j 0 ≡ 0) → (j : ℕ) → r ≤ j → getD (now (bindings .exit)) j 0 ≡ 0) ⌝ }
 {
     let mut w: usize = 0;
@@ -210,4 +132,54 @@ fn wipe(bindings: &mut [u64; 256], from: usize, to: usize)
         bindings[j] = 0;
         j += 1;
     }
+}
+
+// ---- by value
+
+// The outcome for the whole state, where its bindings were lent.
+fn with_names(s: Scopes, bindings: [u64; 256], o: LentOutcome) -> Outcome
+    ensures { λ r. ⌜ r ≡ record { state = withNames s bindings (o .numbers); reply = o .reply } ⌝ }
+{
+    let n = o.numbers;
+    let reply = o.reply;
+    let mut t = s;
+    t.bindings = bindings;
+    t.count = n.count;
+    t.segments = n.segments;
+    t.head = n.head;
+    t.top = n.top;
+    t.counter = n.counter;
+    t.size = n.size;
+    Outcome { state: t, reply }
+}
+
+// get: the nearest binding of the name, from the top up to root.
+pub fn get(s: Scopes, name: u16) -> Reply
+    requires { ⌜ Sound s ⌝ }
+    ensures { λ r. ⌜ r ≡ replied bound (rule.getName base name (view s)) ⌝ }
+{
+    let n = numbers_of(s);
+    lent::get(&s.live, &s.parent, &s.bindings, n, name)
+}
+
+// take: the same, and the binding is marked moved where it stands.
+pub fn take(s: Scopes, name: u16) -> Outcome
+    requires { ⌜ Sound s ⌝ }
+    ensures { λ r. ⌜ (seen r ≡ told bound (view s) (rule.takeName base name (view s))) × Sound (r .state) ⌝ }
+{
+    let n = numbers_of(s);
+    let mut bindings = s.bindings;
+    let o = lent::take(&s.live, &s.parent, &mut bindings, n, name);
+    with_names(s, bindings, o)
+}
+
+// define: binds in the top, replacing an equal name there and its moved mark.
+pub fn define(s: Scopes, name: u16, address: SlotAddress, handle: HandleNumber) -> Outcome
+    requires { ⌜ Sound s ⌝ }
+    ensures { λ r. ⌜ (seen r ≡ toldOnly (view s) (defined name (address .0) (handle .0) (view s))) × Sound (r .state) ⌝ }
+{
+    let n = numbers_of(s);
+    let mut bindings = s.bindings;
+    let o = lent::define(&mut bindings, n, name, address, handle);
+    with_names(s, bindings, o)
 }

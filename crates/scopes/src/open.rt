@@ -1,4 +1,4 @@
-// Scopes are opened, dangled and restored, and looked up by id or by number.
+// Scopes are opened, dangled and restored, and looked up by id or by number: the leaves, and `lent::open` by value.
 ghost use mathlib.Core.Path.{_≡_};
 ghost use Prim.Native.Nat.{ℕ, _<_};
 ghost use Rattle.rules.specs.Notation.{refuse_unless_};
@@ -6,11 +6,15 @@ ghost use Rattle.rules.specs.Sizes.{base};
 ghost use Rattle.rules.specs.Scopes as rule;
 ghost use Rattle.scopes.specs.View.{view, idOf, opened, seen, told, toldOnly, replied};
 ghost use Rattle.scopes.specs.Sound.{Sound};
+ghost use Rattle.scopes.specs.Lent.{withScopes};
 ghost use Rattle.scopes.specs.Leaves.{lowest, isFree, hasNumber, placeOf};
+use crate::LentOutcome;
 use crate::Outcome;
 use crate::Reply;
 use crate::ScopeId;
 use crate::Scopes;
+use crate::lent::open as lent;
+use crate::numbers_of;
 
 pub fn wide8(x: u8) -> usize
     ensures { λ r. ⌜ r ≡ x ⌝ }
@@ -63,39 +67,47 @@ pub fn place_of<'a>(live: &'a [bool; 64], number: &'a [u32; 64], id: ScopeId) ->
     64
 }
 
+// ---- by value
+
+// The outcome for the whole state, where the arrays of its scopes were lent.
+fn with_scopes(
+    s: Scopes,
+    live: [bool; 64],
+    dangled: [bool; 64],
+    parent: [u8; 64],
+    number: [u32; 64],
+    o: LentOutcome,
+) -> Outcome
+    ensures { λ r. ⌜ r ≡ record { state = withScopes s live dangled parent number (o .numbers); reply = o .reply } ⌝ }
+{
+    let n = o.numbers;
+    let reply = o.reply;
+    let mut t = s;
+    t.live = live;
+    t.dangled = dangled;
+    t.parent = parent;
+    t.number = number;
+    t.count = n.count;
+    t.segments = n.segments;
+    t.head = n.head;
+    t.top = n.top;
+    t.counter = n.counter;
+    t.size = n.size;
+    Outcome { state: t, reply }
+}
+
 // child: the parent is the top; the new scope becomes the top.
 pub fn child(s: Scopes) -> Outcome
     requires { ⌜ Sound s ⌝ }
     ensures { λ r. ⌜ (seen r ≡ told opened (view s) (rule.openChild base (view s))) × Sound (r .state) ⌝ }
 {
-    let top = s.top;
-    if top == 64 {
-        return Outcome {
-            state: s,
-            reply: Reply::Refused(3),
-        };
-    }
-    let i = free_index(&s.live);
-    if i == 64 {
-        return Outcome {
-            state: s,
-            reply: Reply::Refused(8),
-        };
-    }
-    let n = s.counter;
-    let mut t = s;
-    t.live[i] = true;
-    t.parent[i] = top as u8;
-    t.number[i] = n;
-    t.top = i;
-    t.counter = std::num::wrapping_add_u32(n, 1);
-    Outcome {
-        state: t,
-        reply: Reply::Opened(ScopeId {
-            index: i as u8,
-            number: n,
-        }),
-    }
+    let n = numbers_of(s);
+    let mut live = s.live;
+    let dangled = s.dangled;
+    let mut parent = s.parent;
+    let mut number = s.number;
+    let o = lent::child(&mut live, &mut parent, &mut number, n);
+    with_scopes(s, live, dangled, parent, number, o)
 }
 
 // dangle s: marks it; top becomes its parent.
@@ -103,32 +115,13 @@ pub fn dangle(s: Scopes, id: ScopeId) -> Outcome
     requires { ⌜ Sound s ⌝ }
     ensures { λ r. ⌜ (seen r ≡ toldOnly (view s) (rule.dangleScope (rule.byId base (view s) (idOf id)) (view s))) × Sound (r .state) ⌝ }
 {
-    let i = place_of(&s.live, &s.number, id);
-    if i == 64 {
-        return Outcome {
-            state: s,
-            reply: Reply::Refused(4),
-        };
-    }
-    if s.dangled[i] {
-        return Outcome {
-            state: s,
-            reply: Reply::Refused(5),
-        };
-    }
-    if i == 0 {
-        return Outcome {
-            state: s,
-            reply: Reply::Refused(5),
-        };
-    }
-    let mut t = s;
-    t.dangled[i] = true;
-    t.top = wide8(s.parent[i]);
-    Outcome {
-        state: t,
-        reply: Reply::Done,
-    }
+    let n = numbers_of(s);
+    let live = s.live;
+    let mut dangled = s.dangled;
+    let parent = s.parent;
+    let number = s.number;
+    let o = lent::dangle(&live, &mut dangled, &parent, &number, n, id);
+    with_scopes(s, live, dangled, parent, number, o)
 }
 
 // restore s: unmarks it; top becomes s.
@@ -136,32 +129,13 @@ pub fn restore(s: Scopes, id: ScopeId) -> Outcome
     requires { ⌜ Sound s ⌝ }
     ensures { λ r. ⌜ (seen r ≡ toldOnly (view s) (rule.restoreScope (rule.byId base (view s) (idOf id)) (view s))) × Sound (r .state) ⌝ }
 {
-    let i = place_of(&s.live, &s.number, id);
-    if i == 64 {
-        return Outcome {
-            state: s,
-            reply: Reply::Refused(4),
-        };
-    }
-    if !s.dangled[i] {
-        return Outcome {
-            state: s,
-            reply: Reply::Refused(5),
-        };
-    }
-    if i == 0 {
-        return Outcome {
-            state: s,
-            reply: Reply::Refused(5),
-        };
-    }
-    let mut t = s;
-    t.dangled[i] = false;
-    t.top = i;
-    Outcome {
-        state: t,
-        reply: Reply::Done,
-    }
+    let n = numbers_of(s);
+    let live = s.live;
+    let mut dangled = s.dangled;
+    let parent = s.parent;
+    let number = s.number;
+    let o = lent::restore(&live, &mut dangled, &number, n, id);
+    with_scopes(s, live, dangled, parent, number, o)
 }
 
 // A script names a scope by its number: the id of the one that is meant.
@@ -169,12 +143,5 @@ pub fn numbered(s: Scopes, n: u32) -> Reply
     requires { ⌜ Sound s ⌝ }
     ensures { λ r. ⌜ r ≡ replied (λ k. opened (rule.idOf k)) (refuse 4 unless (rule.byNumber base (view s) n)) ⌝ }
 {
-    let i = with_number(&s.live, &s.number, n);
-    if i == 64 {
-        return Reply::Refused(4);
-    }
-    Reply::Opened(ScopeId {
-        index: i as u8,
-        number: n,
-    })
+    lent::numbered(&s.live, &s.number, n)
 }

@@ -1,47 +1,43 @@
-// Slots are given to scopes, and go back.
+// Slots are given to scopes, and go back: `lent::place` by value.
 ghost use mathlib.Core.Path.{_≡_};
-ghost use mathlib.Core.Bool.{true, false};
-ghost use Prim.Native.Nat.{ℕ, _+_, _≤_, _<_};
-ghost use lib.ListN.{getD};
-ghost use Rattle.rules.specs.Notation.{pastLast};
 ghost use Rattle.rules.specs.Sizes.{base};
 ghost use Rattle.rules.specs.Slots.{edition1};
 ghost use Rattle.rules.specs.Scopes as rule;
 ghost use Rattle.rules.specs.Needs.{giveBack};
-ghost use Rattle.slots.specs.Halves.{occ};
-ghost use Rattle.scopes.specs.View.{view, idOf, foundAt, at, atFirst, seen, told, toldOnly, runFor};
+ghost use Rattle.scopes.specs.View.{view, idOf, at, atFirst, seen, told, toldOnly};
 ghost use Rattle.scopes.specs.Sound.{Sound};
+ghost use Rattle.scopes.specs.Lent.{withSlots};
+use crate::LentOutcome;
 use crate::Outcome;
-use crate::Reply;
 use crate::ScopeId;
 use crate::Scopes;
-use crate::open;
+use crate::lent::place as lent;
+use crate::numbers_of;
 use slots::SlotAddress;
-use slots::halves;
 
-// A slot for scope k, which is live.
-fn alloc_at(s: Scopes, k: usize) -> Outcome
-    requires { ⌜ Sound s × (k < 64) × (getD (s .live) k false ≡ true) ⌝ }
-    ensures { λ r. ⌜ (seen r ≡ told at (view s) (rule.allocate (edition1 (base .segments)) (foundAt s k) 1 (view s))) × Sound (r .state) ⌝ }
+// The outcome for the whole state, where the arrays of its slots were lent.
+fn with_slots(
+    s: Scopes,
+    halves: [u64; 16],
+    links: [u16; 2178],
+    owner: [u8; 1024],
+    o: LentOutcome,
+) -> Outcome
+    ensures { λ r. ⌜ r ≡ record { state = withSlots s halves links owner (o .numbers); reply = o .reply } ⌝ }
 {
-    let a = halves::first_clear(&s.halves, halves::least(s.head, s.segments));
-    if a == 1024 {
-        return Outcome {
-            state: s,
-            reply: Reply::Refused(7),
-        };
-    }
+    let n = o.numbers;
+    let reply = o.reply;
     let mut t = s;
-    halves::occupy(&mut t.halves, a);
-    links::place(&mut t.links, k, a);
-    t.owner[a] = k as u8;
-    t.segments = halves::most(t.segments, a / 128 + 1);
-    t.head = a / 128;
-    t.size = halves::most(t.size, a + 1);
-    Outcome {
-        state: t,
-        reply: Reply::At(SlotAddress(a as u16)),
-    }
+    t.halves = halves;
+    t.links = links;
+    t.owner = owner;
+    t.count = n.count;
+    t.segments = n.segments;
+    t.head = n.head;
+    t.top = n.top;
+    t.counter = n.counter;
+    t.size = n.size;
+    Outcome { state: t, reply }
 }
 
 // alloc: a slot for the top.
@@ -49,14 +45,12 @@ pub fn alloc(s: Scopes) -> Outcome
     requires { ⌜ Sound s ⌝ }
     ensures { λ r. ⌜ (seen r ≡ told at (view s) (rule.allocTop (edition1 (base .segments)) (view s))) × Sound (r .state) ⌝ }
 {
-    let top = s.top;
-    if top == 64 {
-        return Outcome {
-            state: s,
-            reply: Reply::Refused(3),
-        };
-    }
-    alloc_at(s, top)
+    let n = numbers_of(s);
+    let mut halves = s.halves;
+    let mut links = s.links;
+    let mut owner = s.owner;
+    let o = lent::alloc(&mut halves, &mut links, &mut owner, n);
+    with_slots(s, halves, links, owner, o)
 }
 
 // alloc in s: a slot for the scope with this id.
@@ -64,69 +58,33 @@ pub fn alloc_in(s: Scopes, id: ScopeId) -> Outcome
     requires { ⌜ Sound s ⌝ }
     ensures { λ r. ⌜ (seen r ≡ told at (view s) (rule.allocIn (edition1 (base .segments)) (rule.byId base (view s) (idOf id)) (view s))) × Sound (r .state) ⌝ }
 {
-    let i = open::place_of(&s.live, &s.number, id);
-    if i == 64 {
-        return Outcome {
-            state: s,
-            reply: Reply::Refused(4),
-        };
-    }
-    alloc_at(s, i)
+    let n = numbers_of(s);
+    let mut halves = s.halves;
+    let mut links = s.links;
+    let mut owner = s.owner;
+    let o = lent::alloc_in(
+        &mut halves,
+        &mut links,
+        &mut owner,
+        &s.live,
+        &s.number,
+        n,
+        id,
+    );
+    with_slots(s, halves, links, owner, o)
 }
 
-// The n slots from g on go to scope k, one push after another: g is one past the greatest occupied slot.
-fn push_run(s: Scopes, k: usize, g: usize, n: usize) -> Scopes
-    requires { ⌜ Sound s × (k < 64) × (getD (s .live) k false ≡ true) × (g ≡ pastLast (occ (s .halves)) 1024) × (g + n ≤ 1024) ⌝ }
-    ensures { λ r. ⌜ (view r ≡ runFor s k g n) × Sound r ⌝ }
-{
-    let end = g + n;
-    let mut t = s;
-    t.size = halves::most(t.size, end);
-    let mut a = g;
-    while a < end {
-        halves::occupy(&mut t.halves, a);
-        links::place(&mut t.links, k, a);
-        t.owner[a] = k as u8;
-        t.segments = halves::grown(t.segments, a);
-        a += 1;
-    }
-    t
-}
-
-// linear n: 0 gives an empty run, 1 acts as alloc, more are pushed. The room is looked at before anything changes.
-pub fn alloc_run(s: Scopes, n: u16) -> Outcome
+// linear: 0 gives an empty run, 1 acts as alloc, more are pushed.
+pub fn alloc_run(s: Scopes, many: u16) -> Outcome
     requires { ⌜ Sound s ⌝ }
-    ensures { λ r. ⌜ (seen r ≡ told atFirst (view s) (rule.allocRun (edition1 (base .segments)) n (view s))) × Sound (r .state) ⌝ }
+    ensures { λ r. ⌜ (seen r ≡ told atFirst (view s) (rule.allocRun (edition1 (base .segments)) many (view s))) × Sound (r .state) ⌝ }
 {
-    let top = s.top;
-    let many = n as usize;
-    if top == 64 {
-        return Outcome {
-            state: s,
-            reply: Reply::Refused(3),
-        };
-    }
-    if many == 0 {
-        return Outcome {
-            state: s,
-            reply: Reply::Empty,
-        };
-    }
-    if many == 1 {
-        return alloc_at(s, top);
-    }
-    let g = halves::past_greatest(&s.halves);
-    if 1024 < g + many {
-        return Outcome {
-            state: s,
-            reply: Reply::Refused(7),
-        };
-    }
-    let t = push_run(s, top, g, many);
-    Outcome {
-        state: t,
-        reply: Reply::At(SlotAddress(g as u16)),
-    }
+    let n = numbers_of(s);
+    let mut halves = s.halves;
+    let mut links = s.links;
+    let mut owner = s.owner;
+    let o = lent::alloc_run(&mut halves, &mut links, &mut owner, n, many);
+    with_slots(s, halves, links, owner, o)
 }
 
 // The slot a goes back, if top owns it; where it `dangles`, it is put on the dangling list.
@@ -134,47 +92,10 @@ pub fn give_back(s: Scopes, a: SlotAddress, dangles: bool) -> Outcome
     requires { ⌜ Sound s ⌝ }
     ensures { λ r. ⌜ (seen r ≡ toldOnly (view s) (giveBack dangles (a .0) (view s))) × Sound (r .state) ⌝ }
 {
-    let x = a.0 as usize;
-    let top = s.top;
-    if top == 64 {
-        return Outcome {
-            state: s,
-            reply: Reply::Refused(12),
-        };
-    }
-    if 1024 <= x {
-        return Outcome {
-            state: s,
-            reply: Reply::Refused(12),
-        };
-    }
-    if s.owner[x] as usize != top {
-        return Outcome {
-            state: s,
-            reply: Reply::Refused(12),
-        };
-    }
-    let t = release(s, x, dangles);
-    Outcome {
-        state: t,
-        reply: Reply::Done,
-    }
-}
-
-// The slot a, which the top owns, is clear then, and dangles or not.
-fn release(s: Scopes, a: usize, dangles: bool) -> Scopes
-    requires { ⌜ Sound s × (a < 1024) × (s .top < 64) × (getD (s .owner) a 0 ≡ s .top) ⌝ }
-    ensures { λ r. ⌜ (record { next = view r; says = Reply.Done } ≡ toldOnly (view s) (giveBack dangles a (view s))) × Sound r ⌝ }
-{
-    let mut t = s;
-    halves::vacate(&mut t.halves, a);
-    t.head = a / 128;
-    if dangles {
-        links::place(&mut t.links, 64, a);
-        t.owner[a] = 64;
-        return t;
-    }
-    links::unlink(&mut t.links, a);
-    t.owner[a] = 65;
-    t
+    let n = numbers_of(s);
+    let mut halves = s.halves;
+    let mut links = s.links;
+    let mut owner = s.owner;
+    let o = lent::give_back(&mut halves, &mut links, &mut owner, n, a, dangles);
+    with_slots(s, halves, links, owner, o)
 }

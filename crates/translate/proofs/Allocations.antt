@@ -20,15 +20,17 @@ use Rattle.rules.proofs.Tells.{tells-and, tells-lt, tells-true, clash}
 use Rattle.rules.proofs.Naming.{found-at}
 use Rattle.rules.proofs.Exact.{top-found}
 use Rattle.scopes.specs.View.{view, index, idOf, at, atFirst, Seen, seen, told}
-use Rattle.scopes.specs.Sound.{Sound}
+use Rattle.scopes.specs.Lent.{made, Whole}
 use Rattle.scopes.specs.declared.Scopes.{Scopes}
 use Rattle.scopes.specs.declared.ScopeId.{ScopeId}
+use Rattle.scopes.specs.declared.Numbers.{Numbers}
 use Rattle.scopes.specs.declared.Outcome.{Outcome}
 use Rattle.scopes.specs.declared.Reply.the-variants as reply
 use Rattle.needs.specs.Kinds.{kindOf}
 use Rattle.needs.specs.declared.AddressKind.{AddressKind}
 use Rattle.translate.specs.Handles.{stateOf}
-use Rattle.translate.specs.Steps.{stepped, nowhere, Few, Stands, Works, Grants}
+use Rattle.translate.specs.Steps.{stepped, Few, Stands, Works, Grants, Reached}
+use Rattle.translate.specs.declared.steps.Adds.{Adds}
 use Rattle.translate.specs.declared.steps.Adds.the-variants.{One, Refused}
 use Rattle.translate.specs.declared.steps.Stepped.{Stepped}
 use Rattle.translate.proofs.Meant.{no-scope-there}
@@ -71,7 +73,7 @@ module _ (s : Scopes) where
       ⊎-elim
       (λ l. top-found base (view s) (stands .state .scopes) (s .top) (ap (λ (b : Bool). elim b [ true ↦ some (s .top) | false ↦ none ]) (lt-ltb (s .top) 64 (l .0))))
       (λ l. absurd (ne (l .0)))
-      (stands .sound .rooted .topped)
+      (stands .whole .sound .rooted .topped)
 
 id-is : (c : rule.Scopes) (id : Id) (k : Found) → byId base c id ≡ some k → id ≡ rule.idOf k
 unfolding byId
@@ -89,6 +91,15 @@ id-is c id k e = go (ltb (id .index) (base .scopes) && rule.hasNumber (id .numbe
 abbrev runStart : ℕ × rule.Scopes → Option ℕ × rule.Scopes
 runStart r = (some (r .0), r .1)
 
+-- ---- what the code says of a step over lent arrays, as where it leads
+
+pub reached-is : {halves links owner : List ℕ} {live dangled : List Bool} {parent number bindings : List ℕ} {n : Numbers} {handed : ℕ} {adds : Adds} {r : Stepped} → r ≡ record { numbers = n; handed = handed; adds = adds }
+    → _≡_ {A = Reached} (record { state = made halves links owner live dangled parent number bindings (r .numbers); handed = r .handed; adds = r .adds }) (record { state = made halves links owner live dangled parent number bindings n; handed = handed; adds = adds })
+reached-is {halves} {links} {owner} {live} {dangled} {parent} {number} {bindings} e = λ t. record { state = made halves links owner live dangled parent number bindings (e t .numbers); handed = e t .handed; adds = e t .adds }
+
+pub made-is : {halves links owner : List ℕ} {live dangled : List Bool} {parent number bindings : List ℕ} {n m : Numbers} → n ≡ m → made halves links owner live dangled parent number bindings n ≡ made halves links owner live dangled parent number bindings m
+made-is {halves} {links} {owner} {live} {dangled} {parent} {number} {bindings} e = λ t. made halves links owner live dangled parent number bindings (e t)
+
 -- ---- refused, and granted
 
 module _ (s : Scopes) (handles holders : List ℕ) (handed : ℕ) (stands : Stands s handles holders handed) where
@@ -98,19 +109,19 @@ module _ (s : Scopes) (handles holders : List ℕ) (handed : ℕ) (stands : Stan
   abbrev standing : State
   standing = stateOf c handles holders handed
 
-  pub works-refused : (f : Frame) (op n : ℕ) (r : Stepped) → r ≡ record { state = s; handed = handed; adds = Refused n } → step base (edition1 (base .segments)) standing f ≡ refused n → (drained : List ℕ) → Works f op s handles holders handed r handles holders drained
+  pub works-refused : (f : Frame) (op n : ℕ) (r : Reached) → r ≡ record { state = s; handed = handed; adds = Refused n } → step base (edition1 (base .segments)) standing f ≡ refused n → (drained : List ℕ) → Works f op s handles holders handed r handles holders drained
   works-refused f op n r is e drained =
-      subst (λ (x : Stepped). Works f op s handles holders handed x handles holders drained) (sym is)
-      (record { does = e; sound = stands .sound; few = tt; handles-length = stands .handles-length; holders-length = stands .holders-length })
+      subst (λ (x : Reached). Works f op s handles holders handed x handles holders drained) (sym is)
+      (record { does = e; whole = stands .whole; few = tt; handles-length = stands .handles-length; holders-length = stands .holders-length })
 
-  pub works-granted : (f : Frame) (op : ℕ) (k : Found) (kind : AddressKind) (n : ℕ) (o : Outcome) (r : Stepped) (handles′ holders′ : List ℕ) → handed + n ≤ 2048
-      → seen o ≡ told at c (allocate (edition1 (base .segments)) k n c) → Sound (o .state) → Grants o handed n kind r handles handles′ holders holders′
+  pub works-granted : (f : Frame) (op : ℕ) (k : Found) (kind : AddressKind) (n : ℕ) (o : Outcome) (r : Reached) (handles′ holders′ : List ℕ) → handed + n ≤ 2048
+      → seen o ≡ told at c (allocate (edition1 (base .segments)) k n c) → Whole (o .state) → r .state ≡ o .state → Grants (o .reply) handed n kind (r .handed) (r .adds) handles handles′ holders holders′
       → step base (edition1 (base .segments)) standing f ≡ (allot base (edition1 (base .segments)) k (kindOf kind) n standing >>= λ x. oneLine (shows op (x .0 ∷ [])) (x .1))
       → (drained : List ℕ) → Works f op s handles holders handed r handles′ holders′ drained
-  works-granted f op k kind n o r handles′ holders′ fits e ok g q drained = record {
-    does = q ∙ allots s handles holders handed stands k kind n o r handles′ holders′ drained fits e g op;
-    sound = subst Sound (sym (g .state)) ok;
-    few = subst Few (sym (g .adds)) (few-reply (o .reply));
+  works-granted f op k kind n o r handles′ holders′ fits e ok same g q drained = record {
+    does = q ∙ allots s handles holders handed stands k kind n o r handles′ holders′ drained fits e same g op;
+    whole = subst Whole (sym same) ok;
+    few = subst Few (sym (g .says)) (few-reply (o .reply));
     handles-length = g .handles-length;
     holders-length = g .holders-length;
   }
@@ -180,7 +191,7 @@ module _ (s : Scopes) (handles holders : List ℕ) (handed : ℕ) (stands : Stan
   unfolding step
   linear-0 n e ne drained = record {
     does = ap (λ (m : ℕ). step base (edition1 (base .segments)) standing (linear m)) e ∙ unless-some 3 _ (has-top s stands ne .1);
-    sound = stands .sound;
+    whole = stands .whole;
     few = tt;
     handles-length = stands .handles-length;
     holders-length = stands .holders-length;

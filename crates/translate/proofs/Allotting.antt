@@ -31,9 +31,8 @@ use Rattle.scopes.specs.declared.Reply.the-variants as reply
 use Rattle.needs.specs.Kinds.{kindOf}
 use Rattle.needs.specs.declared.AddressKind.{AddressKind}
 use Rattle.translate.specs.Handles.{handleAt, stateOf, Hands}
-use Rattle.translate.specs.Steps.{stepped, addsOf, slotOr, Stands, Works, Grants}
+use Rattle.translate.specs.Steps.{stepped, addsOf, slotOr, Stands, Works, Grants, Reached}
 use Rattle.translate.specs.declared.steps.Adds.{Adds}
-use Rattle.translate.specs.declared.steps.Stepped.{Stepped}
 use Rattle.translate.proofs.Changes.{Granted, granting}
 
 -- ---- the slot that was answered
@@ -46,29 +45,27 @@ slot-at (reply.Opened i) l = absurd (omega arith)
 slot-at (reply.Found b) l = absurd (omega arith)
 slot-at (reply.Refused n) l = absurd (omega arith)
 
-module _ (o : Outcome) (n first : ℕ) (is : first ≡ slotOr (o .reply)) (low : (a : SlotAddress) → o .reply ≡ reply.At a → (a .0 < 1024) × (a .0 + n ≤ 1024)) where
+module _ (y : Reply) (n first : ℕ) (is : first ≡ slotOr y) (low : (a : SlotAddress) → y ≡ reply.At a → (a .0 < 1024) × (a .0 + n ≤ 1024)) where
   pub slot-fits : first < 1024 → first + n ≤ 1024
-  slot-fits l = omega (arith, low (record { 0 = slotOr (o .reply) }) (slot-at (o .reply) (omega arith)) .1)
+  slot-fits l = omega (arith, low (record { 0 = slotOr y }) (slot-at y (omega arith)) .1)
 
-  module _ (handed : ℕ) (kind : AddressKind) (adds : Adds) (says : adds ≡ addsOf (o .reply)) (handles handles′ holders holders′ : List ℕ) (long : length handles′ ≡ 2048) (long′ : length holders′ ≡ 1024) where
+  module _ (handed : ℕ) (kind : AddressKind) (adds : Adds) (says : adds ≡ addsOf y) (handles handles′ holders holders′ : List ℕ) (long : length handles′ ≡ 2048) (long′ : length holders′ ≡ 1024) where
     pub grants-at : first < 1024 → Hands handles handles′ holders holders′ handed n first (kindOf kind)
-        → Grants o handed n kind (record { state = o .state; handed = handed + n; adds = adds }) handles handles′ holders holders′
+        → Grants y handed n kind (handed + n) adds handles handles′ holders holders′
     grants-at l h = record {
-      state = refl;
-      adds = says;
+      says = says;
       hands = λ a e.
-          let s : o .reply ≡ at (slotOr (o .reply)) = slot-at (o .reply) (omega arith) in
-          let same : slotOr (o .reply) ≡ a .0 = cc in
+          let s : y ≡ at (slotOr y) = slot-at y (omega arith) in
+          let same : slotOr y ≡ a .0 = cc in
           (refl, subst (λ (x : ℕ). Hands handles handles′ holders holders′ handed n x (kindOf kind)) (is ∙ same) h);
       handles-length = long;
       holders-length = long′;
     }
 
-    pub grants-none : 1024 ≤ first → Grants o handed n kind (record { state = o .state; handed = handed; adds = adds }) handles handles′ holders holders′
+    pub grants-none : 1024 ≤ first → Grants y handed n kind handed adds handles handles′ holders holders′
     grants-none l = record {
-      state = refl;
-      adds = says;
-      hands = λ a e. absurd (let s : slotOr (o .reply) ≡ a .0 = ap slotOr e in omega (arith, low a e .0));
+      says = says;
+      hands = λ a e. absurd (let s : slotOr y ≡ a .0 = ap slotOr e in omega (arith, low a e .0));
       handles-length = long;
       holders-length = long′;
     }
@@ -112,8 +109,8 @@ module _ (s : Scopes) (handles holders : List ℕ) (handed : ℕ) (stands : Stan
           let says : o .reply ≡ reply.Refused m = ap (λ (z : Seen). z .says) (e ∙ ap (told at c) q) in
           absurd (let z : _≡_ {A = ℕ} 0 1 = cc in omega arith)
 
-  module _ (k : Found) (kind : AddressKind) (n : ℕ) (o : Outcome) (r : Stepped) (handles′ holders′ drained : List ℕ) (fits : handed + n ≤ 2048)
-      (e : seen o ≡ told at c (allocate (edition1 (base .segments)) k n c)) (g : Grants o handed n kind r handles handles′ holders holders′) where
+  module _ (k : Found) (kind : AddressKind) (n : ℕ) (o : Outcome) (r : Reached) (handles′ holders′ drained : List ℕ) (fits : handed + n ≤ 2048)
+      (e : seen o ≡ told at c (allocate (edition1 (base .segments)) k n c)) (same-state : r .state ≡ o .state) (g : Grants (o .reply) handed n kind (r .handed) (r .adds) handles handles′ holders holders′) where
     -- the rules' state after it is the code's
     granted-state : (x : ℕ × rule.Scopes) → allocate (edition1 (base .segments)) k n c ≡ given x → view (r .state) ≡ x .1 → o .reply ≡ at (x .0)
         → (standing ▹ scopes≔ (x .1) ▹ handles≔ (grant handed n (x .0) (kindOf kind) (standing .handles)) ▹ handed≔ (handed + n)) ≡ stateOf (view (r .state)) handles′ holders′ (r .handed)
@@ -135,18 +132,15 @@ module _ (s : Scopes) (handles holders : List ℕ) (handed : ℕ) (stands : Stan
         handed-out : ℕ × rule.Scopes → ℕ × State
         handed-out x = (x .0, standing ▹ scopes≔ (x .1) ▹ handles≔ (grant handed n (x .0) (kindOf kind) (standing .handles)) ▹ handed≔ (handed + n))
 
-        same-state : view (r .state) ≡ view (o .state)
-        same-state = ap view (g .state)
-
         go : (m : Answer (ℕ × rule.Scopes)) → allocate (edition1 8) k n c ≡ m
             → ((m >>= λ x. given (handed-out x)) >>= λ x. oneLine (shows op (x .0 ∷ [])) (x .1))
             ≡ stepped op (r .adds) (stateOf (view (r .state)) handles′ holders′ (r .handed)) drained
         go (given x) q =
             let z = e ∙ ap (told at c) q in
             let says : o .reply ≡ at (x .0) = ap (λ (y : Seen). y .says) z in
-            let adds : r .adds ≡ addsOf (at (x .0)) = g .adds ∙ ap addsOf says in
-            λ t. stepped op (sym adds t) (granted-state x q (same-state ∙ ap (λ (y : Seen). y .next) z) says t) drained
+            let adds : r .adds ≡ addsOf (at (x .0)) = g .says ∙ ap addsOf says in
+            λ t. stepped op (sym adds t) (granted-state x q (ap view same-state ∙ ap (λ (y : Seen). y .next) z) says t) drained
         go (refused m) q =
             let says : o .reply ≡ reply.Refused m = ap (λ (y : Seen). y .says) (e ∙ ap (told at c) q) in
-            let adds : r .adds ≡ addsOf (reply.Refused m) = g .adds ∙ ap addsOf says in
+            let adds : r .adds ≡ addsOf (reply.Refused m) = g .says ∙ ap addsOf says in
             λ t. stepped op (sym adds t) (stateOf (view (r .state)) handles′ holders′ (r .handed)) drained

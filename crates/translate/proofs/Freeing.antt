@@ -17,7 +17,7 @@ use Rattle.rules.proofs.Tells.{decided, clash, tells-and, tells-true, tells-eq}
 use Rattle.rules.proofs.Removing.{remove-stays, remove-clears}
 use Rattle.rules.proofs.Leaves.{back-leaves}
 use Rattle.scopes.specs.View.{view, Seen, seen, toldOnly}
-use Rattle.scopes.specs.Sound.{Sound}
+use Rattle.scopes.specs.Lent.{Whole}
 use Rattle.scopes.specs.declared.Scopes.{Scopes}
 use Rattle.scopes.specs.declared.Outcome.{Outcome}
 use Rattle.scopes.specs.declared.Reply.{Reply}
@@ -25,10 +25,9 @@ use Rattle.scopes.specs.declared.Reply.the-variants as reply
 use Rattle.needs.specs.Kinds.{kindOf}
 use Rattle.needs.specs.Leaves.{isDone}
 use Rattle.translate.specs.Handles.{slotIn, kindIn, handleAt, stateOf, Coded, freedAs}
-use Rattle.translate.specs.Steps.{stepped, addsOf, freeing, freeCode, Stands, Works}
+use Rattle.translate.specs.Steps.{stepped, addsOf, freeing, freeCode, Stands, Works, Reached}
 use Rattle.translate.specs.declared.handles.Handle.{Handle as Known}
 use Rattle.translate.specs.declared.steps.Adds.the-variants.{Nothing}
-use Rattle.translate.specs.declared.steps.Stepped.{Stepped}
 use Rattle.translate.proofs.Changes.{recoding, clearing}
 use Rattle.translate.proofs.Moving.{few-reply}
 use Rattle.translate.proofs.Allocations.{when-true, when-false, refused-on}
@@ -76,7 +75,7 @@ module _ (s : Scopes) (handles holders : List ℕ) (handed : ℕ) (stands : Stan
           chain dangles h standing
           ∙ given-on _ (branch false e)
           ∙ ap (oneLine (shows (freeCode dangles) [])) (set-freed s handles holders handed stands h x coded b new l known live);
-      sound = stands .sound;
+      whole = stands .whole;
       few = tt;
       handles-length = now-long s handles holders handed stands h x coded b (freedAs x) new refl known;
       holders-length = stands .holders-length;
@@ -143,12 +142,12 @@ module _ (s : Scopes) (handles holders : List ℕ) (handed : ℕ) (stands : Stan
               (λ t. record { scopes = d; handles = sym cleared t; handed = handed })
               ∙ λ t. record { scopes = q t; handles = handleAt (p t .occupied) (set handles h b) holders; handed = handed }
 
-          pub back-works : (o : Outcome) → seen o ≡ toldOnly c (giveBack dangles (x .address .slot .0) c) → Sound (o .state) → isDone (o .reply) ≡ true → (drained : List ℕ)
+          pub back-works : (o : Outcome) → seen o ≡ toldOnly c (giveBack dangles (x .address .slot .0) c) → Whole (o .state) → isDone (o .reply) ≡ true → (drained : List ℕ)
               → Works (freeing dangles h) (freeCode dangles) s handles holders handed (record { state = o .state; handed = handed; adds = Nothing }) (set handles h b) holders drained
           unfolding _>>=_
           back-works o e ok done drained = record {
             does = go (giveBack dangles at c) refl;
-            sound = ok;
+            whole = ok;
             few = tt;
             handles-length = now-long s handles holders handed stands h x coded b (freedAs x) new refl known;
             holders-length = stands .holders-length;
@@ -165,13 +164,13 @@ module _ (s : Scopes) (handles holders : List ℕ) (handed : ℕ) (stands : Stan
                   let says : o .reply ≡ reply.Refused n = ap (λ (y : Seen). y .says) (seen-there ∙ ap (toldOnly c) q) in
                   clash done (ap isDone says)
 
-        pub back-refused : (o : Outcome) → seen o ≡ toldOnly c (giveBack dangles (x .address .slot .0) c) → Sound (o .state) → isDone (o .reply) ≡ false
-            → (r : Stepped) → r ≡ record { state = o .state; handed = handed; adds = addsOf (o .reply) } → (drained : List ℕ)
+        pub back-refused : (o : Outcome) → seen o ≡ toldOnly c (giveBack dangles (x .address .slot .0) c) → Whole (o .state) → isDone (o .reply) ≡ false
+            → (r : Reached) → r ≡ record { state = o .state; handed = handed; adds = addsOf (o .reply) } → (drained : List ℕ)
             → Works (freeing dangles h) (freeCode dangles) s handles holders handed r handles holders drained
         unfolding _>>=_
         back-refused o e ok undone r is drained =
-            subst (λ (y : Stepped). Works (freeing dangles h) (freeCode dangles) s handles holders handed y handles holders drained) (sym is)
-            (record { does = go (giveBack dangles at c) refl; sound = ok; few = few-reply (o .reply); handles-length = stands .handles-length; holders-length = stands .holders-length })
+            subst (λ (y : Reached). Works (freeing dangles h) (freeCode dangles) s handles holders handed y handles holders drained) (sym is)
+            (record { does = go (giveBack dangles at c) refl; whole = ok; few = few-reply (o .reply); handles-length = stands .handles-length; holders-length = stands .holders-length })
           where
             seen-there : seen o ≡ toldOnly c (giveBack dangles at c)
             seen-there = e ∙ λ t. toldOnly c (giveBack dangles (sym (coded .slot) t) c)

@@ -28,7 +28,8 @@ use Rattle.rules.proofs.Demand3.{next-frame, no-frame}
 use Rattle.rules.proofs.Lengths.{line-length}
 use Rattle.rules.proofs.Pages.{owing, pays}
 use Rattle.scopes.specs.View.{view}
-use Rattle.scopes.specs.Sound.{Sound}
+use Rattle.scopes.specs.Lent.{numbersOf, made, Whole}
+use Rattle.scopes.specs.declared.Numbers.{Numbers}
 use Rattle.scopes.specs.declared.Scopes.{Scopes}
 use Rattle.text.specs.Lines.{codeOf, frameOf, framed, frameReading, Took}
 use Rattle.text.specs.Writing.{over}
@@ -41,11 +42,10 @@ use Rattle.text.proofs.Rows.{frame-code}
 use Rattle.text.proofs.Bounds.{ScriptIn, script-in}
 use Rattle.text.proofs.Over.{over-nothing, next}
 use Rattle.translate.specs.Handles.{stateOf}
-use Rattle.translate.specs.Steps.{stepped, Few, Stands, Works}
+use Rattle.translate.specs.Steps.{stepped, Few, Stands, Works, Reached}
 use Rattle.translate.specs.Whole.{frameIn, linesOf, linesText, onwardOf, Read, Ends, listed, refused as told}
 use Rattle.translate.specs.declared.steps.Adds.{Adds}
 use Rattle.translate.specs.declared.steps.Adds.the-variants.{Nothing, One, Store, Load, Drained, Refused}
-use Rattle.translate.specs.declared.steps.Stepped.{Stepped}
 use Rattle.translate.specs.declared.whole.Onward.the-variants.{Go, Stop}
 use Rattle.translate.specs.declared.whole.Ended.the-variants as ended
 use Rattle.translate.proofs.Written.{lines-length, lines-on, list-on, Put}
@@ -151,7 +151,7 @@ few-frames : (fs : List Frame) (r : Script) → ScriptIn base 0 r → r ≡ fram
 unfolding base
 few-frames fs r h e = subst (ScriptIn base 0) e h
 
-pub going-start : (script page : List ℕ) (s : Scopes) → Read script → view s ≡ rule.freshScopes → Sound s → Going script page s (replicate 2048 0) (replicate 1024 0) (replicate 1024 0) 0 0 0 0 page
+going-start : (script page : List ℕ) (s : Scopes) → Read script → view s ≡ rule.freshScopes → Whole s → Going script page s (replicate 2048 0) (replicate 1024 0) (replicate 1024 0) 0 0 0 0 page
 unfolding linesText
 going-start script page s r v h =
     let e = starts (view s) 2048 1024 v in
@@ -160,7 +160,7 @@ going-start script page s r v h =
     record {
       within = omega arith;
       stands = record {
-        sound = h;
+        whole = h;
         state = subst (StateSound base) (sym e) (start-sound base (base-wide .segments) (base-wide .scopes));
         counted = omega (arith, k, small-start .count);
         handles-length = length-replicate {A = ℕ} 2048 0;
@@ -179,6 +179,13 @@ going-start script page s r v h =
       page-length = refl;
     }
 
+-- the same state, made of its parts
+pub going-fresh : (script page : List ℕ) (s : Scopes) → Read script → view s ≡ rule.freshScopes → Whole s → (n : Numbers) → n ≡ numbersOf s
+    → Going script page (made (s .halves) (s .links) (s .owner) (s .live) (s .dangled) (s .parent) (s .number) (s .bindings) n) (replicate 2048 0) (replicate 1024 0) (replicate 1024 0) 0 0 0 0 page
+going-fresh script page s r v h n e =
+    subst (λ (m : Numbers). Going script page (made (s .halves) (s .links) (s .owner) (s .live) (s .dangled) (s .parent) (s .number) (s .bindings) m) (replicate 2048 0) (replicate 1024 0) (replicate 1024 0) 0 0 0 0 page)
+    (sym e) (going-start script page s r v h)
+
 -- ---- one frame
 
 module _ (script page₀ : List ℕ) (s : Scopes) (handles holders drained : List ℕ) (handed p i w : ℕ) (page : List ℕ)
@@ -187,7 +194,7 @@ module _ (script page₀ : List ℕ) (s : Scopes) (handles holders drained : Lis
   here = stateOf (view s) handles holders handed
 
   module _ (t : Taken) (k : Took frameReading script p t) (f : code.Frame) (ef : f ≡ frameIn (t .reading))
-      (r : Stepped) (handles′ holders′ drained′ : List ℕ)
+      (r : Reached) (handles′ holders′ drained′ : List ℕ)
       (works : (x : Frame) → frameOf f ≡ some x → Works x (f .opcode) s handles holders handed r handles′ holders′ drained′) where
     taken : Taking base i (frameReading (k .line)) (split (drop (t .next) script)) (g .left)
     taken = taking base i (k .line) (split (drop (t .next) script)) (g .left) (sym (ap (scriptFrom base i) (k .here)) ∙ g .reads)
@@ -246,7 +253,7 @@ module _ (script page₀ : List ℕ) (s : Scopes) (handles holders drained : Lis
       going-suc w′ page′ l q = record {
         within = k .within;
         stands = record {
-          sound = work .sound;
+          whole = work .whole;
           state = sound;
           counted = omega (arith, small-on .count, enough);
           handles-length = work .handles-length;

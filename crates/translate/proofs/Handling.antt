@@ -23,7 +23,6 @@ use Rattle.translate.specs.Handles.{slotIn, kindIn, handleAt, stateOf, C
 use Rattle.translate.specs.Steps.{stepped, loading, LoadsOf, Stands, Works}
 use Rattle.translate.specs.declared.handles.Handle.{Handle as Known}
 use Rattle.translate.specs.declared.steps.Adds.the-variants.{Nothing, Store, Load}
-use Rattle.translate.specs.declared.steps.Stepped.{Stepped}
 use Rattle.translate.proofs.Changes.{recoding}
 use Rattle.translate.proofs.Allocations.{when-true, when-false}
 
@@ -121,7 +120,7 @@ module _ (s : Scopes) (handles holders : List ℕ) (handed : ℕ) (stands : Stan
     unfolding step
     forget-works drained = record {
       does = when-false 13 _ (unspent standing h l live-kind) ∙ ap (oneLine (shows 0x0e [])) set-freed;
-      sound = stands .sound;
+      whole = stands .whole;
       few = tt;
       handles-length = now-long b (freedAs x) new refl known;
       holders-length = stands .holders-length;
@@ -142,7 +141,7 @@ module _ (s : Scopes) (handles holders : List ℕ) (handed : ℕ) (stands : Stan
           when-false 13 _ (is-known standing h l) ∙ when-false 14 _ (ap not held)
           ∙ λ t. oneLine (stores (coded .slot t) v) (set-changed b y new (ap (λ (a : Address). a .slot) is) known (allocatedKind (standing .handles h .kind)) true
           (ap (λ (a : Address). a .kind) is ∙ ap allocatedKind (sym (coded .kind))) written t);
-      sound = stands .sound;
+      whole = stands .whole;
       few = tt;
       handles-length = now-long b y new (ap (λ (a : Address). a .slot) is) known;
       holders-length = stands .holders-length;
@@ -164,7 +163,7 @@ module _ (s : Scopes) (handles holders : List ℕ) (handed : ℕ) (stands : Stan
     pub load-works : standing .handles h .held ≡ true → x .written ≡ true → (drained : List ℕ) → Works f o s handles holders handed (record { state = s; handed = handed; adds = Load (x .address .slot) }) handles holders drained
     load-works e w drained = record {
       does = loads-it ∙ when-false 14 _ (ap not e) ∙ when-false 15 _ (ap not (coded .written ∙ w)) ∙ λ t. oneLine (loads o (coded .slot t)) standing;
-      sound = stands .sound;
+      whole = stands .whole;
       few = tt;
       handles-length = stands .handles-length;
       holders-length = stands .holders-length;
@@ -186,6 +185,6 @@ module _ (t : State) (h : ℕ) (l : t .handed ≤ h) where
   read-unknown = when-true 13 _ (is-unknown t h l)
 
 -- read of a handle that was handed out is its load
-pub read-loads : (s : Scopes) (handles holders : List ℕ) (handed h : ℕ) → h < handed → LoadsOf (read h) 0x11 s handles holders handed h
+pub read-loads : {s : Scopes} {handles holders : List ℕ} {handed : ℕ} → Stands s handles holders handed → (h : ℕ) → h < handed → LoadsOf (read h) 0x11 s handles holders handed h
 unfolding step
-read-loads s handles holders handed h l = when-false 13 _ (is-known (stateOf (view s) handles holders handed) h l)
+read-loads {s} {handles} {holders} {handed} stands h l = when-false 13 _ (is-known (stateOf (view s) handles holders handed) h l)

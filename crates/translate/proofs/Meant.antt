@@ -9,7 +9,20 @@ use Rattle.rules.specs.Scopes.{Found}
 use Rattle.rules.proofs.Naming.{number-id}
 use Rattle.scopes.specs.View.{idOf, opened, replied}
 use Rattle.scopes.specs.declared.Reply.{Reply}
-use Rattle.translate.specs.Steps.{nowhere, idOr}
+use Rattle.scopes.specs.declared.ScopeId.{ScopeId}
+use Rattle.scopes.specs.declared.Reply.the-variants as reply
+
+-- the id that was answered, or one that no scope has
+abbrev pub nowhere : ScopeId
+nowhere = record { index = 255; number = 0 }
+
+abbrev pub idOr : Reply → ScopeId
+idOr reply.Done = nowhere
+idOr (reply.At a) = nowhere
+idOr reply.Empty = nowhere
+idOr (reply.Opened i) = i
+idOr (reply.Found b) = nowhere
+idOr (reply.Refused n) = nowhere
 
 pub no-scope-there : (c : rule.Scopes) → rule.byId base c (idOf nowhere) ≡ none
 unfolding base rule.byId

@@ -22,15 +22,14 @@ use Rattle.rules.proofs.Naming.{Here, number-here}
 use Rattle.rules.proofs.KeepsScopes.{poppable-is, last-is}
 use Rattle.rules.proofs.Leaves.{child-leaves, dangle-leaves, restore-leaves}
 use Rattle.scopes.specs.View.{view, idOf, opened, Seen, seen, told, toldOnly}
-use Rattle.scopes.specs.Sound.{Sound}
+use Rattle.scopes.specs.Lent.{Whole}
 use Rattle.scopes.specs.declared.Scopes.{Scopes}
 use Rattle.scopes.specs.declared.ScopeId.{ScopeId}
 use Rattle.scopes.specs.declared.Outcome.{Outcome}
 use Rattle.scopes.specs.declared.Reply.{Reply}
 use Rattle.scopes.specs.declared.Reply.the-variants as reply
 use Rattle.translate.specs.Handles.{handleAt, stateOf}
-use Rattle.translate.specs.Steps.{stepped, addsOf, Few, Stands, Works, Moves}
-use Rattle.translate.specs.declared.steps.Stepped.{Stepped}
+use Rattle.translate.specs.Steps.{stepped, addsOf, Few, Stands, Works, Reached}
 use Rattle.translate.proofs.Changes.{closing}
 
 pub few-reply : (y : Reply) → Few (addsOf y)
@@ -118,17 +117,22 @@ module _ (s : Scopes) (handles holders : List ℕ) (handed : ℕ) (stands : Stan
         let n : x .0 .number ≡ x .0 .number % 65536 = omega (arith, child-leaves base c .at x q .0, stands .counted) in
         λ u. oneLine (shows 0x01 (n u ∷ [])) t)
 
-    pub dangle-does : (n : ℕ) → record { next = d; says = y } ≡ toldOnly c (rule.dangleScope (rule.byNumber base c n) c) → step base (edition1 (base .segments)) (stateOf c handles holders handed) (dangle n) ≡ stepped 0x03 (addsOf y) (stateOf d handles holders handed) drained
+    pub dangle-does : (n : ℕ) {x : Option Found} → x ≡ rule.byNumber base c n → record { next = d; says = y } ≡ toldOnly c (rule.dangleScope x c) → step base (edition1 (base .segments)) (stateOf c handles holders handed) (dangle n) ≡ stepped 0x03 (addsOf y) (stateOf d handles holders handed) drained
     unfolding step
-    dangle-does n e = only-does c handles holders handed drained 0x03 d y (rule.dangleScope (rule.byNumber base c n) c) e (λ x q. dangle-leaves c (rule.byNumber base c n) .at x q .slots-are)
+    dangle-does n is q =
+        let e = q ∙ ap (λ (x : Option Found). toldOnly c (rule.dangleScope x c)) is in
+        only-does c handles holders handed drained 0x03 d y (rule.dangleScope (rule.byNumber base c n) c) e (λ x q. dangle-leaves c (rule.byNumber base c n) .at x q .slots-are)
 
-    pub restore-does : (n : ℕ) → record { next = d; says = y } ≡ toldOnly c (rule.restoreScope (rule.byNumber base c n) c) → step base (edition1 (base .segments)) (stateOf c handles holders handed) (restore n) ≡ stepped 0x04 (addsOf y) (stateOf d handles holders handed) drained
+    pub restore-does : (n : ℕ) {x : Option Found} → x ≡ rule.byNumber base c n → record { next = d; says = y } ≡ toldOnly c (rule.restoreScope x c) → step base (edition1 (base .segments)) (stateOf c handles holders handed) (restore n) ≡ stepped 0x04 (addsOf y) (stateOf d handles holders handed) drained
     unfolding step
-    restore-does n e = only-does c handles holders handed drained 0x04 d y (rule.restoreScope (rule.byNumber base c n) c) e (λ x q. restore-leaves c (rule.byNumber base c n) .at x q .slots-are)
+    restore-does n is q =
+        let e = q ∙ ap (λ (x : Option Found). toldOnly c (rule.restoreScope x c)) is in
+        only-does c handles holders handed drained 0x04 d y (rule.restoreScope (rule.byNumber base c n) c) e (λ x q. restore-leaves c (rule.byNumber base c n) .at x q .slots-are)
 
-    pub pop-does : (n : ℕ) → record { next = d; says = y } ≡ toldOnly c (rule.popScope base (rule.byNumber base c n) c) → step base (edition1 (base .segments)) (stateOf c handles holders handed) (pop n) ≡ stepped 0x02 (addsOf y) (stateOf d handles holders handed) drained
+    pub pop-does : (n : ℕ) {x : Option Found} → x ≡ rule.byNumber base c n → record { next = d; says = y } ≡ toldOnly c (rule.popScope base x c) → step base (edition1 (base .segments)) (stateOf c handles holders handed) (pop n) ≡ stepped 0x02 (addsOf y) (stateOf d handles holders handed) drained
     unfolding step rule.popScope
-    pop-does n e =
+    pop-does n is q =
+        let e = q ∙ ap (λ (x : Option Found). toldOnly c (rule.popScope base x c)) is in
         close-does c handles holders handed drained 0x02 d y (rule.poppable base (rule.byNumber base c n) c) e
         (λ k q. closes k (poppable-is base c (stands .state .scopes) (rule.byNumber base c n) (number-here base c n) .at k q .0))
 
@@ -138,12 +142,11 @@ module _ (s : Scopes) (handles holders : List ℕ) (handed : ℕ) (stands : Stan
         close-does c handles holders handed drained 0x05 d y (rule.lastPoppable base c) e
         (λ k q. closes k (last-is base c (stands .state .scopes) .at k q .0))
 
--- ---- a step that ended with the outcome o
+-- ---- a step that ended with the outcome o, and left the tables alone
 
-module _ (s : Scopes) (handed : ℕ) (o : Outcome) (r : Stepped) (is : r ≡ record { state = o .state; handed = handed; adds = addsOf (o .reply) }) (ok : Sound (o .state)) where
-  pub moves : (f : Frame) (op : ℕ)
-      → ((handles holders drained : List ℕ) → Stands s handles holders handed → step base (edition1 (base .segments)) (stateOf (view s) handles holders handed) f ≡ stepped op (addsOf (o .reply)) (stateOf (view (o .state)) handles holders handed) drained)
-      → Moves f op s handed r
-  moves f op e handles holders drained stands =
-      subst (λ (x : Stepped). Works f op s handles holders handed x handles holders drained) (sym is)
-      (record { does = e handles holders drained stands; sound = ok; few = few-reply (o .reply); handles-length = stands .handles-length; holders-length = stands .holders-length })
+pub ended-works : (s : Scopes) (handles holders : List ℕ) (handed : ℕ) → Stands s handles holders handed → (o : Outcome) → Whole (o .state) → (r : Reached) → r ≡ record { state = o .state; handed = handed; adds = addsOf (o .reply) }
+    → (f : Frame) (op : ℕ) (drained : List ℕ) → step base (edition1 (base .segments)) (stateOf (view s) handles holders handed) f ≡ stepped op (addsOf (o .reply)) (stateOf (view (o .state)) handles holders handed) drained
+    → Works f op s handles holders handed r handles holders drained
+ended-works s handles holders handed stands o ok r is f op drained e =
+    subst (λ (x : Reached). Works f op s handles holders handed x handles holders drained) (sym is)
+    (record { does = e; whole = ok; few = few-reply (o .reply); handles-length = stands .handles-length; holders-length = stands .holders-length })

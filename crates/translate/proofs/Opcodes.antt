@@ -14,8 +14,7 @@ use Rattle.rules.specs.Text.{Raw, Row, rowed, frameTable}
 use Rattle.rules.proofs.Chains.{none-some}
 use Rattle.scopes.specs.declared.Scopes.{Scopes}
 use Rattle.text.specs.Lines.{frameOf}
-use Rattle.translate.specs.Steps.{Works}
-use Rattle.translate.specs.declared.steps.Stepped.{Stepped}
+use Rattle.translate.specs.Steps.{Works, Reached}
 use Rattle.text.specs.Shapes.{shapeOf, frameShapes}
 use Rattle.text.specs.declared.lines.Frame.{Frame as Code}
 
@@ -25,7 +24,7 @@ told-as P f k h g e q p x =
     let same : h ≡ g = cc in
     subst (λ (o : ℕ). P g o) (sym e) (subst (λ (y : Frame). P y k) same x)
 
-pub works-as : {s : Scopes} {handles holders handles′ holders′ drained : List ℕ} {handed : ℕ} {r : Stepped} (f : Code) (k : ℕ) (h g : Frame) → f .opcode ≡ k → frameOf f ≡ some h → frameOf f ≡ some g
+pub works-as : {s : Scopes} {handles holders handles′ holders′ drained : List ℕ} {handed : ℕ} {r : Reached} (f : Code) (k : ℕ) (h g : Frame) → f .opcode ≡ k → frameOf f ≡ some h → frameOf f ≡ some g
     → Works h k s handles holders handed r handles′ holders′ drained → Works g (f .opcode) s handles holders handed r handles′ holders′ drained
 works-as {s} {handles} {holders} {handles′} {holders′} {drained} {handed} {r} = told-as (λ g o. Works g o s handles holders handed r handles′ holders′ drained)
 

@@ -17,7 +17,7 @@ use Rattle.rules.proofs.Chains.{All}
 use Rattle.rules.proofs.Leaves.{bind-leaves, take-leaves}
 use Rattle.rules.proofs.Held.{got-agrees}
 use Rattle.scopes.specs.View.{view, bound, defined, Seen, seen, told, toldOnly, replied}
-use Rattle.scopes.specs.Sound.{Sound}
+use Rattle.scopes.specs.Lent.{Whole}
 use Rattle.scopes.proofs.Finds.{no-top}
 use Rattle.scopes.specs.declared.Scopes.{Scopes}
 use Rattle.scopes.specs.declared.Outcome.{Outcome}
@@ -25,11 +25,10 @@ use Rattle.scopes.specs.declared.Reply.{Reply}
 use Rattle.scopes.specs.declared.Reply.the-variants as reply
 use Rattle.needs.specs.Kinds.{kindOf}
 use Rattle.translate.specs.Handles.{handleAt, stateOf, Coded}
-use Rattle.translate.specs.Steps.{stepped, addsOf, handleOr, Few, loading, LoadsOf, Stands, Works, Moves}
+use Rattle.translate.specs.Steps.{stepped, addsOf, handleOr, Few, loading, LoadsOf, Stands, Works, Reached}
 use Rattle.translate.specs.declared.handles.Handle.{Handle as Known}
 use Rattle.translate.specs.declared.steps.Adds.{Adds}
 use Rattle.translate.specs.declared.steps.Adds.the-variants.{Drained}
-use Rattle.translate.specs.declared.steps.Stepped.{Stepped}
 use Rattle.translate.proofs.Moving.{few-reply, over-same, told-does, only-does}
 use Rattle.translate.proofs.Allocations.{unless-some, unless-none, when-true, when-false, has-top}
 use Rattle.translate.proofs.Handling.{spent-unknown, spent-freed, unspent}
@@ -49,7 +48,7 @@ module _ (s : Scopes) (handles holders : List ℕ) (handed : ℕ) (stands : Stan
   -- nothing moves
   still : (f : frame.Frame) (o : ℕ) (adds : Adds) (drained : List ℕ) → Few adds → step base (edition1 (base .segments)) standing f ≡ stepped o adds standing drained
       → Works f o s handles holders handed (record { state = s; handed = handed; adds = adds }) handles holders drained
-  still f o adds drained few e = record { does = e; sound = stands .sound; few = few; handles-length = stands .handles-length; holders-length = stands .holders-length }
+  still f o adds drained few e = record { does = e; whole = stands .whole; few = few; handles-length = stands .handles-length; holders-length = stands .holders-length }
 
   -- ---- get
 
@@ -76,14 +75,14 @@ module _ (s : Scopes) (handles holders : List ℕ) (handed : ℕ) (stands : Stan
 
   -- ---- drain
 
-  pub drain-works : (t : Scopes) (count : ℕ) (drained : List ℕ) → view t ≡ rule.drainDangling c .1 → take count drained ≡ rule.drainDangling c .0 → Sound t → length drained ≡ 1024 → count ≤ 1024
+  pub drain-works : (t : Scopes) (count : ℕ) (drained : List ℕ) → view t ≡ rule.drainDangling c .1 → take count drained ≡ rule.drainDangling c .0 → Whole t → length drained ≡ 1024 → count ≤ 1024
       → Works frame.drain 0x0f s handles holders handed (record { state = t; handed = handed; adds = Drained count }) handles holders drained
   unfolding step rule.drainDangling
   drain-works t count drained e q ok long few =
       let n : length (c .dangling) ≡ count = sym (ap length q) ∙ length-take count drained ∙ omega arith in
       record {
         does = λ u. oneLine (shows 0x0f (n u ∷ sym q u)) (over-same c handles holders handed drained (rule.dangling≔ [] c) (view t) (sym e) refl u);
-        sound = ok;
+        whole = ok;
         few = few;
         handles-length = stands .handles-length;
         holders-length = stands .holders-length;
@@ -105,8 +104,8 @@ module _ (s : Scopes) (handles holders : List ℕ) (handed : ℕ) (stands : Stan
       unfolding step
       define-freed e = unless-some 3 _ (has-top s stands ne .1) ∙ when-true 13 _ (spent-freed standing h (ap isFreed (coded .kind) ∙ e))
 
-      pub define-works : h < handed → isFreed (kindOf (x .address .kind)) ≡ false → (o : Outcome) → seen o ≡ toldOnly c (defined name (x .address .slot .0) h c) → Sound (o .state)
-          → (r : Stepped) → r ≡ record { state = o .state; handed = handed; adds = addsOf (o .reply) } → (drained : List ℕ) → Works (frame.define name h) 0x09 s handles holders handed r handles holders drained
+      pub define-works : h < handed → isFreed (kindOf (x .address .kind)) ≡ false → (o : Outcome) → seen o ≡ toldOnly c (defined name (x .address .slot .0) h c) → Whole (o .state)
+          → (r : Reached) → r ≡ record { state = o .state; handed = handed; adds = addsOf (o .reply) } → (drained : List ℕ) → Works (frame.define name h) 0x09 s handles holders handed r handles holders drained
       unfolding step
       define-works l live o e ok r is drained =
           let t = has-top s stands ne in
@@ -116,10 +115,14 @@ module _ (s : Scopes) (handles holders : List ℕ) (handed : ℕ) (stands : Stan
           = unless-some 3 _ (t .1) ∙ when-false 13 _ (unspent standing h l (ap isFreed (coded .kind) ∙ live))
           ∙ only-does c handles holders handed drained 0x09 (view (o .state)) (o .reply) (rule.bindIn base (t .0) name (standing .handles h .address) h c) known
           (λ x q. bind-leaves base c (t .0) name (standing .handles h .address) h .at x q .slots-are) in
-          subst (λ (z : Stepped). Works (frame.define name h) 0x09 s handles holders handed z handles holders drained) (sym is)
-          (record { does = does; sound = ok; few = few-reply (o .reply); handles-length = stands .handles-length; holders-length = stands .holders-length })
+          subst (λ (z : Reached). Works (frame.define name h) 0x09 s handles holders handed z handles holders drained) (sym is)
+          (record { does = does; whole = ok; few = few-reply (o .reply); handles-length = stands .handles-length; holders-length = stands .holders-length })
 
   -- ---- read name
+
+  -- the load of the same handle, by another name for its number
+  pub loads-at : (f : frame.Frame) (o : ℕ) {h k : ℕ} → h ≡ k → LoadsOf f o s handles holders handed h → LoadsOf f o s handles holders handed k
+  loads-at f o e l = subst (LoadsOf f o s handles holders handed) e l
 
   module _ (name : ℕ) (y : Reply) (e : y ≡ replied bound (rule.getName base name c)) where
     -- what is known of the name's answer

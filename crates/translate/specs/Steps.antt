@@ -1,22 +1,24 @@
 -- One step of the code as a step of the rules: what it adds to the list, and where the script stands then. Assumes nothing.
 use mathlib.Core.Path.{_≡_}
 use mathlib.Core.Bool.{Bool, true, false, not}
+use mathlib.Core.Option.{none}
 use mathlib.Core.List.{List, [], _∷_}
 use Prim.Native.Nat.{ℕ, _+_, _%_, _≤_, _<_}
 use lib.ListN.{length, take}
 use Rattle.rules.specs.Notation.{refused, _>>=_, refuse_when_}
 use Rattle.rules.specs.Sizes.{base}
 use Rattle.rules.specs.Slots.{edition1}
+use Rattle.rules.specs.Scopes as scope
 use Rattle.rules.specs.Frames as rules
 use Rattle.rules.specs.Frames.{stores, loads, shows, oneLine}
 use Rattle.rules.proofs.Sound.{StateSound}
 use Rattle.scopes.specs.declared.Scopes.{Scopes}
 use Rattle.scopes.specs.declared.ScopeId.{ScopeId}
-use Rattle.scopes.specs.declared.Outcome.{Outcome}
+use Rattle.scopes.specs.declared.Numbers.{Numbers}
 use Rattle.scopes.specs.declared.Reply.{Reply}
 use Rattle.scopes.specs.declared.Reply.the-variants as reply
-use Rattle.scopes.specs.View.{view}
-use Rattle.scopes.specs.Sound.{Sound}
+use Rattle.scopes.specs.View.{view, idOf}
+use Rattle.scopes.specs.Lent.{numbersOf, made, Whole}
 use Rattle.slots.specs.declared.SlotAddress.{SlotAddress}
 use Rattle.needs.specs.Kinds.{kindOf}
 use Rattle.needs.specs.declared.AddressKind.{AddressKind}
@@ -43,18 +45,6 @@ addsOf reply.Empty = One 0xffff
 addsOf (reply.Opened i) = One (i .number % 65536)
 addsOf (reply.Found b) = One (b .address .0)
 addsOf (reply.Refused n) = Refused n
-
--- the id that was answered, or one that no scope has
-abbrev pub nowhere : ScopeId
-nowhere = record { index = 255; number = 0 }
-
-abbrev pub idOr : Reply → ScopeId
-idOr reply.Done = nowhere
-idOr (reply.At a) = nowhere
-idOr reply.Empty = nowhere
-idOr (reply.Opened i) = i
-idOr (reply.Found b) = nowhere
-idOr (reply.Refused n) = nowhere
 
 -- the slot that was answered, or a number that no slot has
 abbrev pub slotOr : Reply → ℕ
@@ -96,25 +86,68 @@ freeCode false = 0x0d
 
 -- where a script stands
 pub record Stands (s : Scopes) (handles holders : List ℕ) (handed : ℕ) : Type 0 where
-  pub sound : Sound s
+  pub whole : Whole s
   pub state : StateSound base (stateOf (view s) handles holders handed)
   pub counted : s .counter < 65536
   pub handles-length : length handles ≡ 2048
   pub holders-length : length holders ≡ 1024
 
+-- where a step leads: the state, how many handles were handed out, and what its line adds
+pub record Reached : Type 0 where
+  pub state : Scopes
+  pub handed : ℕ
+  pub adds : Adds
+
 -- The frame f, of opcode o, leads from the state and the tables before it to r and the tables after it, as the rules say. After a
 -- refusal nothing is said of them: the translation ends.
-pub record Works (f : rules.Frame) (o : ℕ) (s : Scopes) (handles holders : List ℕ) (handed : ℕ) (r : Stepped) (handles′ holders′ drained : List ℕ) : Type 0 where
+pub record Works (f : rules.Frame) (o : ℕ) (s : Scopes) (handles holders : List ℕ) (handed : ℕ) (r : Reached) (handles′ holders′ drained : List ℕ) : Type 0 where
   pub does : rules.step base (edition1 (base .segments)) (stateOf (view s) handles holders handed) f
       ≡ stepped o (r .adds) (stateOf (view (r .state)) handles′ holders′ (r .handed)) drained
-  pub sound : Sound (r .state)
+  pub whole : Whole (r .state)
   pub few : Few (r .adds)
   pub handles-length : length handles′ ≡ 2048
   pub holders-length : length holders′ ≡ 1024
 
--- the same of a frame that leaves the tables alone
-abbrev pub Moves : rules.Frame → ℕ → Scopes → ℕ → Stepped → Type 0
-Moves f o s handed r = (handles holders drained : List ℕ) → Stands s handles holders handed → Works f o s handles holders handed r handles holders drained
+-- ---- what the functions over lent arrays promise, of any state s that has those arrays
+
+-- the state s, with the arrays that a group of frames is lent
+abbrev pub onHalves : Scopes → List ℕ → Scopes
+onHalves s halves = made halves (s .links) (s .owner) (s .live) (s .dangled) (s .parent) (s .number) (s .bindings) (numbersOf s)
+
+abbrev pub onNumbered : Scopes → List Bool → List ℕ → Scopes
+onNumbered s live number = made (s .halves) (s .links) (s .owner) live (s .dangled) (s .parent) number (s .bindings) (numbersOf s)
+
+abbrev pub onAllots : Scopes → (halves links owner : List ℕ) (live : List Bool) (number : List ℕ) → Numbers → Scopes
+onAllots s halves links owner live number n = made halves links owner live (s .dangled) (s .parent) number (s .bindings) n
+
+abbrev pub onFrees : Scopes → (halves links owner number : List ℕ) → Numbers → Scopes
+onFrees s halves links owner number n = made halves links owner (s .live) (s .dangled) (s .parent) number (s .bindings) n
+
+abbrev pub onNames : Scopes → List Bool → (parent bindings : List ℕ) → Numbers → Scopes
+onNames s live parent bindings n = made (s .halves) (s .links) (s .owner) live (s .dangled) parent (s .number) bindings n
+
+abbrev pub onCells : Scopes → List ℕ → List Bool → (parent bindings : List ℕ) → Numbers → Scopes
+onCells s halves live parent bindings n = made halves (s .links) (s .owner) live (s .dangled) parent (s .number) bindings n
+
+-- what is asked where the state doesn't matter
+pub record Tables (handles : List ℕ) (handed : ℕ) : Type 0 where
+  pub most : handed ≤ 2048
+  pub long : length handles ≡ 2048
+
+-- the state becomes t
+abbrev pub Leads : rules.Frame → ℕ → Scopes → Scopes → List ℕ → List ℕ → ℕ → Stepped → List ℕ → List ℕ → Type 0
+Leads f o s t handles holders handed r handles′ holders′ =
+    Stands s handles holders handed → (drained : List ℕ) → Works f o s handles holders handed (record { state = t; handed = r .handed; adds = r .adds }) handles′ holders′ drained
+
+-- the state, the holders and the count of handles stay
+abbrev pub Stays : rules.Frame → ℕ → Scopes → List ℕ → List ℕ → ℕ → Adds → List ℕ → Type 0
+Stays f o s handles holders handed adds handles′ =
+    Stands s handles holders handed → (drained : List ℕ) → Works f o s handles holders handed (record { state = s; handed = handed; adds = adds }) handles′ holders drained
+
+-- by the id r the rules find what they find by the number n; there is none where its index is 255
+pub record Means (s : Scopes) (n : ℕ) (r : ScopeId) : Type 0 where
+  pub is : scope.byId base (view s) (idOf r) ≡ scope.byNumber base (view s) n
+  pub nowhere : scope.byNumber base (view s) n ≡ none → r .index ≡ 255
 
 -- 14, 15, then the load
 abbrev pub loading : ℕ → rules.State → ℕ → rules.Step
@@ -123,11 +156,10 @@ loading o t h = do
   _ ← refuse 15 when (not (t .handles h .written))
   oneLine (loads o (t .handles h .address)) t
 
--- n slots were asked for, with the outcome o: their handles, all of one kind
-pub record Grants (o : Outcome) (handed n : ℕ) (k : AddressKind) (r : Stepped) (handles handles′ holders holders′ : List ℕ) : Type 0 where
-  pub state : r .state ≡ o .state
-  pub adds : r .adds ≡ addsOf (o .reply)
-  pub hands : (a : SlotAddress) → o .reply ≡ reply.At a → (r .handed ≡ handed + n) × Hands handles handles′ holders holders′ handed n (a .0) (kindOf k)
+-- n slots were asked for, and y was answered: their handles, all of one kind
+pub record Grants (y : Reply) (handed n : ℕ) (k : AddressKind) (handed′ : ℕ) (adds : Adds) (handles handles′ holders holders′ : List ℕ) : Type 0 where
+  pub says : adds ≡ addsOf y
+  pub hands : (a : SlotAddress) → y ≡ reply.At a → (handed′ ≡ handed + n) × Hands handles handles′ holders holders′ handed n (a .0) (kindOf k)
   pub handles-length : length handles′ ≡ 2048
   pub holders-length : length holders′ ≡ 1024
 

@@ -1,12 +1,12 @@
 // 06 alloc, 07 alloc in, 08 linear: slots and their handles. 3 or 4, then 16, then 7.
 ghost use mathlib.Core.Path.{_≡_};
-ghost use mathlib.Core.List.{List};
 ghost use Prim.Native.Nat.{ℕ, _+_, _≤_, _<_};
 ghost use lib.ListN.{length};
 ghost use Rattle.rules.specs.Needs.{runKind};
 ghost use Rattle.rules.specs.Frames as frame;
+ghost use Rattle.scopes.specs.Lent.{withSlots};
 ghost use Rattle.needs.specs.Kinds.{kindOf};
-ghost use Rattle.translate.specs.Steps.{slotOr, Stands, Works, Grants};
+ghost use Rattle.translate.specs.Steps.{slotOr, onAllots, Stands, Leads, Grants};
 use crate::handles::grant;
 use crate::steps::Adds;
 use crate::steps::Stepped;
@@ -14,10 +14,11 @@ use crate::steps::adds_of;
 use crate::steps::meant;
 use crate::steps::refused;
 use needs::AddressKind;
-use scopes::Outcome;
+use scopes::LentOutcome;
+use scopes::Numbers;
 use scopes::Reply;
 use scopes::Scopes;
-use scopes::place;
+use scopes::lent::place;
 use slots::SlotAddress;
 
 // The slot that was answered; 65,535 where there is none.
@@ -34,89 +35,85 @@ fn slot_or(reply: Reply) -> usize
     }
 }
 
-// n slots were asked for: where they were given, n handles go out.
+// Slots were asked for, `many` of them: where they were given, as many handles go out.
 fn granted(
-    o: Outcome,
+    o: LentOutcome,
     handles: &mut [u64; 2048],
     holders: &mut [u16; 1024],
     handed: usize,
-    n: usize,
+    many: usize,
     kind: AddressKind,
 ) -> Stepped
-    requires { ⌜ (handed + n ≤ 2048) × (length (now handles) ≡ 2048) × (length (now holders) ≡ 1024) ⌝ }
-    requires { ⌜ ((a : SlotAddress) → o .reply ≡ Reply.At a → (a .0 < 1024) × (a .0 + n ≤ 1024)) ⌝ }
-    ensures { λ r. ⌜ Grants o handed n kind r (now (handles .entry)) (now (handles .exit)) (now (holders .entry)) (now (holders .exit)) ⌝ }
+    requires { ⌜ (handed + many ≤ 2048) × (length (now handles) ≡ 2048) × (length (now holders) ≡ 1024) ⌝ }
+    requires { ⌜ ((a : SlotAddress) → o .reply ≡ Reply.At a → (a .0 < 1024) × (a .0 + many ≤ 1024)) ⌝ }
+    ensures { λ r. ⌜ (r .numbers ≡ o .numbers) × Grants (o .reply) handed many kind (r .handed) (r .adds) (now (handles .entry)) (now (handles .exit)) (now (holders .entry)) (now (holders .exit)) ⌝ }
 {
-    let t = o.state;
+    let n = o.numbers;
     let reply = o.reply;
     let adds = adds_of(reply);
     let first = slot_or(reply);
     if first < 1024 {
-        grant(handles, holders, handed, n, first, kind);
+        grant(handles, holders, handed, many, first, kind);
         return Stepped {
-            state: t,
-            handed: handed + n,
+            numbers: n,
+            handed: handed + many,
             adds,
         };
     }
     Stepped {
-        state: t,
+        numbers: n,
         handed,
         adds,
     }
 }
 
 pub fn alloc(
-    s: Scopes,
+    halves: &mut [u64; 16],
+    links: &mut [u16; 2178],
+    owner: &mut [u8; 1024],
+    n: Numbers,
     handles: &mut [u64; 2048],
     holders: &mut [u16; 1024],
     handed: usize,
 ) -> Stepped
-    requires { ⌜ Stands s (now handles) (now holders) handed ⌝ }
-    ensures { λ r. ⌜ ((drained : List ℕ) → Works frame.alloc 0x06 s (now (handles .entry)) (now (holders .entry)) handed r (now (handles .exit)) (now (holders .exit)) drained) ⌝ }
+    requires { ⌜ ((s : Scopes) × Stands (withSlots s (now halves) (now links) (now owner) n) (now handles) (now holders) handed) ⌝ }
+    ensures { λ r. ⌜ ((s : Scopes) → Leads frame.alloc 0x06 (withSlots s (now (halves .entry)) (now (links .entry)) (now (owner .entry)) n) (withSlots s (now (halves .exit)) (now (links .exit)) (now (owner .exit)) (r .numbers)) (now (handles .entry)) (now (holders .entry)) handed r (now (handles .exit)) (now (holders .exit))) ⌝ }
 {
-    let top = s.top;
+    let top = n.top;
     if top == 64 {
-        return refused(s, handed, 3);
+        return refused(n, handed, 3);
     }
     if 2048 <= handed {
-        return refused(s, handed, 16);
+        return refused(n, handed, 16);
     }
-    granted(
-        place::alloc(s),
-        handles,
-        holders,
-        handed,
-        1,
-        AddressKind::Local,
-    )
+    let o = place::alloc(halves, links, owner, n);
+    granted(o, handles, holders, handed, 1, AddressKind::Local)
 }
 
-pub fn alloc_in(
-    s: Scopes,
+pub fn alloc_in<'a>(
+    halves: &mut [u64; 16],
+    links: &mut [u16; 2178],
+    owner: &mut [u8; 1024],
+    live: &'a [bool; 64],
+    number: &'a [u32; 64],
+    n: Numbers,
     handles: &mut [u64; 2048],
     holders: &mut [u16; 1024],
     handed: usize,
-    n: u16,
+    k: u16,
 ) -> Stepped
-    requires { ⌜ Stands s (now handles) (now holders) handed ⌝ }
-    ensures { λ r. ⌜ ((drained : List ℕ) → Works (frame.allocIn n) 0x07 s (now (handles .entry)) (now (holders .entry)) handed r (now (handles .exit)) (now (holders .exit)) drained) ⌝ }
+    requires { ⌜ ((s : Scopes) × Stands (onAllots s (now halves) (now links) (now owner) (now live) (now number) n) (now handles) (now holders) handed) ⌝ }
+    ensures { λ r. ⌜ ((s : Scopes) → Leads (frame.allocIn k) 0x07 (onAllots s (now (halves .entry)) (now (links .entry)) (now (owner .entry)) (now (live .entry)) (now (number .entry)) n) (onAllots s (now (halves .exit)) (now (links .exit)) (now (owner .exit)) (now (live .entry)) (now (number .entry)) (r .numbers)) (now (handles .entry)) (now (holders .entry)) handed r (now (handles .exit)) (now (holders .exit))) ⌝ }
 {
-    let id = meant(s, n);
+    let id = meant(live, number, k);
     if id.index == 255 {
-        return refused(s, handed, 4);
+        return refused(n, handed, 4);
     }
     if 2048 <= handed {
-        return refused(s, handed, 16);
+        return refused(n, handed, 16);
     }
-    granted(
-        place::alloc_in(s, id),
-        handles,
-        holders,
-        handed,
-        1,
-        AddressKind::Scope(id),
-    )
+    let o = place::alloc_in(halves, links, owner, live, number, n, id);
+    granted(o, handles, holders, handed, 1, AddressKind::Scope(id))
 }
 
 // "a run of n ≥ 2 Dangling, a run of 1 Local"
@@ -130,36 +127,33 @@ fn run_kind(n: u16) -> AddressKind
 }
 
 pub fn linear(
-    s: Scopes,
+    halves: &mut [u64; 16],
+    links: &mut [u16; 2178],
+    owner: &mut [u8; 1024],
+    n: Numbers,
     handles: &mut [u64; 2048],
     holders: &mut [u16; 1024],
     handed: usize,
-    n: u16,
+    k: u16,
 ) -> Stepped
-    requires { ⌜ Stands s (now handles) (now holders) handed ⌝ }
-    ensures { λ r. ⌜ ((drained : List ℕ) → Works (frame.linear n) 0x08 s (now (handles .entry)) (now (holders .entry)) handed r (now (handles .exit)) (now (holders .exit)) drained) ⌝ }
+    requires { ⌜ ((s : Scopes) × Stands (withSlots s (now halves) (now links) (now owner) n) (now handles) (now holders) handed) ⌝ }
+    ensures { λ r. ⌜ ((s : Scopes) → Leads (frame.linear k) 0x08 (withSlots s (now (halves .entry)) (now (links .entry)) (now (owner .entry)) n) (withSlots s (now (halves .exit)) (now (links .exit)) (now (owner .exit)) (r .numbers)) (now (handles .entry)) (now (holders .entry)) handed r (now (handles .exit)) (now (holders .exit))) ⌝ }
 {
-    let top = s.top;
+    let top = n.top;
     if top == 64 {
-        return refused(s, handed, 3);
+        return refused(n, handed, 3);
     }
-    if n == 0 {
+    if k == 0 {
         return Stepped {
-            state: s,
+            numbers: n,
             handed,
             adds: Adds::One(0xffff),
         };
     }
-    let many = n as usize;
+    let many = k as usize;
     if 2048 < handed + many {
-        return refused(s, handed, 16);
+        return refused(n, handed, 16);
     }
-    granted(
-        place::alloc_run(s, n),
-        handles,
-        holders,
-        handed,
-        many,
-        run_kind(n),
-    )
+    let o = place::alloc_run(halves, links, owner, n, k);
+    granted(o, handles, holders, handed, many, run_kind(k))
 }

@@ -18,8 +18,8 @@ pub mod scoped; // 01 to 05
 pub mod allots; // 06 to 08
 pub mod named; // 09 to 0b
 pub mod frees; // 0c to 0e
-pub mod cells; // 0f to 12
-pub mod dispatch; // one step, by its opcode
+pub mod cells; // 10 to 12
+pub mod dispatch; // one step, by its opcode; 0f
 pub mod whole; // all steps of a script, and the page
 
 // The answer of a refusal: its number in the high 32 bits, its line in the low 32.

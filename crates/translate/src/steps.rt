@@ -1,12 +1,8 @@
 // What a step takes from the state's replies, and what it adds to the list.
 ghost use mathlib.Core.Path.{_≡_};
-ghost use mathlib.Core.Option.{none};
-ghost use Rattle.rules.specs.Sizes.{base};
-ghost use Rattle.rules.specs.Scopes as rule;
-ghost use Rattle.scopes.specs.View.{view, idOf};
-ghost use Rattle.scopes.specs.Sound.{Sound};
-ghost use Rattle.translate.specs.Steps.{addsOf, idOr};
-use scopes::Outcome;
+ghost use Rattle.translate.specs.Steps.{addsOf, onNumbered, Means};
+use scopes::LentOutcome;
+use scopes::Numbers;
 use scopes::Reply;
 use scopes::ScopeId;
 use scopes::Scopes;
@@ -23,9 +19,9 @@ pub enum Adds {
     Refused(u8),
 }
 
-// The state comes first.
+// A step over lent arrays: the numbers of the state come back.
 pub struct Stepped {
-    pub state: Scopes,
+    pub numbers: Numbers,
     pub handed: usize, // how many handles were handed out
     pub adds: Adds,
 }
@@ -46,50 +42,42 @@ pub fn adds_of(reply: Reply) -> Adds
     }
 }
 
-pub fn refused(s: Scopes, handed: usize, n: u8) -> Stepped
-    ensures { λ r. ⌜ r ≡ record { state = s; handed = handed; adds = Adds.Refused n } ⌝ }
+pub fn refused(n: Numbers, handed: usize, number: u8) -> Stepped
+    ensures { λ r. ⌜ r ≡ record { numbers = n; handed = handed; adds = Adds.Refused number } ⌝ }
 {
     Stepped {
-        state: s,
+        numbers: n,
         handed,
-        adds: Adds::Refused(n),
+        adds: Adds::Refused(number),
     }
 }
 
 // The outcome of an operation that hands out no handle.
-pub fn ended(o: Outcome, handed: usize) -> Stepped
-    ensures { λ r. ⌜ r ≡ record { state = o .state; handed = handed; adds = addsOf (o .reply) } ⌝ }
+pub fn ended(o: LentOutcome, handed: usize) -> Stepped
+    ensures { λ r. ⌜ r ≡ record { numbers = o .numbers; handed = handed; adds = addsOf (o .reply) } ⌝ }
 {
-    let t = o.state;
+    let n = o.numbers;
     let reply = o.reply;
     Stepped {
-        state: t,
+        numbers: n,
         handed,
         adds: adds_of(reply),
     }
 }
 
-fn id_or(reply: Reply) -> ScopeId
-    ensures { λ r. ⌜ r ≡ idOr reply ⌝ }
-{
-    let nowhere = ScopeId {
-        index: 255,
-        number: 0,
-    };
-    match reply {
-        Reply::Done => nowhere,
-        Reply::At(_) => nowhere,
-        Reply::Empty => nowhere,
-        Reply::Opened(id) => id,
-        Reply::Found(_) => nowhere,
-        Reply::Refused(_) => nowhere,
-    }
-}
-
 // A script names a scope by its number: the id of the one that is meant, or an id that no scope has.
-pub fn meant(s: Scopes, n: u16) -> ScopeId
-    requires { ⌜ Sound s ⌝ }
-    ensures { λ r. ⌜ (rule.byId base (view s) (idOf r) ≡ rule.byNumber base (view s) n) × (rule.byNumber base (view s) n ≡ none → r .index ≡ 255) ⌝ }
+pub fn meant<'a>(live: &'a [bool; 64], number: &'a [u32; 64], n: u16) -> ScopeId
+    ensures { λ r. ⌜ ((s : Scopes) → Means (onNumbered s (now (live .entry)) (now (number .entry))) n r) ⌝ }
 {
-    id_or(open::numbered(s, n as u32))
+    let i = open::with_number(live, number, n as u32);
+    if i == 64 {
+        return ScopeId {
+            index: 255,
+            number: 0,
+        };
+    }
+    ScopeId {
+        index: i as u8,
+        number: n as u32,
+    }
 }

@@ -71,7 +71,7 @@ fn put_adds(page: &mut [u8], w: usize, opcode: u8, adds: Adds, drained: &[u16]) 
     }
 }
 
-// The script is read: every frame of it, then the size line.
+// The script is read: every frame of it, then the size line. The state is opened once into local arrays, which are lent to the steps.
 pub fn steps(script: &[u8], page: &mut [u8]) -> Ended
     requires { ⌜ Read (now script) × (length (now page) ≡ 32768) ⌝ }
     ensures { λ r. ⌜ Ends (translated base (edition1 8) (now (script .entry))) r (now (page .exit)) ⌝ }
@@ -79,7 +79,16 @@ pub fn steps(script: &[u8], page: &mut [u8]) -> Ended
     let mut handles = [0u64; 2048];
     let mut holders = [0u16; 1024];
     let mut drained = [0u16; 1024];
-    let mut s = scopes::fresh();
+    let s = scopes::fresh();
+    let mut halves = s.halves;
+    let mut links = s.links;
+    let mut owner = s.owner;
+    let mut live = s.live;
+    let mut dangled = s.dangled;
+    let mut parent = s.parent;
+    let mut number = s.number;
+    let mut bindings = s.bindings;
+    let mut n = scopes::numbers_of(s);
     let mut handed: usize = 0;
     let mut p: usize = 0;
     let mut i: usize = 0;
@@ -88,20 +97,35 @@ pub fn steps(script: &[u8], page: &mut [u8]) -> Ended
         let t = frame_at(script, p);
         let x = t.reading;
         let f = frame_in(x);
-        let r = step(s, &mut handles, &mut holders, &mut drained, handed, f);
+        let r = step(
+            &mut halves,
+            &mut links,
+            &mut owner,
+            &mut live,
+            &mut dangled,
+            &mut parent,
+            &mut number,
+            &mut bindings,
+            n,
+            &mut handles,
+            &mut holders,
+            &mut drained,
+            handed,
+            f,
+        );
         let adds = r.adds;
         match onward_of(adds) {
-            Onward::Stop(n) => return Ended::Refused(n, i),
+            Onward::Stop(m) => return Ended::Refused(m, i),
             Onward::Go => {
                 w = put_adds(page, w, f.opcode, adds, &drained);
-                let u = r.state;
-                s = u;
+                let m = r.numbers;
+                n = m;
                 handed = r.handed;
                 p = t.next;
                 i += 1;
             }
         }
     }
-    let size = s.size as u16;
+    let size = n.size as u16;
     Ended::Listed(put_size(page, w, size))
 }

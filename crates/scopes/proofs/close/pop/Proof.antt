@@ -1,68 +1,36 @@
--- A scope is popped. Assumes nothing.
-use mathlib.Core.Path.{_≡_, refl, sym, _∙_}
-use Prim.Native.Nat.{ℕ, _<_}
-use native.Mathlib.Omega.{arith}
-use lib.ListN.{length}
+-- A scope is popped, by value. Assumes nothing.
+use mathlib.Core.Path.{_≡_}
+use borrow.Author.Needs.{needs}
 use Rattle.rules.specs.Sizes.{base}
 use Rattle.rules.specs.Scopes as rule
-use Rattle.scopes.specs.View.{view, idOf}
-use Rattle.scopes.proofs.Finds.{Known, known, unknown, no-child}
-use Rattle.scopes.proofs.Pops.{pop-none, pop-dangled, pop-root, pop-child, pop-closes}
-use borrow.Author.Needs.{needs}
+use Rattle.scopes.specs.View.{idOf, toldOnly}
+use Rattle.scopes.specs.Lent.{Whole}
+use Rattle.scopes.proofs.Wraps.{lends, by-value}
 use Rattle.scopes.proofs.close.pop.Statement.{statement}
 use Rattle.scopes.proofs.close.pop.Tie as tie
 use Rattle.scopes.proofs.close.pop.Reads as reads
 use Rattle.scopes.proofs.close.pop.Lts as lts
-use Rattle.scopes.proofs.close.child_of.Reads as child-of-reads
-use Rattle.scopes.proofs.close.close.Reads as close-reads
-use Rattle.scopes.proofs.open.place_of.Reads as place-of-reads
+use Rattle.scopes.proofs.close.made.Reads as made-reads
+use Rattle.scopes.proofs.lent.close.pop.Reads as pop-reads
+use Rattle.scopes.proofs.numbers_of.Reads as numbers-of-reads
 
-abbrev start : tie.After-place-of → tie.Start
-start w = w .before .before .before .before
+abbrev lending : tie.After-bindings2 → tie.After-numbers-of
+lending c = c .before .before .before .before .before .before .before .before .before .before .before .before .before .before .before .before
 
-meant : (c : tie.Else1) → Known (start (c .before) .args .t1) (rule.byId base (view (start (c .before) .args .t1)) (idOf (start (c .before) .args .id))) (c .before .place-of .result)
-meant c = known _ _ _ (c .before .place-of .ensures) (c .if1 .left)
+whole : (w : tie.Start) → Whole (w .args .s)
+whole w = record { sound = w .pre; sized = search needs }
 
-long-live : (s : tie.Start) → length (s .args .t1 .live) ≡ 64
-long-live s = search needs
+numbers-of-requires : tie.Need-numbers-of-requires
+numbers-of-requires c κs = search needs
 
-place-of-requires : tie.Need-place-of-requires
-place-of-requires c κs = search needs
+pop-requires : tie.Need-pop-requires
+pop-requires c κs = let n = lending c in lends _ (whole (n .before)) _ (n .numbers-of .ensures)
+
+made-requires : tie.Need-made-requires
+made-requires c κs = search needs
 
 returns : tie.Need-returns
-returns c = let s = start (c .before) in (pop-none (s .args .t1) _ (unknown (s .args .t1) (idOf (s .args .id)) _ (c .before .place-of .ensures) (c .if1 .taken)), s .pre)
-
-element-copy-out-if2 : tie.Need-element-copy-out-if2
-element-copy-out-if2 c = meant c .small
-
-returns-2 : tie.Need-returns-2
-returns-2 c = let e = c .before .before in let s = start (e .before) in (pop-dangled (s .args .t1) _ _ (meant e) (c .if2 .taken), s .pre)
-
-returns-3 : tie.Need-returns-3
-returns-3 c = let e = c .before .before .before in let s = start (e .before) in (pop-root (s .args .t1) _ _ (meant e) (c .before .if2 .left) (c .if3 .taken), s .pre)
-
-child-of-requires : tie.Need-child-of-requires
-child-of-requires c κs = search needs
-
-returns-4 : tie.Need-returns-4
-returns-4 c = let e3 = c .before .before .before .before .before in let e2 = e3 .before in let e = e2 .before .before in let s = start (e .before) in (pop-child (s .args .t1) _ _ (meant e) (e2 .if2 .left) (e3 .if3 .left) _ (c .before .child-of .ensures) (c .if4 .taken), s .pre)
-
-close-requires : tie.Need-close-requires
-close-requires c κs = let e3 = c .before .before .before .before .before in let e2 = e3 .before in let e = e2 .before .before in let s = start (e .before) in (s .pre, meant e .small, meant e .live, no-child (s .args .t1) _ _ (meant e .small) (c .before .child-of .ensures) (long-live s) (c .if4 .left))
-
-returns-5 : tie.Need-returns-5
-returns-5 c = let e4 = c .before in let e3 = e4 .before .before .before .before .before in let e2 = e3 .before in let e = e2 .before .before in let s = start (e .before) in (pop-closes (s .args .t1) _ _ (meant e) (e2 .if2 .left) (e3 .if3 .left) _ (e4 .before .child-of .ensures) (e4 .if4 .left) _ (c .close .ensures .0), c .close .ensures .1)
+returns c = let n = lending (c .before .before) in by-value _ (whole (n .before)) _ (n .numbers-of .ensures) _ _ (λ x. toldOnly x (rule.popScope base (rule.byId base x (idOf (n .before .args .id))) x)) (c .before .pop .ensures) _ (c .made .ensures)
 
 pub pop-spec : {M : Type 1} → statement M
-pop-spec =
-    tie.close
-    (tie.spec
-    place-of-requires
-    returns
-    element-copy-out-if2
-    returns-2
-    returns-3
-    child-of-requires
-    returns-4
-    close-requires
-    returns-5)
+pop-spec = tie.close (tie.spec numbers-of-requires pop-requires made-requires returns)

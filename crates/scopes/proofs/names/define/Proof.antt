@@ -1,68 +1,34 @@
--- A name is bound in the top scope. Assumes nothing.
+-- A name is bound in the top scope, by value. Assumes nothing.
 use mathlib.Core.Path.{_≡_}
-use Prim.Native.Nat.{ℕ}
-use lib.ListN.{length}
-use Rattle.scopes.proofs.Finds.{Topped, topped}
-use Rattle.scopes.proofs.Defines.{define-no-top, define-there, define-new, define-full}
 use borrow.Author.Needs.{needs}
+use Rattle.scopes.specs.View.{defined, toldOnly}
+use Rattle.scopes.specs.Lent.{Whole}
+use Rattle.scopes.proofs.Wraps.{lends, by-value}
 use Rattle.scopes.proofs.names.define.Statement.{statement}
 use Rattle.scopes.proofs.names.define.Tie as tie
 use Rattle.scopes.proofs.names.define.Reads as reads
 use Rattle.scopes.proofs.names.define.Lts as lts
-use Rattle.scopes.proofs.names.find.Reads as find-reads
-use Rattle.scopes.proofs.names.packed.Reads as packed-reads
+use Rattle.scopes.proofs.lent.names.define.Reads as define-reads
+use Rattle.scopes.proofs.names.with_names.Reads as with-names-reads
+use Rattle.scopes.proofs.numbers_of.Reads as numbers-of-reads
 
-tops : (c : tie.Else1) → Topped (c .before .args .t1)
-tops c = topped _ (c .before .pre) (c .if1 .left)
+abbrev lending : tie.After-bindings2 → tie.After-numbers-of
+lending c = c .before .before
 
-long : (s : tie.Start) → length (s .args .t1 .bindings) ≡ 256
-long s = search needs
+whole : (w : tie.Start) → Whole (w .args .s)
+whole w = record { sound = w .pre; sized = search needs }
+
+numbers-of-requires : tie.Need-numbers-of-requires
+numbers-of-requires c κs = search needs
+
+define-requires : tie.Need-define-requires
+define-requires c κs = let n = lending c in (n .before .args .s, lends _ (whole (n .before)) _ (n .numbers-of .ensures))
+
+with-names-requires : tie.Need-with-names-requires
+with-names-requires c κs = search needs
 
 returns : tie.Need-returns
-returns c = let s = c .before in (define-no-top (s .args .t1) (s .args .name) (s .args .address .0) (s .args .handle .0) (c .if1 .taken), s .pre)
-
-find-requires : tie.Need-find-requires
-find-requires c κs = let s = c .before .before .before in (s .pre .named .most, tops (c .before .before) .small, long s)
-
-packed-requires : tie.Need-packed-requires
-packed-requires c κs = tops (c .before .before .before) .small
-
-mul-t : tie.Need-mul-t
-mul-t c = search needs
-
-element-write-t : tie.Need-element-write-t
-element-write-t c = search needs
-
-returns-2 : tie.Need-returns-2
-returns-2 c = let p = c .before in let e = p .before in let s = e .before .before .before .before in define-there (s .args .t1) (s .args .name) (s .args .address .0) (s .args .handle .0) (s .pre) (tops (e .before .before .before)) _ (p .packed .ensures) (long s) _ (e .find .ensures) (c .if2 .taken)
-
-returns-3 : tie.Need-returns-3
-returns-3 c = let p = c .before .before in let e = p .before in let s = e .before .before .before .before in (define-full (s .args .t1) (s .args .name) (s .args .address .0) (s .args .handle .0) (s .pre) (tops (e .before .before .before)) _ (p .packed .ensures) (long s) _ (e .find .ensures) (c .before .if2 .left) (c .if3 .taken), s .pre)
-
-mul-t-2 : tie.Need-mul-t-2
-mul-t-2 c = search needs
-
-element-write-t-2 : tie.Need-element-write-t-2
-element-write-t-2 c = search needs
-
-add-t : tie.Need-add-t
-add-t c = search needs
-
-returns-4 : tie.Need-returns-4
-returns-4 c = let p = c .before .before in let e = p .before in let s = e .before .before .before .before in define-new (s .args .t1) (s .args .name) (s .args .address .0) (s .args .handle .0) (s .pre) (tops (e .before .before .before)) _ (p .packed .ensures) (long s) _ (e .find .ensures) (c .before .if2 .left) (c .if3 .left)
+returns c = let n = lending (c .before .before) in by-value _ (whole (n .before)) _ (n .numbers-of .ensures) _ _ (λ x. toldOnly x (defined (n .before .args .name) (n .before .args .address .0) (n .before .args .handle .0) x)) (c .before .define .ensures (n .before .args .s)) _ (c .with-names .ensures)
 
 pub define-spec : {M : Type 1} → statement M
-define-spec =
-    tie.close
-    (tie.spec
-    returns
-    find-requires
-    packed-requires
-    mul-t
-    element-write-t
-    returns-2
-    returns-3
-    mul-t-2
-    element-write-t-2
-    add-t
-    returns-4)
+define-spec = tie.close (tie.spec numbers-of-requires define-requires with-names-requires returns)

@@ -60,7 +60,7 @@ returns c =
     let l = a .before .loop in
     let s = a .before .before in
     let h = l .inv in
-    ((omega (arith, h .within), bindings-left (s .args .bindings .now) _ _ _ _ _ (a .loop-test .left) h _ (c .wipe .ensures)), clear-left (s .args .bindings .now) _ _ _ _ _ (a .loop-test .left) h _ (c .wipe .ensures))
+    ((omega (arith, h .within), bindings-left (s .args .bindings .now) _ _ _ _ _ (a .loop-test .left) h _ (c .wipe .ensures), c .wipe .ensures .long), clear-left (s .args .bindings .now) _ _ _ _ _ (a .loop-test .left) h _ (c .wipe .ensures))
 
 pub forget-names-spec : {M : Type 1} → statement M
 forget-names-spec =

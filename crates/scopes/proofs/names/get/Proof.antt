@@ -1,61 +1,36 @@
--- A name is looked for from the top on. Assumes nothing.
-use mathlib.Core.Path.{_≡_, sym, ap, _∙_}
-use Prim.Native.Nat.{ℕ, _<_}
-use lib.ListN.{length}
+-- A name is looked for from the top on, by value. Assumes nothing.
+use mathlib.Core.Path.{_≡_, ap, _∙_}
+use Rattle.rules.specs.Sizes.{base}
 use Rattle.rules.specs.Scopes as rule
-use Rattle.scopes.specs.View.{bound, replied}
-use Rattle.scopes.proofs.Finds.{Topped, topped}
-use Rattle.scopes.proofs.Lookups.{get-no-top, get-missing, get-moved, get-found, bound-is}
+use Rattle.scopes.specs.View.{view, bound, replied}
+use Rattle.scopes.specs.Lent.{Whole}
+use Rattle.scopes.specs.declared.Scopes.{Scopes}
+use Rattle.scopes.proofs.Wraps.{own, lends}
 use borrow.Author.Needs.{needs}
 use Rattle.scopes.proofs.names.get.Statement.{statement}
 use Rattle.scopes.proofs.names.get.Tie as tie
 use Rattle.scopes.proofs.names.get.Reads as reads
 use Rattle.scopes.proofs.names.get.Lts as lts
-use Rattle.scopes.proofs.names.bound_of.Reads as bound-of-reads
-use Rattle.scopes.proofs.names.lookup.Reads as lookup-reads
+use Rattle.scopes.proofs.lent.names.get.Reads as get-reads
+use Rattle.scopes.proofs.numbers_of.Reads as numbers-of-reads
 
-tops : (c : tie.Else1) → Topped (c .before .args .t1)
-tops c = topped _ (c .before .pre) (c .if1 .left)
+abbrev lending : tie.After-get-arg3 → tie.After-numbers-of
+lending c = c .before .before .before .before
 
-long : (s : tie.Start) → length (s .args .t1 .bindings) ≡ 256
-long s = search needs
+whole : (w : tie.Start) → Whole (w .args .t1)
+whole w = record { sound = w .pre; sized = search needs }
 
-long-live : (s : tie.Start) → length (s .args .t1 .live) ≡ 64
-long-live s = search needs
+numbers-of-requires : tie.Need-numbers-of-requires
+numbers-of-requires c κs = search needs
+
+get-requires : tie.Need-get-requires
+get-requires c κs = let n = lending c in (n .before .args .t1, lends _ (whole (n .before)) _ (n .numbers-of .ensures))
 
 returns : tie.Need-returns
-returns c = sym (ap (replied bound) (get-no-top (c .before .args .t1) (c .before .args .name) (c .if1 .taken)))
-
-lookup-requires : tie.Need-lookup-requires
-lookup-requires c κs = let s = c .before .before .before .before .before in (s .pre .named .most, long s, long-live s)
-
-returns-2 : tie.Need-returns-2
-returns-2 c = let e = c .before in let s = e .before .before .before .before .before .before in sym (ap (replied bound) (get-missing (s .args .t1) (s .args .name) (tops (e .before .before .before .before .before)) (e .lookup .result) (e .lookup .ensures) (c .if2 .taken)))
-
-mul-b : tie.Need-mul-b
-mul-b c = search needs
-
-element-copy-out-b : tie.Need-element-copy-out-b
-element-copy-out-b c = search needs
-
-returns-3 : tie.Need-returns-3
-returns-3 c = let e = c .before .before .before in let s = e .before .before .before .before .before .before in sym (ap (replied bound) (get-moved (s .args .t1) (s .args .name) (tops (e .before .before .before .before .before)) (e .lookup .result) (e .lookup .ensures) (c .before .before .if2 .left) (c .if3 .taken)))
-
-bound-of-requires : tie.Need-bound-of-requires
-bound-of-requires c κs = search needs
-
-returns-4 : tie.Need-returns-4
-returns-4 c = let e = c .before .before .before .before in let s = e .before .before .before .before .before .before in bound-is _ _ (c .bound-of .ensures) ∙ sym (ap (replied bound) (get-found (s .args .t1) (s .args .name) (tops (e .before .before .before .before .before)) (e .lookup .result) (e .lookup .ensures) (c .before .before .before .if2 .left) (c .before .if3 .left)))
+returns c =
+    let n = lending (c .before) in
+    let w = n .before in
+    c .get .ensures (w .args .t1) (lends _ (whole w) _ (n .numbers-of .ensures)) ∙ ap (λ (x : Scopes). replied bound (rule.getName base (w .args .name) (view x))) (own _ (whole w) _ (n .numbers-of .ensures))
 
 pub get-spec : {M : Type 1} → statement M
-get-spec =
-    tie.close
-    (tie.spec
-    returns
-    lookup-requires
-    returns-2
-    mul-b
-    element-copy-out-b
-    returns-3
-    bound-of-requires
-    returns-4)
+get-spec = tie.close (tie.spec numbers-of-requires get-requires returns)

@@ -1,86 +1,36 @@
--- A name is looked for from the top on, and its binding marked moved. Assumes nothing.
-use mathlib.Core.Path.{_≡_, sym, ap, _∙_}
-use Prim.Native.Nat.{ℕ, _+_, _<_}
-use native.Mathlib.Omega.{arith}
-use mir.Syntax.{w64}
-use mir.Val.{Fits}
-use lib.ListN.{length, getD, set}
-use Rattle.scopes.specs.View.{view}
-use Rattle.scopes.proofs.Finds.{Topped, topped}
-use Rattle.scopes.proofs.Defines.{withBindings}
-use Rattle.scopes.proofs.Lookups.{get-no-top, get-missing, get-moved, take-refused, take-found, take-sound, bound-is}
+-- A name is looked for and its binding marked moved, by value. Assumes nothing.
+use mathlib.Core.Path.{_≡_}
 use borrow.Author.Needs.{needs}
+use Rattle.rules.specs.Sizes.{base}
+use Rattle.rules.specs.Scopes as rule
+use Rattle.scopes.specs.View.{bound, told}
+use Rattle.scopes.specs.Lent.{Whole}
+use Rattle.scopes.proofs.Wraps.{lends, by-value}
 use Rattle.scopes.proofs.names.take.Statement.{statement}
 use Rattle.scopes.proofs.names.take.Tie as tie
 use Rattle.scopes.proofs.names.take.Reads as reads
 use Rattle.scopes.proofs.names.take.Lts as lts
-use Rattle.scopes.proofs.names.bound_of.Reads as bound-of-reads
-use Rattle.scopes.proofs.names.lookup.Reads as lookup-reads
+use Rattle.scopes.proofs.lent.names.take.Reads as take-reads
+use Rattle.scopes.proofs.names.with_names.Reads as with-names-reads
+use Rattle.scopes.proofs.numbers_of.Reads as numbers-of-reads
 
-tops : (c : tie.Else1) → Topped (c .before .args .t1)
-tops c = topped _ (c .before .pre) (c .if1 .left)
+abbrev lending : tie.After-bindings2 → tie.After-numbers-of
+lending c = c .before .before .before .before .before
 
-long : (s : tie.Start) → length (s .args .t1 .bindings) ≡ 256
-long s = search needs
+whole : (w : tie.Start) → Whole (w .args .t1)
+whole w = record { sound = w .pre; sized = search needs }
 
-long-live : (s : tie.Start) → length (s .args .t1 .live) ≡ 64
-long-live s = search needs
+numbers-of-requires : tie.Need-numbers-of-requires
+numbers-of-requires c κs = search needs
 
-wide : (s : tie.Start) (j : ℕ) → Fits w64 (getD (s .args .t1 .bindings) j 0)
-wide s j = search needs
+take-requires : tie.Need-take-requires
+take-requires c κs = let n = lending c in (n .before .args .t1, lends _ (whole (n .before)) _ (n .numbers-of .ensures))
+
+with-names-requires : tie.Need-with-names-requires
+with-names-requires c κs = search needs
 
 returns : tie.Need-returns
-returns c = let s = c .before in (take-refused (s .args .t1) (s .args .name) 3 (get-no-top (s .args .t1) (s .args .name) (c .if1 .taken)), s .pre)
-
-lookup-requires : tie.Need-lookup-requires
-lookup-requires c κs = let s = c .before .before .before .before .before in (s .pre .named .most, long s, long-live s)
-
-returns-2 : tie.Need-returns-2
-returns-2 c = let e = c .before in let s = e .before .before .before .before .before .before in (take-refused (s .args .t1) (s .args .name) 10 (get-missing (s .args .t1) (s .args .name) (tops (e .before .before .before .before .before)) (e .lookup .result) (e .lookup .ensures) (c .if2 .taken)), s .pre)
-
-mul-b : tie.Need-mul-b
-mul-b c = search needs
-
-element-copy-out-b : tie.Need-element-copy-out-b
-element-copy-out-b c = search needs
-
-returns-3 : tie.Need-returns-3
-returns-3 c = let e = c .before .before .before in let s = e .before .before .before .before .before .before in (take-refused (s .args .t1) (s .args .name) 11 (get-moved (s .args .t1) (s .args .name) (tops (e .before .before .before .before .before)) (e .lookup .result) (e .lookup .ensures) (c .before .before .if2 .left) (c .if3 .taken)), s .pre)
-
-add-t : tie.Need-add-t
-add-t c = let e = c .before .before .before in omega (arith, wide (e .before .before .before .before .before .before) (e .lookup .result), c .if3 .left)
-
-mul-t : tie.Need-mul-t
-mul-t c = search needs
-
-element-write-t : tie.Need-element-write-t
-element-write-t c = search needs
-
-bound-of-requires : tie.Need-bound-of-requires
-bound-of-requires c κs = search needs
-
-returns-4 : tie.Need-returns-4
-returns-4 c =
-    let e = c .before .before .before .before in
-    let s = e .before .before .before .before .before .before in
-    let b = bound-is (c .bound-of .result) (getD (s .args .t1 .bindings) (e .lookup .result) 0) (c .bound-of .ensures) in (
-      (λ t. record { next = view (withBindings (s .args .t1) (set (s .args .t1 .bindings) (e .lookup .result) (getD (s .args .t1 .bindings) (e .lookup .result) 0 + 1)) (s .args .t1 .count)); says = b t })
-          ∙ take-found (s .args .t1) (s .args .name) (tops (e .before .before .before .before .before)) (e .lookup .result) (e .lookup .ensures) (c .before .before .before .if2 .left) (c .before .if3 .left) (s .pre),
-      take-sound (s .args .t1) (s .args .name) (tops (e .before .before .before .before .before)) (e .lookup .result) (e .lookup .ensures) (c .before .before .before .if2 .left) (c .before .if3 .left) (s .pre),
-    )
+returns c = let n = lending (c .before .before) in by-value _ (whole (n .before)) _ (n .numbers-of .ensures) _ _ (λ x. told bound x (rule.takeName base (n .before .args .name) x)) (c .before .take .ensures (n .before .args .t1)) _ (c .with-names .ensures)
 
 pub take-spec : {M : Type 1} → statement M
-take-spec =
-    tie.close
-    (tie.spec
-    returns
-    lookup-requires
-    returns-2
-    mul-b
-    element-copy-out-b
-    returns-3
-    add-t
-    mul-t
-    element-write-t
-    bound-of-requires
-    returns-4)
+take-spec = tie.close (tie.spec numbers-of-requires take-requires with-names-requires returns)

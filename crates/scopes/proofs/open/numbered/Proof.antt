@@ -1,24 +1,16 @@
--- The id of the scope that a number means. Assumes nothing.
-use native.Mathlib.Omega.{arith}
-use Rattle.scopes.proofs.Finds.{numbered-none, numbered-is, numbered-small}
+-- The id of the scope that a number means, by value. Assumes nothing.
 use borrow.Author.Needs.{needs}
 use Rattle.scopes.proofs.open.numbered.Statement.{statement}
 use Rattle.scopes.proofs.open.numbered.Tie as tie
 use Rattle.scopes.proofs.open.numbered.Reads as reads
 use Rattle.scopes.proofs.open.numbered.Lts as lts
-use Rattle.scopes.proofs.open.with_number.Reads as with-number-reads
+use Rattle.scopes.proofs.lent.open.numbered.Reads as numbered-reads
 
-with-number-requires : tie.Need-with-number-requires
-with-number-requires c κs = search needs
+numbered-requires : tie.Need-numbered-requires
+numbered-requires c κs = search needs
 
 returns : tie.Need-returns
-returns c = let w = c .before in let s = w .before .before .before .before in numbered-none (s .args .t1) (s .args .n) _ (w .with-number .ensures) (c .if1 .taken)
-
-cast-t8 : tie.Need-cast-t8
-cast-t8 c = let w = c .before in let s = w .before .before .before .before in omega (arith, numbered-small (s .args .t1) (s .args .n) _ (w .with-number .ensures) (c .if1 .left))
-
-returns-2 : tie.Need-returns-2
-returns-2 c = let w = c .before in let s = w .before .before .before .before in numbered-is (s .args .t1) (s .args .n) _ (w .with-number .ensures) (c .if1 .left)
+returns c = c .numbered .ensures (c .before .before .before .before .args .t1)
 
 pub numbered-spec : {M : Type 1} → statement M
-numbered-spec = tie.close (tie.spec with-number-requires returns cast-t8 returns-2)
+numbered-spec = tie.close (tie.spec numbered-requires returns)

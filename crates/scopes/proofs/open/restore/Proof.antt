@@ -1,62 +1,37 @@
--- A dangled scope is restored. Assumes nothing.
-use mathlib.Core.Path.{_≡_, refl, sym, _∙_}
-use Prim.Native.Nat.{ℕ, _<_}
-use native.Mathlib.Omega.{arith}
-use borrow.Author.Tests.{not-true, not-false}
-use lib.ListN.{length}
+-- A scope is restored, by value. Assumes nothing.
+use mathlib.Core.Path.{_≡_}
+use borrow.Author.Needs.{needs}
 use Rattle.rules.specs.Sizes.{base}
 use Rattle.rules.specs.Scopes as rule
-use Rattle.scopes.specs.View.{view, idOf}
-use Rattle.scopes.proofs.Finds.{Known, known, unknown}
-use Rattle.scopes.proofs.Marks.{restore-none, restore-undangled, restore-root, restore-unmarks}
-use borrow.Author.Needs.{needs}
+use Rattle.scopes.specs.View.{idOf, toldOnly}
+use Rattle.scopes.specs.Lent.{Whole}
+use Rattle.scopes.proofs.Wraps.{lends, by-value}
 use Rattle.scopes.proofs.open.restore.Statement.{statement}
 use Rattle.scopes.proofs.open.restore.Tie as tie
 use Rattle.scopes.proofs.open.restore.Reads as reads
 use Rattle.scopes.proofs.open.restore.Lts as lts
-use Rattle.scopes.proofs.open.place_of.Reads as place-of-reads
+use Rattle.scopes.proofs.lent.open.restore.Reads as restore-reads
+use Rattle.scopes.proofs.numbers_of.Reads as numbers-of-reads
+use Rattle.scopes.proofs.open.with_scopes.Reads as with-scopes-reads
 
-abbrev start : tie.After-place-of → tie.Start
-start w = w .before .before .before .before
+abbrev lending : tie.After-number2 → tie.After-numbers-of
+lending c = c .before .before .before .before .before .before .before
 
-meant : (c : tie.Else1) → Known (start (c .before) .args .t1) (rule.byId base (view (start (c .before) .args .t1)) (idOf (start (c .before) .args .id))) (c .before .place-of .result)
-meant c = known _ _ _ (c .before .place-of .ensures) (c .if1 .left)
+whole : (w : tie.Start) → Whole (w .args .s)
+whole w = record { sound = w .pre; sized = search needs }
 
-long-live : (s : tie.Start) → length (s .args .t1 .live) ≡ 64
-long-live s = search needs
+numbers-of-requires : tie.Need-numbers-of-requires
+numbers-of-requires c κs = search needs
 
-long-dangled : (s : tie.Start) → length (s .args .t1 .dangled) ≡ 64
-long-dangled s = search needs
+restore-requires : tie.Need-restore-requires
+restore-requires c κs = let n = lending c in (n .before .args .s, lends _ (whole (n .before)) _ (n .numbers-of .ensures))
 
-place-of-requires : tie.Need-place-of-requires
-place-of-requires c κs = search needs
+with-scopes-requires : tie.Need-with-scopes-requires
+with-scopes-requires c κs = search needs
 
 returns : tie.Need-returns
-returns c = let s = start (c .before) in (restore-none (s .args .t1) _ (unknown (s .args .t1) (idOf (s .args .id)) _ (c .before .place-of .ensures) (c .if1 .taken)), s .pre)
-
-element-copy-out-if2 : tie.Need-element-copy-out-if2
-element-copy-out-if2 c = meant c .small
-
-returns-2 : tie.Need-returns-2
-returns-2 c = let e = c .before .before in let s = start (e .before) in (restore-undangled (s .args .t1) _ _ (meant e) (not-true _ (c .if2 .taken)), s .pre)
-
-returns-3 : tie.Need-returns-3
-returns-3 c = let e = c .before .before .before in let s = start (e .before) in (restore-root (s .args .t1) _ _ (meant e) (not-false _ (c .before .if2 .left)) (c .if3 .taken), s .pre)
-
-element-write-t : tie.Need-element-write-t
-element-write-t c = meant (c .before .before .before) .small
-
-returns-4 : tie.Need-returns-4
-returns-4 c = let e = c .before .before .before in let s = start (e .before) in restore-unmarks (s .args .t1) _ _ (meant e) (s .pre) (long-dangled s) (long-live s) (c .if3 .left) (not-false _ (c .before .if2 .left))
+returns c = let n = lending (c .before .before) in by-value _ (whole (n .before)) _ (n .numbers-of .ensures) _ _ (λ x. toldOnly x (rule.restoreScope (rule.byId base x (idOf (n .before .args .id))) x)) (c .before .restore .ensures (n .before .args .s)) _ (c .with-scopes .ensures)
 
 pub restore-spec : {M : Type 1} → statement M
 restore-spec =
-    tie.close
-    (tie.spec
-    place-of-requires
-    returns
-    element-copy-out-if2
-    returns-2
-    returns-3
-    element-write-t
-    returns-4)
+    tie.close (tie.spec numbers-of-requires restore-requires with-scopes-requires returns)

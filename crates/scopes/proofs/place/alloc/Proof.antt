@@ -1,22 +1,37 @@
--- A slot for the top scope. Assumes nothing.
-use mathlib.Core.Path.{_≡_, ap, _∙_}
-use Rattle.scopes.specs.View.{view, at, told}
-use Rattle.scopes.proofs.Finds.{Topped, topped}
-use Rattle.scopes.proofs.Allocs.{alloc-no-top, alloc-top}
+-- A slot for the top scope, by value. Assumes nothing.
+use mathlib.Core.Path.{_≡_}
+use borrow.Author.Needs.{needs}
+use Rattle.rules.specs.Sizes.{base}
+use Rattle.rules.specs.Slots.{edition1}
+use Rattle.rules.specs.Scopes as rule
+use Rattle.scopes.specs.View.{at, told}
+use Rattle.scopes.specs.Lent.{Whole}
+use Rattle.scopes.proofs.Wraps.{lends, by-value}
 use Rattle.scopes.proofs.place.alloc.Statement.{statement}
 use Rattle.scopes.proofs.place.alloc.Tie as tie
 use Rattle.scopes.proofs.place.alloc.Reads as reads
 use Rattle.scopes.proofs.place.alloc.Lts as lts
-use Rattle.scopes.proofs.place.alloc_at.Reads as alloc-at-reads
+use Rattle.scopes.proofs.lent.place.alloc.Reads as alloc-reads
+use Rattle.scopes.proofs.numbers_of.Reads as numbers-of-reads
+use Rattle.scopes.proofs.place.with_slots.Reads as with-slots-reads
+
+abbrev lending : tie.After-owner2 → tie.After-numbers-of
+lending c = c .before .before .before .before .before .before
+
+whole : (w : tie.Start) → Whole (w .args .s)
+whole w = record { sound = w .pre; sized = search needs }
+
+numbers-of-requires : tie.Need-numbers-of-requires
+numbers-of-requires c κs = search needs
+
+alloc-requires : tie.Need-alloc-requires
+alloc-requires c κs = let n = lending c in (n .before .args .s, lends _ (whole (n .before)) _ (n .numbers-of .ensures))
+
+with-slots-requires : tie.Need-with-slots-requires
+with-slots-requires c κs = search needs
 
 returns : tie.Need-returns
-returns c = (alloc-no-top (c .before .args .s) (c .if1 .taken), c .before .pre)
-
-alloc-at-requires : tie.Need-alloc-at-requires
-alloc-at-requires c κs = let s = c .before in let t = topped (s .args .s) (s .pre) (c .if1 .left) in (s .pre, t .small, t .live)
-
-returns-2 : tie.Need-returns-2
-returns-2 c = let s = c .before .before in (c .alloc-at .ensures .0 ∙ ap (told at (view (s .args .s))) (alloc-top (s .args .s) (topped (s .args .s) (s .pre) (c .before .if1 .left))), c .alloc-at .ensures .1)
+returns c = let n = lending (c .before .before) in by-value _ (whole (n .before)) _ (n .numbers-of .ensures) _ _ (λ x. told at x (rule.allocTop (edition1 (base .segments)) x)) (c .before .alloc .ensures (n .before .args .s)) _ (c .with-slots .ensures)
 
 pub alloc-spec : {M : Type 1} → statement M
-alloc-spec = tie.close (tie.spec returns alloc-at-requires returns-2)
+alloc-spec = tie.close (tie.spec numbers-of-requires alloc-requires with-slots-requires returns)

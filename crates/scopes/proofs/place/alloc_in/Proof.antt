@@ -1,35 +1,38 @@
--- A slot for the scope with an id. Assumes nothing.
-use mathlib.Core.Path.{_≡_, ap, _∙_}
-use Rattle.rules.specs.Sizes.{base}
-use Rattle.rules.specs.Scopes as rule
-use Rattle.scopes.specs.View.{view, idOf, at, told}
-use Rattle.scopes.proofs.Finds.{Known, known, unknown}
-use Rattle.scopes.proofs.Allocs.{alloc-in-none, alloc-in-is}
+-- A slot for the scope with an id, by value. Assumes nothing.
+use mathlib.Core.Path.{_≡_}
 use borrow.Author.Needs.{needs}
+use Rattle.rules.specs.Sizes.{base}
+use Rattle.rules.specs.Slots.{edition1}
+use Rattle.rules.specs.Scopes as rule
+use Rattle.scopes.specs.View.{idOf, at, told}
+use Rattle.scopes.specs.Lent.{Whole}
+use Rattle.scopes.proofs.Wraps.{lends, by-value}
 use Rattle.scopes.proofs.place.alloc_in.Statement.{statement}
 use Rattle.scopes.proofs.place.alloc_in.Tie as tie
 use Rattle.scopes.proofs.place.alloc_in.Reads as reads
 use Rattle.scopes.proofs.place.alloc_in.Lts as lts
-use Rattle.scopes.proofs.open.place_of.Reads as place-of-reads
-use Rattle.scopes.proofs.place.alloc_at.Reads as alloc-at-reads
+use Rattle.scopes.proofs.lent.place.alloc_in.Reads as alloc-in-reads
+use Rattle.scopes.proofs.numbers_of.Reads as numbers-of-reads
+use Rattle.scopes.proofs.place.with_slots.Reads as with-slots-reads
 
-abbrev start : tie.After-place-of → tie.Start
-start w = w .before .before .before .before
+abbrev lending : tie.After-alloc-in-arg2 → tie.After-numbers-of
+lending c = c .before .before .before .before .before .before .before .before .before
 
-meant : (c : tie.Else1) → Known (start (c .before) .args .t1) (rule.byId base (view (start (c .before) .args .t1)) (idOf (start (c .before) .args .id))) (c .before .place-of .result)
-meant c = known _ _ _ (c .before .place-of .ensures) (c .if1 .left)
+whole : (w : tie.Start) → Whole (w .args .t1)
+whole w = record { sound = w .pre; sized = search needs }
 
-place-of-requires : tie.Need-place-of-requires
-place-of-requires c κs = search needs
+numbers-of-requires : tie.Need-numbers-of-requires
+numbers-of-requires c κs = search needs
+
+alloc-in-requires : tie.Need-alloc-in-requires
+alloc-in-requires c κs = let n = lending c in (n .before .args .t1, lends _ (whole (n .before)) _ (n .numbers-of .ensures))
+
+with-slots-requires : tie.Need-with-slots-requires
+with-slots-requires c κs = search needs
 
 returns : tie.Need-returns
-returns c = let s = start (c .before) in (alloc-in-none (s .args .t1) _ (unknown (s .args .t1) (idOf (s .args .id)) _ (c .before .place-of .ensures) (c .if1 .taken)), s .pre)
-
-alloc-at-requires : tie.Need-alloc-at-requires
-alloc-at-requires c κs = let s = start (c .before) in (s .pre, meant c .small, meant c .live)
-
-returns-2 : tie.Need-returns-2
-returns-2 c = let e = c .before in let s = start (e .before) in (c .alloc-at .ensures .0 ∙ ap (told at (view (s .args .t1))) (alloc-in-is (s .args .t1) _ _ (meant e)), c .alloc-at .ensures .1)
+returns c = let n = lending (c .before .before) in by-value _ (whole (n .before)) _ (n .numbers-of .ensures) _ _ (λ x. told at x (rule.allocIn (edition1 (base .segments)) (rule.byId base x (idOf (n .before .args .id))) x)) (c .before .alloc-in .ensures (n .before .args .t1)) _ (c .with-slots .ensures)
 
 pub alloc-in-spec : {M : Type 1} → statement M
-alloc-in-spec = tie.close (tie.spec place-of-requires returns alloc-at-requires returns-2)
+alloc-in-spec =
+    tie.close (tie.spec numbers-of-requires alloc-in-requires with-slots-requires returns)

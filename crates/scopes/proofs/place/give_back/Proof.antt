@@ -1,52 +1,36 @@
--- A slot goes back, if the top owns it. Assumes nothing.
-use mathlib.Core.Path.{_≡_, refl, sym, _∙_}
-use native.Mathlib.Omega.{arith}
-use borrow.Author.Tests.{ne-eqb}
-use Rattle.scopes.proofs.Finds.{Topped, topped}
-use Rattle.scopes.proofs.Frees.{far, free-no-top, free-not-owned}
+-- A slot goes back, by value. Assumes nothing.
+use mathlib.Core.Path.{_≡_}
 use borrow.Author.Needs.{needs}
+use Rattle.rules.specs.Needs.{giveBack}
+use Rattle.scopes.specs.View.{toldOnly}
+use Rattle.scopes.specs.Lent.{Whole}
+use Rattle.scopes.proofs.Wraps.{lends, by-value}
 use Rattle.scopes.proofs.place.give_back.Statement.{statement}
 use Rattle.scopes.proofs.place.give_back.Tie as tie
 use Rattle.scopes.proofs.place.give_back.Reads as reads
 use Rattle.scopes.proofs.place.give_back.Lts as lts
-use Rattle.scopes.proofs.place.release.Reads as release-reads
+use Rattle.scopes.proofs.lent.place.give_back.Reads as give-back-reads
+use Rattle.scopes.proofs.numbers_of.Reads as numbers-of-reads
+use Rattle.scopes.proofs.place.with_slots.Reads as with-slots-reads
 
-tops : (c : tie.Else1) → Topped (c .before .before .args .t1)
-tops c = topped _ (c .before .before .pre) (c .if1 .left)
+abbrev lending : tie.After-owner2 → tie.After-numbers-of
+lending c = c .before .before .before .before .before .before
 
-cast-x : tie.Need-cast-x
-cast-x c = search needs
+whole : (w : tie.Start) → Whole (w .args .s)
+whole w = record { sound = w .pre; sized = search needs }
+
+numbers-of-requires : tie.Need-numbers-of-requires
+numbers-of-requires c κs = search needs
+
+give-back-requires : tie.Need-give-back-requires
+give-back-requires c κs = let n = lending c in (n .before .args .s, lends _ (whole (n .before)) _ (n .numbers-of .ensures))
+
+with-slots-requires : tie.Need-with-slots-requires
+with-slots-requires c κs = search needs
 
 returns : tie.Need-returns
-returns c = let s = c .before .before in (free-no-top (s .args .t1) (s .args .dangles) _ (c .if1 .taken), s .pre)
-
-returns-2 : tie.Need-returns-2
-returns-2 c = let s = c .before .before .before in let t = tops (c .before) in (free-not-owned _ _ _ t (far _ _ _ _ (s .pre .ringed) (c .if2 .taken) (omega (arith, t .small))), s .pre)
-
-element-copy-out-if3 : tie.Need-element-copy-out-if3
-element-copy-out-if3 c = search needs
-
-cast-if3 : tie.Need-cast-if3
-cast-if3 c = search needs
-
-returns-3 : tie.Need-returns-3
-returns-3 c = let s = c .before .before .before .before .before in let t = tops (c .before .before .before) in (free-not-owned _ _ _ t (s .pre .ringed .tells _ _ (c .before .before .if2 .left) (omega (arith, t .small)) ∙ ne-eqb _ _ (c .if3 .taken)), s .pre)
-
-release-requires : tie.Need-release-requires
-release-requires c κs = let s = c .before .before .before .before .before in let t = tops (c .before .before .before) in (s .pre, c .before .before .if2 .left, t .small, c .if3 .left)
-
-returns-4 : tie.Need-returns-4
-returns-4 c = search needs
+returns c = let n = lending (c .before .before) in by-value _ (whole (n .before)) _ (n .numbers-of .ensures) _ _ (λ x. toldOnly x (giveBack (n .before .args .dangles) (n .before .args .a .0) x)) (c .before .give-back .ensures (n .before .args .s)) _ (c .with-slots .ensures)
 
 pub give-back-spec : {M : Type 1} → statement M
 give-back-spec =
-    tie.close
-    (tie.spec
-    cast-x
-    returns
-    returns-2
-    element-copy-out-if3
-    cast-if3
-    returns-3
-    release-requires
-    returns-4)
+    tie.close (tie.spec numbers-of-requires give-back-requires with-slots-requires returns)

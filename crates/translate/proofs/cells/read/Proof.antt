@@ -1,34 +1,27 @@
-use denote.Ref.{now}
+-- 11 read. Assumes nothing.
+use native.Mathlib.Omega.{arith}
+use mathlib.Core.Path.{_≡_, refl, sym, ap, subst, _∙_}
 use Rattle.rules.specs.Frames as frame
+use Rattle.rules.specs.Sizes.{base}
 use Rattle.translate.proofs.Allocations.{works-refused}
 use Rattle.translate.proofs.Handling.{read-unknown, read-loads}
 use borrow.Author.Needs.{needs}
 use Rattle.translate.proofs.cells.read.Statement.{statement}
 use Rattle.translate.proofs.cells.read.Tie as tie
-use Rattle.translate.proofs.cells.read.Reads as reads
-use Rattle.translate.proofs.cells.read.Lts as lts
-use Rattle.translate.proofs.cells.load.Reads as load-reads
-use Rattle.translate.proofs.steps.refused.Reads as refused-reads
 
--- src/cells.rt:114:13
 cast-i : tie.Need-cast-i
 cast-i c = search needs
 
--- src/cells.rt:116:9
-refused-requires : tie.Need-refused-requires
-refused-requires c κs = search needs
-
--- src/cells.rt:116:9
 returns : tie.Need-returns
-returns c = works-refused (c .before .before .before .args .s) _ _ (c .before .before .before .args .handed) (c .before .before .before .pre) (frame.read (c .before .before .before .args .h .0)) 0x11 13 (c .refused .result) (c .refused .ensures) (read-unknown _ (c .before .before .before .args .h .0) (c .before .if1 .taken))
+returns c = λ s stands. let a = c .before .before .args in works-refused _ _ _ _ stands (frame.read (a .h .0)) 0x11 13 _ refl (read-unknown _ (a .h .0) (c .if1 .taken))
 
--- src/cells.rt:118:5
 load-requires : tie.Need-load-requires
 load-requires c κs = search needs
 
--- src/cells.rt:104:1
 returns-2 : tie.Need-returns-2
-returns-2 c = λ drained. c .load .ensures (frame.read (c .before .before .before .before .before .args .h .0)) 0x11 drained (read-loads (c .before .before .before .before .before .args .s) (now (c .before .before .before .before .before .args .handles)) (now (c .before .before .before .before .before .args .holders)) (c .before .before .before .before .before .args .handed) (c .before .before .before .before .before .args .h .0) (c .before .before .before .if1 .left))
+returns-2 c = λ s stands.
+    let h = c .before .before .before .args .h .0 in
+    c .load .ensures (frame.read h) 0x11 s (read-loads stands h (c .before .if1 .left)) stands
 
 pub read-spec : {M : Type 1} → statement M
-read-spec = tie.close (tie.spec cast-i refused-requires returns load-requires returns-2)
+read-spec = tie.close (tie.spec cast-i returns load-requires returns-2)

@@ -1,49 +1,47 @@
-use denote.Ref.{now}
+-- 12 read name: 3, 10, 11, 14, 15. Assumes nothing.
 use native.Mathlib.Omega.{arith}
+use mathlib.Core.Path.{_≡_, refl, sym, ap, subst, _∙_}
 use Rattle.rules.specs.Frames as frame
 use Rattle.rules.specs.Sizes.{base}
-use mathlib.Core.Path.{sym, subst}
-use Prim.Native.Nat.{ℕ}
-use Rattle.translate.specs.Steps.{LoadsOf}
-use Rattle.translate.proofs.Reading.{named-refused, named-loads}
+use Rattle.scopes.specs.declared.Scopes.{Scopes}
+use Rattle.translate.specs.Steps.{onCells}
+use Rattle.translate.proofs.Reading.{named-refused, named-loads, loads-at}
 use borrow.Author.Needs.{needs}
 use Rattle.translate.proofs.cells.read_name.Statement.{statement}
 use Rattle.translate.proofs.cells.read_name.Tie as tie
-use Rattle.translate.proofs.cells.read_name.Reads as reads
-use Rattle.translate.proofs.cells.read_name.Lts as lts
-use Rattle.scopes.proofs.names.get.Reads as get-reads
-use Rattle.translate.proofs.cells.handle_or.Reads as handle-or-reads
-use Rattle.translate.proofs.cells.load.Reads as load-reads
-use Rattle.translate.proofs.steps.adds_of.Reads as adds-of-reads
 
--- src/cells.rt:149:9
+-- the state that s is with the arrays as they came in
+abbrev state : tie.Start → Scopes → Scopes
+state st s = onCells s (st .args .halves .now) (st .args .live .now) (st .args .parent .now) (st .args .bindings .now) (st .args .n)
+
 get-requires : tie.Need-get-requires
-get-requires c κs = search needs
+get-requires c κs = (state c (c .pre .0), c .pre .1 .whole)
 
--- src/cells.rt:150:9
 handle-or-requires : tie.Need-handle-or-requires
 handle-or-requires c κs = search needs
 
--- src/cells.rt:151:13
 cast-i : tie.Need-cast-i
 cast-i c = search needs
 
--- src/cells.rt:156:19
 adds-of-requires : tie.Need-adds-of-requires
 adds-of-requires c κs = search needs
 
--- src/cells.rt:153:9
 returns : tie.Need-returns
-returns c = named-refused (c .before .before .before .before .args .s) _ _ (c .before .before .before .before .args .handed) (c .before .before .before .before .pre) (c .before .before .before .before .args .name) (c .before .before .before .get .result) (c .before .before .before .get .ensures) (omega arith) (c .adds-of .result) (c .adds-of .ensures)
+returns c = λ s stands.
+    let g = c .before .before .before in
+    let st = g .before in
+    named-refused _ _ _ _ stands (st .args .name) (g .get .result) (g .get .ensures (state st s) (stands .whole)) (omega (arith, c .before .before .handle-or .ensures, c .before .if1 .taken)) (c .adds-of .result) (c .adds-of .ensures)
 
--- src/cells.rt:159:5
 load-requires : tie.Need-load-requires
-load-requires c κs = search needs
+load-requires c κs = let st = c .before .before .before in ((state st (st .pre .0), st .pre .1), c .if1 .left)
 
--- src/cells.rt:139:1
 returns-2 : tie.Need-returns-2
 unfolding base
-returns-2 c = λ drained. c .load .ensures (frame.readName (c .before .before .before .before .before .before .args .name)) 0x12 drained (subst (λ (n : ℕ). LoadsOf (frame.readName (c .before .before .before .before .before .before .args .name)) 0x12 (c .before .before .before .before .before .before .args .s) (now (c .before .before .before .before .before .before .args .handles)) (now (c .before .before .before .before .before .before .args .holders)) (c .before .before .before .before .before .before .args .handed) n) (sym (c .before .before .before .before .handle-or .ensures)) (named-loads (c .before .before .before .before .before .before .args .s) _ _ (c .before .before .before .before .before .before .args .handed) (c .before .before .before .before .before .before .pre) (c .before .before .before .before .before .before .args .name) (c .before .before .before .before .before .get .result) (c .before .before .before .before .before .get .ensures) (omega arith) (c .before .before .before .before .before .before .pre .state .handles .few)))
+returns-2 c = λ s stands.
+    let g = c .before .before .before in
+    let st = g .before in
+    c .load .ensures (frame.readName (st .args .name)) 0x12 (state st s)
+    (loads-at _ _ _ _ stands (frame.readName (st .args .name)) 0x12 (sym (c .before .before .handle-or .ensures)) (named-loads _ _ _ _ stands (st .args .name) (g .get .result) (g .get .ensures (state st s) (stands .whole)) (omega (arith, c .before .before .handle-or .ensures, c .before .if1 .left)) (stands .state .handles .few))) stands
 
 pub read-name-spec : {M : Type 1} → statement M
 read-name-spec =

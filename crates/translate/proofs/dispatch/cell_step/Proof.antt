@@ -1,47 +1,34 @@
+-- 10 to 12. Assumes nothing.
 use native.Mathlib.Omega.{arith}
+use mathlib.Core.Path.{_≡_, refl, sym, ap, subst, _∙_}
 use Rattle.rules.specs.Frames as frame
+use Rattle.rules.specs.Sizes.{base}
+use Rattle.translate.specs.Steps.{onCells}
 use Rattle.translate.proofs.Opcodes.{works-as, no-frame, is-high, is-write, is-read, is-read-name}
 use borrow.Author.Needs.{needs}
 use Rattle.translate.proofs.dispatch.cell_step.Statement.{statement}
 use Rattle.translate.proofs.dispatch.cell_step.Tie as tie
-use Rattle.translate.proofs.dispatch.cell_step.Reads as reads
-use Rattle.translate.proofs.dispatch.cell_step.Lts as lts
-use Rattle.translate.proofs.cells.read.Reads as read-reads
-use Rattle.translate.proofs.cells.read_name.Reads as read-name-reads
-use Rattle.translate.proofs.cells.write.Reads as write-reads
-use Rattle.translate.proofs.steps.refused.Reads as refused-reads
 
--- src/dispatch.rt:118:9
 write-requires : tie.Need-write-requires
-write-requires c κs = search needs
+write-requires c κs = let st = c .before .before .before in (onCells (st .pre .0 .0) (st .args .halves .now) (st .args .live .now) (st .args .parent .now) (st .args .bindings .now) (st .args .n), st .pre .0 .1)
 
--- src/dispatch.rt:118:9
 returns : tie.Need-returns
-returns c = λ g q drained. works-as (c .before .before .before .before .before .args .f) 0x10 (frame.write (c .before .before .before .before .before .args .f .a) (c .before .before .before .before .before .args .f .b)) g (c .before .before .before .if1 .taken) (is-write (c .before .before .before .before .before .args .f) (c .before .before .before .if1 .taken)) q (c .write .ensures drained)
+returns c = λ g q s stands drained. let st = c .before .before .before .before in works-as (st .args .f) 0x10 (frame.write (st .args .f .a) (st .args .f .b)) g (c .before .before .if1 .taken) (is-write (st .args .f) (c .before .before .if1 .taken)) q (c .write .ensures (onCells s (st .args .halves .now) (st .args .live .now) (st .args .parent .now) (st .args .bindings .now) (st .args .n)) stands drained)
 
--- src/dispatch.rt:121:9
 read-requires : tie.Need-read-requires
-read-requires c κs = search needs
+read-requires c κs = let st = c .before .before .before .before .before in (onCells (st .pre .0 .0) (st .args .halves .now) (st .args .live .now) (st .args .parent .now) (st .args .bindings .now) (st .args .n), st .pre .0 .1)
 
--- src/dispatch.rt:121:9
 returns-2 : tie.Need-returns-2
-returns-2 c = λ g q drained. works-as (c .before .before .before .before .before .before .before .args .f) 0x11 (frame.read (c .before .before .before .before .before .before .before .args .f .a)) g (c .before .before .before .if2 .taken) (is-read (c .before .before .before .before .before .before .before .args .f) (c .before .before .before .if2 .taken)) q (c .read .ensures drained)
+returns-2 c = λ g q s stands drained. let st = c .before .before .before .before .before .before in works-as (st .args .f) 0x11 (frame.read (st .args .f .a)) g (c .before .before .if2 .taken) (is-read (st .args .f) (c .before .before .if2 .taken)) q (c .read .ensures (onCells s (st .args .halves .now) (st .args .live .now) (st .args .parent .now) (st .args .bindings .now) (st .args .n)) stands drained)
 
--- src/dispatch.rt:124:9
 read-name-requires : tie.Need-read-name-requires
 read-name-requires c κs = search needs
 
--- src/dispatch.rt:124:9
 returns-3 : tie.Need-returns-3
-returns-3 c = λ g q drained. works-as (c .before .before .before .before .before .before .before .before .before .args .f) 0x12 (frame.readName (c .before .before .before .before .before .before .before .before .before .args .f .a)) g (c .before .before .before .if3 .taken) (is-read-name (c .before .before .before .before .before .before .before .before .before .args .f) (c .before .before .before .if3 .taken)) q (c .read-name .ensures drained)
+returns-3 c = λ g q s stands drained. let st = c .before .before .before .before .before .before .before .before in works-as (st .args .f) 0x12 (frame.readName (st .args .f .a)) g (c .before .before .if3 .taken) (is-read-name (st .args .f) (c .before .before .if3 .taken)) q (c .read-name .ensures s stands drained)
 
--- src/dispatch.rt:126:5
-refused-requires : tie.Need-refused-requires
-refused-requires c κs = search needs
-
--- src/dispatch.rt:107:1
 returns-4 : tie.Need-returns-4
-returns-4 c = λ g q. no-frame (is-high (c .before .before .before .before .before .before .before .args .f) (omega (arith, c .before .before .before .before .before .before .before .pre .1))) q
+returns-4 c = λ g q. let st = c .before .before .before .before .before .before in no-frame (is-high (st .args .f) (omega (arith, st .pre .1, c .before .before .before .before .if1 .left, c .before .before .if2 .left, c .if3 .left))) q
 
 pub cell-step-spec : {M : Type 1} → statement M
 cell-step-spec =
@@ -53,5 +40,4 @@ cell-step-spec =
     returns-2
     read-name-requires
     returns-3
-    refused-requires
     returns-4)

@@ -1,37 +1,34 @@
+-- 0c to 0e. Assumes nothing.
 use native.Mathlib.Omega.{arith}
+use mathlib.Core.Path.{_≡_, refl, sym, ap, subst, _∙_}
 use Rattle.rules.specs.Frames as frame
+use Rattle.rules.specs.Sizes.{base}
 use Rattle.translate.proofs.Opcodes.{works-as, is-free, is-free-quietly, is-forget}
 use borrow.Author.Needs.{needs}
 use Rattle.translate.proofs.dispatch.free_step.Statement.{statement}
 use Rattle.translate.proofs.dispatch.free_step.Tie as tie
-use Rattle.translate.proofs.dispatch.free_step.Reads as reads
-use Rattle.translate.proofs.dispatch.free_step.Lts as lts
-use Rattle.translate.proofs.frees.forget.Reads as forget-reads
-use Rattle.translate.proofs.frees.free.Reads as free-reads
 
--- src/dispatch.rt:98:9
 free-requires : tie.Need-free-requires
 free-requires c κs = search needs
 
--- src/dispatch.rt:98:9
 returns : tie.Need-returns
-returns c = λ g q drained. works-as (c .before .before .before .before .before .args .f) 0x0c (frame.free (c .before .before .before .before .before .args .f .a)) g (c .before .before .before .if1 .taken) (is-free (c .before .before .before .before .before .args .f) (c .before .before .before .if1 .taken)) q (c .free .ensures drained)
+returns c = λ g q s stands drained. let st = c .before .before .before .before .before .before .before in works-as (st .args .f) 0x0c (frame.free (st .args .f .a)) g (c .before .before .before .before .before .if1 .taken) (is-free (st .args .f) (c .before .before .before .before .before .if1 .taken)) q (c .free .ensures s stands drained)
 
--- src/dispatch.rt:101:9
 free-requires-2 : tie.Need-free-requires-2
 free-requires-2 c κs = search needs
 
--- src/dispatch.rt:101:9
 returns-2 : tie.Need-returns-2
-returns-2 c = λ g q drained. works-as (c .before .before .before .before .before .before .before .args .f) 0x0d (frame.freeQuietly (c .before .before .before .before .before .before .before .args .f .a)) g (c .before .before .before .if2 .taken) (is-free-quietly (c .before .before .before .before .before .before .before .args .f) (c .before .before .before .if2 .taken)) q (c .free2 .ensures drained)
+returns-2 c = λ g q s stands drained. let st = c .before .before .before .before .before .before .before .before .before in works-as (st .args .f) 0x0d (frame.freeQuietly (st .args .f .a)) g (c .before .before .before .before .before .if2 .taken) (is-free-quietly (st .args .f) (c .before .before .before .before .before .if2 .taken)) q (c .free2 .ensures s stands drained)
 
--- src/dispatch.rt:103:5
 forget-requires : tie.Need-forget-requires
-forget-requires c κs = search needs
+unfolding base
+forget-requires c κs = let p = c .before .before .before .before .before .pre .0 .1 in record { most = p .state .handles .few; long = p .handles-length }
 
--- src/dispatch.rt:86:1
 returns-3 : tie.Need-returns-3
-returns-3 c = λ g q drained. works-as (c .before .before .before .before .before .before .before .args .f) 0x0e (frame.forget (c .before .before .before .before .before .before .before .args .f .a)) g (omega (arith, c .before .before .before .before .before .before .before .pre .1, c .before .before .before .before .before .before .before .pre .2)) (is-forget (c .before .before .before .before .before .before .before .args .f) (omega (arith, c .before .before .before .before .before .before .before .pre .1, c .before .before .before .before .before .before .before .pre .2))) q (c .forget .ensures drained)
+returns-3 c = λ g q s stands drained.
+    let st = c .before .before .before .before .before .before in
+    let e : st .args .f .opcode ≡ 14 = omega (arith, st .pre .1, st .pre .2, c .before .before .before .before .if1 .left, c .before .before .if2 .left) in
+    works-as (st .args .f) 0x0e (frame.forget (st .args .f .a)) g e (is-forget (st .args .f) e) q (c .forget .ensures _ _ stands drained)
 
 pub free-step-spec : {M : Type 1} → statement M
 free-step-spec =

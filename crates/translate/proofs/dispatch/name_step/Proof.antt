@@ -1,38 +1,40 @@
+-- 09 to 0b. Assumes nothing.
 use native.Mathlib.Omega.{arith}
+use mathlib.Core.Path.{_≡_, refl, sym, ap, subst, _∙_}
 use Rattle.rules.specs.Frames as frame
+use Rattle.rules.specs.Sizes.{base}
+use Rattle.scopes.specs.declared.Scopes.{Scopes}
+use Rattle.translate.specs.Steps.{onNames}
 use Rattle.translate.proofs.Opcodes.{works-as, is-define, is-get, is-take}
 use borrow.Author.Needs.{needs}
 use Rattle.translate.proofs.dispatch.name_step.Statement.{statement}
 use Rattle.translate.proofs.dispatch.name_step.Tie as tie
-use Rattle.translate.proofs.dispatch.name_step.Reads as reads
-use Rattle.translate.proofs.dispatch.name_step.Lts as lts
-use Rattle.translate.proofs.named.define.Reads as define-reads
-use Rattle.translate.proofs.named.get.Reads as get-reads
-use Rattle.translate.proofs.named.take.Reads as take-reads
 
--- src/dispatch.rt:77:9
+-- the state that s is with the arrays as they came in
+abbrev state : tie.Start → Scopes → Scopes
+state st s = onNames s (st .args .live .now) (st .args .parent .now) (st .args .bindings .now) (st .args .n)
+
 define-requires : tie.Need-define-requires
-define-requires c κs = search needs
+define-requires c κs = let st = c .before .before .before in (state st (st .pre .0 .0), st .pre .0 .1)
 
--- src/dispatch.rt:77:9
 returns : tie.Need-returns
-returns c = λ g q drained. works-as (c .before .before .before .before .before .args .f) 0x09 (frame.define (c .before .before .before .before .before .args .f .a) (c .before .before .before .before .before .args .f .b)) g (c .before .before .before .if1 .taken) (is-define (c .before .before .before .before .before .args .f) (c .before .before .before .if1 .taken)) q (c .define .ensures drained)
+returns c = λ g q s holders stands drained. let st = c .before .before .before .before in let f = st .args .f in works-as f 0x09 (frame.define (f .a) (f .b)) g (c .before .before .if1 .taken) (is-define f (c .before .before .if1 .taken)) q (c .define .ensures (state st s) holders stands drained)
 
--- src/dispatch.rt:80:9
 get-requires : tie.Need-get-requires
-get-requires c κs = search needs
+get-requires c κs = let st = c .before .before .before .before .before in (st .pre .0 .0, st .pre .0 .1 .1 .whole)
 
--- src/dispatch.rt:80:9
 returns-2 : tie.Need-returns-2
-returns-2 c = λ g q drained. works-as (c .before .before .before .before .before .args .f) 0x0a (frame.get (c .before .before .before .before .before .args .f .a)) g (c .before .if2 .taken) (is-get (c .before .before .before .before .before .args .f) (c .before .if2 .taken)) q (c .get .ensures _ _ drained (c .before .before .before .before .before .pre .0))
+returns-2 c = λ g q s holders stands drained. let st = c .before .before .before .before .before .before in let f = st .args .f in works-as f 0x0a (frame.get (f .a)) g (c .before .before .if2 .taken) (is-get f (c .before .before .if2 .taken)) q (c .get .ensures s _ holders _ stands drained)
 
--- src/dispatch.rt:82:5
 take-requires : tie.Need-take-requires
-take-requires c κs = search needs
+take-requires c κs = let st = c .before .before .before .before .before in (st .pre .0 .0, st .pre .0 .1 .1 .whole)
 
--- src/dispatch.rt:66:1
 returns-3 : tie.Need-returns-3
-returns-3 c = λ g q drained. works-as (c .before .before .before .before .before .args .f) 0x0b (frame.takeFrom (c .before .before .before .before .before .args .f .a)) g (omega (arith, c .before .before .before .before .before .pre .1, c .before .before .before .before .before .pre .2)) (is-take (c .before .before .before .before .before .args .f) (omega (arith, c .before .before .before .before .before .pre .1, c .before .before .before .before .before .pre .2))) q (c .take .ensures _ _ drained (c .before .before .before .before .before .pre .0))
+returns-3 c = λ g q s holders stands drained.
+    let st = c .before .before .before .before .before .before in
+    let f = st .args .f in
+    let e : f .opcode ≡ 11 = omega (arith, st .pre .1, st .pre .2, c .before .before .before .before .if1 .left, c .before .before .if2 .left) in
+    works-as f 0x0b (frame.takeFrom (f .a)) g e (is-take f e) q (c .take .ensures s _ holders stands drained)
 
 pub name-step-spec : {M : Type 1} → statement M
 name-step-spec =

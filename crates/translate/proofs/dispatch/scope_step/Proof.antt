@@ -1,65 +1,54 @@
+-- 01 to 05. Assumes nothing.
 use native.Mathlib.Omega.{arith}
+use mathlib.Core.Path.{_≡_, refl, sym, ap, subst, _∙_}
 use Rattle.rules.specs.Frames as frame
+use Rattle.rules.specs.Sizes.{base}
+use Rattle.scopes.specs.Lent.{made}
+use Rattle.scopes.specs.declared.Scopes.{Scopes}
 use Rattle.translate.proofs.Opcodes.{works-as, no-frame, is-none, is-child, is-pop, is-dangle, is-restore, is-pop-last}
 use borrow.Author.Needs.{needs}
 use Rattle.translate.proofs.dispatch.scope_step.Statement.{statement}
 use Rattle.translate.proofs.dispatch.scope_step.Tie as tie
-use Rattle.translate.proofs.dispatch.scope_step.Reads as reads
-use Rattle.translate.proofs.dispatch.scope_step.Lts as lts
-use Rattle.translate.proofs.scoped.child.Reads as child-reads
-use Rattle.translate.proofs.scoped.dangle.Reads as dangle-reads
-use Rattle.translate.proofs.scoped.pop.Reads as pop-reads
-use Rattle.translate.proofs.scoped.pop_last.Reads as pop-last-reads
-use Rattle.translate.proofs.scoped.restore.Reads as restore-reads
-use Rattle.translate.proofs.steps.refused.Reads as refused-reads
 
--- src/dispatch.rt:28:9
+-- the state that came in
+abbrev state : tie.Start → Scopes
+state st = made (st .args .halves .now) (st .args .links .now) (st .args .owner .now) (st .args .live .now) (st .args .dangled .now) (st .args .parent .now) (st .args .number .now) (st .args .bindings .now) (st .args .n)
+
 child-requires : tie.Need-child-requires
-child-requires c κs = search needs
+child-requires c κs = let st = c .before .before .before .before .before in (state st, st .pre .0)
 
--- src/dispatch.rt:28:9
 returns : tie.Need-returns
-returns c = λ g q handles holders drained stands. works-as (c .before .before .before .args .f) 0x01 frame.child g (c .before .if1 .taken) (is-child (c .before .before .before .args .f) (c .before .if1 .taken)) q (c .child .ensures handles holders drained stands)
+returns c = λ g q handles holders stands drained. let st = c .before .before .before .before .before .before in let f = st .args .f in works-as f 0x01 frame.child g (c .before .before .before .before .if1 .taken) (is-child f (c .before .before .before .before .if1 .taken)) q (c .child .ensures (state st) handles holders stands drained)
 
--- src/dispatch.rt:31:9
 pop-requires : tie.Need-pop-requires
 pop-requires c κs = search needs
 
--- src/dispatch.rt:31:9
 returns-2 : tie.Need-returns-2
-returns-2 c = λ g q handles holders drained stands. works-as (c .before .before .before .before .before .args .f) 0x02 (frame.pop (c .before .before .before .before .before .args .f .a)) g (c .before .if2 .taken) (is-pop (c .before .before .before .before .before .args .f) (c .before .if2 .taken)) q (c .pop .ensures handles holders drained stands)
+returns-2 c = λ g q handles holders stands drained. let st = c .before .before .before .before .before .before .before .before .before .before .before .before .before in let f = st .args .f in works-as f 0x02 (frame.pop (f .a)) g (c .before .before .before .before .before .before .before .before .before .if2 .taken) (is-pop f (c .before .before .before .before .before .before .before .before .before .if2 .taken)) q (c .pop .ensures handles holders stands drained)
 
--- src/dispatch.rt:34:9
 dangle-requires : tie.Need-dangle-requires
-dangle-requires c κs = search needs
+dangle-requires c κs = let st = c .before .before .before .before .before .before .before .before .before .before in (state st, st .pre .0)
 
--- src/dispatch.rt:34:9
 returns-3 : tie.Need-returns-3
-returns-3 c = λ g q handles holders drained stands. works-as (c .before .before .before .before .before .before .before .args .f) 0x03 (frame.dangle (c .before .before .before .before .before .before .before .args .f .a)) g (c .before .if3 .taken) (is-dangle (c .before .before .before .before .before .before .before .args .f) (c .before .if3 .taken)) q (c .dangle .ensures handles holders drained stands)
+returns-3 c = λ g q handles holders stands drained. let st = c .before .before .before .before .before .before .before .before .before .before .before in let f = st .args .f in works-as f 0x03 (frame.dangle (f .a)) g (c .before .before .before .before .before .if3 .taken) (is-dangle f (c .before .before .before .before .before .if3 .taken)) q (c .dangle .ensures (state st) handles holders stands drained)
 
--- src/dispatch.rt:37:9
 restore-requires : tie.Need-restore-requires
-restore-requires c κs = search needs
+restore-requires c κs = let st = c .before .before .before .before .before .before .before .before .before .before .before in (state st, st .pre .0)
 
--- src/dispatch.rt:37:9
 returns-4 : tie.Need-returns-4
-returns-4 c = λ g q handles holders drained stands. works-as (c .before .before .before .before .before .before .before .before .before .args .f) 0x04 (frame.restore (c .before .before .before .before .before .before .before .before .before .args .f .a)) g (c .before .if4 .taken) (is-restore (c .before .before .before .before .before .before .before .before .before .args .f) (c .before .if4 .taken)) q (c .restore .ensures handles holders drained stands)
+returns-4 c = λ g q handles holders stands drained. let st = c .before .before .before .before .before .before .before .before .before .before .before .before in let f = st .args .f in works-as f 0x04 (frame.restore (f .a)) g (c .before .before .before .before .if4 .taken) (is-restore f (c .before .before .before .before .if4 .taken)) q (c .restore .ensures (state st) handles holders stands drained)
 
--- src/dispatch.rt:40:9
 pop-last-requires : tie.Need-pop-last-requires
 pop-last-requires c κs = search needs
 
--- src/dispatch.rt:40:9
 returns-5 : tie.Need-returns-5
-returns-5 c = λ g q handles holders drained stands. works-as (c .before .before .before .before .before .before .before .before .before .before .before .args .f) 0x05 frame.popLast g (c .before .if5 .taken) (is-pop-last (c .before .before .before .before .before .before .before .before .before .before .before .args .f) (c .before .if5 .taken)) q (c .pop-last .ensures handles holders drained stands)
+returns-5 c = λ g q handles holders stands drained. let st = c .before .before .before .before .before .before .before .before .before .before .before .before .before .before .before .before .before .before .before in let f = st .args .f in works-as f 0x05 frame.popLast g (c .before .before .before .before .before .before .before .before .before .if5 .taken) (is-pop-last f (c .before .before .before .before .before .before .before .before .before .if5 .taken)) q (c .pop-last .ensures handles holders stands drained)
 
--- src/dispatch.rt:42:5
 refused-requires : tie.Need-refused-requires
 refused-requires c κs = search needs
 
--- src/dispatch.rt:23:1
 returns-6 : tie.Need-returns-6
-returns-6 c = λ g q. no-frame (is-none (c .before .before .before .before .before .before .before .before .before .before .before .args .f) (omega (arith, c .before .before .before .before .before .before .before .before .before .before .before .pre .1))) q
+returns-6 c = λ g q. let st = c .before .before .before .before .before .before .before .before .before .before .before in no-frame (is-none (st .args .f) (omega (arith, st .pre .1, c .before .before .before .before .before .before .before .before .before .if1 .left, c .before .before .before .before .before .before .before .if2 .left, c .before .before .before .before .before .if3 .left, c .before .before .before .if4 .left, c .before .if5 .left))) q
 
 pub scope-step-spec : {M : Type 1} → statement M
 scope-step-spec =

@@ -1,76 +1,72 @@
+-- 09 define: 3, 13, 9. Assumes nothing.
 use native.Mathlib.Omega.{arith}
-use mathlib.Core.Path.{_≡_, refl, sym, ap, _∙_}
+use mathlib.Core.Path.{_≡_, refl, sym, ap, subst, _∙_}
 use Rattle.rules.specs.Frames as frame
 use Rattle.rules.specs.Sizes.{base}
-use Rattle.translate.proofs.Allocations.{works-refused}
+use Rattle.scopes.specs.Lent.{withNames}
+use Rattle.scopes.specs.declared.Scopes.{Scopes}
+use Rattle.scopes.specs.declared.Outcome.{Outcome}
+use Rattle.translate.proofs.Allocations.{reached-is, works-refused}
 use Rattle.translate.proofs.Reading.{define-3, define-unknown, define-freed, define-works}
 use borrow.Author.Needs.{needs}
 use Rattle.translate.proofs.named.define.Statement.{statement}
 use Rattle.translate.proofs.named.define.Tie as tie
-use Rattle.translate.proofs.named.define.Reads as reads
-use Rattle.translate.proofs.named.define.Lts as lts
-use Rattle.needs.proofs.addresses.is_freed.Reads as is-freed-reads
-use Rattle.scopes.proofs.names.define.Reads as define-reads
-use Rattle.translate.proofs.handles.unpacked.Reads as unpacked-reads
-use Rattle.translate.proofs.steps.ended.Reads as ended-reads
-use Rattle.translate.proofs.steps.refused.Reads as refused-reads
 
--- src/named.rt:32:9
+abbrev outcome : tie.After-define → Scopes → Outcome
+outcome c s = record { state = withNames s (c .define .last .0) (c .define .result .numbers); reply = c .define .result .reply }
+
 refused-requires : tie.Need-refused-requires
 refused-requires c κs = search needs
 
--- src/named.rt:32:9
 returns : tie.Need-returns
-returns c = works-refused (c .before .before .args .s) _ _ (c .before .before .args .handed) (c .before .before .pre) (frame.define (c .before .before .args .name) (c .before .before .args .h .0)) 0x09 3 (c .refused .result) (c .refused .ensures) (define-3 (c .before .before .args .s) _ _ (c .before .before .args .handed) (c .before .before .pre) (c .before .before .args .name) (c .before .before .args .h .0) (c .before .if1 .taken))
+returns c = λ s holders stands. let a = c .before .before .args in works-refused _ _ _ _ stands (frame.define (a .name) (a .h .0)) 0x09 3 _ (reached-is (c .refused .ensures)) (define-3 _ _ _ _ stands (a .name) (a .h .0) (c .before .if1 .taken))
 
--- src/named.rt:34:13
 cast-i : tie.Need-cast-i
 cast-i c = search needs
 
--- src/named.rt:36:9
 refused-requires-2 : tie.Need-refused-requires-2
 refused-requires-2 c κs = search needs
 
--- src/named.rt:36:9
 returns-2 : tie.Need-returns-2
-returns-2 c = works-refused (c .before .before .before .before .args .s) _ _ (c .before .before .before .before .args .handed) (c .before .before .before .before .pre) (frame.define (c .before .before .before .before .args .name) (c .before .before .before .before .args .h .0)) 0x09 13 (c .refused2 .result) (c .refused2 .ensures) (define-unknown (c .before .before .before .before .args .s) _ _ (c .before .before .before .before .args .handed) (c .before .before .before .before .pre) (c .before .before .before .before .args .name) (c .before .before .before .before .args .h .0) (c .before .before .before .if1 .left) (c .before .if2 .taken))
+returns-2 c = λ s holders stands. let a = c .before .before .before .before .args in works-refused _ _ _ _ stands (frame.define (a .name) (a .h .0)) 0x09 13 _ (reached-is (c .refused2 .ensures)) (define-unknown _ _ _ _ stands (a .name) (a .h .0) (c .before .before .before .if1 .left) (c .before .if2 .taken))
 
--- src/named.rt:38:22
 mul-unpacked : tie.Need-mul-unpacked
 mul-unpacked c = search needs
 
--- src/named.rt:38:22
 element-copy-out-unpacked : tie.Need-element-copy-out-unpacked
 unfolding base
-element-copy-out-unpacked c = omega (arith, c .before .before .before .pre .state .handles .few)
+element-copy-out-unpacked c = omega (arith, c .before .before .before .pre .1 .1 .state .handles .few)
 
--- src/named.rt:38:9
 unpacked-requires : tie.Need-unpacked-requires
 unpacked-requires c κs = search needs
 
--- src/named.rt:41:8
 is-freed-requires : tie.Need-is-freed-requires
 is-freed-requires c κs = search needs
 
--- src/named.rt:42:9
 refused-requires-3 : tie.Need-refused-requires-3
 refused-requires-3 c κs = search needs
 
--- src/named.rt:42:9
 returns-3 : tie.Need-returns-3
-returns-3 c = works-refused (c .before .before .before .before .before .before .before .before .before .args .s) _ _ (c .before .before .before .before .before .before .before .before .before .args .handed) (c .before .before .before .before .before .before .before .before .before .pre) (frame.define (c .before .before .before .before .before .before .before .before .before .args .name) (c .before .before .before .before .before .before .before .before .before .args .h .0)) 0x09 13 (c .refused3 .result) (c .refused3 .ensures) (define-freed (c .before .before .before .before .before .before .before .before .before .args .s) _ _ (c .before .before .before .before .before .before .before .before .before .args .handed) (c .before .before .before .before .before .before .before .before .before .pre) (c .before .before .before .before .before .before .before .before .before .args .name) (c .before .before .before .before .before .before .before .before .before .args .h .0) (c .before .before .before .before .before .before .before .before .if1 .left) (c .before .before .before .before .unpacked .result) (c .before .before .before .before .unpacked .ensures) (sym (c .before .before .is-freed .ensures) ∙ c .before .if3 .taken))
+returns-3 c = λ s holders stands.
+    let k = c .before .before .before .before in
+    let a = k .before .before .before .before .before .args in
+    works-refused _ _ _ _ stands (frame.define (a .name) (a .h .0)) 0x09 13 _ (reached-is (c .refused3 .ensures))
+    (define-freed _ _ _ _ stands (a .name) (a .h .0) (k .before .before .before .before .if1 .left) (k .unpacked .result) (k .unpacked .ensures) (sym (c .before .before .is-freed .ensures) ∙ c .before .if3 .taken))
 
--- src/named.rt:44:11
 define-requires : tie.Need-define-requires
 define-requires c κs = search needs
 
--- src/named.rt:44:5
 ended-requires : tie.Need-ended-requires
 ended-requires c κs = search needs
 
--- src/named.rt:19:1
 returns-4 : tie.Need-returns-4
-returns-4 c = define-works (c .before .before .before .before .before .before .before .before .before .before .args .s) _ _ (c .before .before .before .before .before .before .before .before .before .before .args .handed) (c .before .before .before .before .before .before .before .before .before .before .pre) (c .before .before .before .before .before .before .before .before .before .before .args .name) (c .before .before .before .before .before .before .before .before .before .before .args .h .0) (c .before .before .before .before .before .before .before .before .before .if1 .left) (c .before .before .before .before .before .unpacked .result) (c .before .before .before .before .before .unpacked .ensures) (c .before .before .before .before .before .before .before .if2 .left) (sym (c .before .before .before .is-freed .ensures) ∙ c .before .before .if3 .left) (c .before .define .result) (c .before .define .ensures .0) (c .before .define .ensures .1) (c .ended .result) (c .ended .ensures)
+returns-4 c = λ s holders stands.
+    let d = c .before in
+    let k = d .before .before .before .before .before in
+    let a = k .before .before .before .before .before .args in
+    let o = outcome d s in
+    let e = d .define .ensures s (stands .whole) in
+    define-works _ _ _ _ stands (a .name) (a .h .0) (k .before .before .before .before .if1 .left) (k .unpacked .result) (k .unpacked .ensures) (k .before .before .if2 .left) (sym (d .before .before .before .is-freed .ensures) ∙ d .before .before .if3 .left) o (e .0) (e .1) _ (reached-is (c .ended .ensures))
 
 pub define-spec : {M : Type 1} → statement M
 define-spec =

@@ -1,26 +1,35 @@
+-- 0b take. Assumes nothing.
+use native.Mathlib.Omega.{arith}
+use mathlib.Core.Path.{_≡_, refl, sym, ap, subst, _∙_}
 use Rattle.rules.specs.Frames as frame
+use Rattle.rules.specs.Sizes.{base}
 use Rattle.scopes.specs.View.{view}
-use Rattle.translate.proofs.Moving.{moves}
+use Rattle.translate.specs.Steps.{onNames}
+use Rattle.scopes.specs.declared.Scopes.{Scopes}
+use Rattle.scopes.specs.declared.Outcome.{Outcome}
+use Rattle.translate.proofs.Allocations.{reached-is}
+use Rattle.translate.proofs.Moving.{ended-works}
 use Rattle.translate.proofs.Reading.{take-does}
 use borrow.Author.Needs.{needs}
 use Rattle.translate.proofs.named.take.Statement.{statement}
 use Rattle.translate.proofs.named.take.Tie as tie
-use Rattle.translate.proofs.named.take.Reads as reads
-use Rattle.translate.proofs.named.take.Lts as lts
-use Rattle.scopes.proofs.names.take.Reads as take-reads
-use Rattle.translate.proofs.steps.ended.Reads as ended-reads
 
--- src/named.rt:63:11
+abbrev outcome : tie.After-take → Scopes → Outcome
+outcome c s = record { state = onNames s (c .before .before .args .live .now) (c .before .before .args .parent .now) (c .take .last .1 .1 .0) (c .take .result .numbers); reply = c .take .result .reply }
+
 take-requires : tie.Need-take-requires
 take-requires c κs = search needs
 
--- src/named.rt:63:5
 ended-requires : tie.Need-ended-requires
 ended-requires c κs = search needs
 
--- src/named.rt:59:1
 returns : tie.Need-returns
-returns c = moves (c .before .before .args .s) (c .before .before .args .handed) (c .before .take .result) (c .ended .result) (c .ended .ensures) (c .before .take .ensures .1) (frame.takeFrom (c .before .before .args .name)) 0x0b (λ handles holders drained stands. take-does (c .before .before .args .s) handles holders (c .before .before .args .handed) stands drained (view (c .before .take .result .state)) (c .before .take .result .reply) (c .before .before .args .name) (c .before .take .ensures .0))
+returns c = λ s handles holders stands drained.
+    let a = c .before in
+    let st = c .before .before .before in
+    let o = outcome a s in
+    let e = a .take .ensures s (stands .whole) in
+    ended-works _ _ _ _ stands o (e .1) _ (reached-is (c .ended .ensures)) (frame.takeFrom (st .args .name)) 0x0b drained (take-does _ _ _ _ stands drained (view (o .state)) (o .reply) (st .args .name) (e .0))
 
 pub take-spec : {M : Type 1} → statement M
 take-spec = tie.close (tie.spec take-requires ended-requires returns)

@@ -1,26 +1,33 @@
+-- 01 child. Assumes nothing.
+use native.Mathlib.Omega.{arith}
+use mathlib.Core.Path.{_≡_, refl, sym, ap, subst, _∙_}
+use Rattle.rules.specs.Frames as frame
+use Rattle.rules.specs.Sizes.{base}
 use Rattle.scopes.specs.View.{view}
-use Rattle.rules.specs.Frames.{child}
-use Rattle.translate.proofs.Moving.{child-does, moves}
+use Rattle.scopes.specs.Lent.{withScopes}
+use Rattle.scopes.specs.declared.Scopes.{Scopes}
+use Rattle.scopes.specs.declared.Outcome.{Outcome}
+use Rattle.translate.proofs.Allocations.{reached-is}
+use Rattle.translate.proofs.Moving.{child-does, ended-works}
 use borrow.Author.Needs.{needs}
 use Rattle.translate.proofs.scoped.child.Statement.{statement}
 use Rattle.translate.proofs.scoped.child.Tie as tie
-use Rattle.translate.proofs.scoped.child.Reads as reads
-use Rattle.translate.proofs.scoped.child.Lts as lts
-use Rattle.scopes.proofs.open.child.Reads as child-reads
-use Rattle.translate.proofs.steps.ended.Reads as ended-reads
 
--- src/scoped.rt:18:11
+abbrev outcome : tie.After-child → Scopes → Outcome
+outcome c s = record { state = withScopes s (c .child .last .0) (s .dangled) (c .child .last .1 .0) (c .child .last .1 .1 .0) (c .child .result .numbers); reply = c .child .result .reply }
+
 child-requires : tie.Need-child-requires
 child-requires c κs = search needs
 
--- src/scoped.rt:18:5
 ended-requires : tie.Need-ended-requires
 ended-requires c κs = search needs
 
--- src/scoped.rt:14:1
 returns : tie.Need-returns
-returns c = moves (c .before .before .args .s) (c .before .before .args .handed) (c .before .child .result) (c .ended .result) (c .ended .ensures) (c .before .child .ensures .1) child 0x01
-    (λ handles holders drained stands. child-does (c .before .before .args .s) handles holders (c .before .before .args .handed) stands drained (view (c .before .child .result .state)) (c .before .child .result .reply) (c .before .child .ensures .0))
+returns c = λ s handles holders stands drained.
+    let a = c .before in
+    let o = outcome a s in
+    let e = a .child .ensures s (stands .whole) in
+    ended-works _ _ _ _ stands o (e .1) _ (reached-is (c .ended .ensures)) frame.child 0x01 drained (child-does _ _ _ _ stands drained (view (o .state)) (o .reply) (e .0))
 
 pub child-spec : {M : Type 1} → statement M
 child-spec = tie.close (tie.spec child-requires ended-requires returns)

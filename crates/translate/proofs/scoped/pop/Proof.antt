@@ -1,36 +1,43 @@
-use Rattle.scopes.specs.View.{view, seen, toldOnly}
-use Rattle.rules.specs.Frames.{pop}
-use Rattle.translate.proofs.Moving.{pop-does, moves}
-use mathlib.Core.Path.{_≡_, subst}
-use mathlib.Core.Option.{Option}
+-- 02 pop. Assumes nothing.
+use native.Mathlib.Omega.{arith}
+use mathlib.Core.Path.{_≡_, refl, sym, ap, subst, _∙_}
+use Rattle.rules.specs.Frames as frame
 use Rattle.rules.specs.Sizes.{base}
-use Rattle.rules.specs.Scopes as rule
-use Rattle.rules.specs.Scopes.{Found}
+use Rattle.scopes.specs.View.{view}
+use Rattle.scopes.specs.Lent.{made}
+use Rattle.scopes.specs.declared.Scopes.{Scopes}
+use Rattle.scopes.specs.declared.Outcome.{Outcome}
+use Rattle.translate.proofs.Allocations.{reached-is}
+use Rattle.translate.proofs.Moving.{pop-does, ended-works}
 use borrow.Author.Needs.{needs}
 use Rattle.translate.proofs.scoped.pop.Statement.{statement}
 use Rattle.translate.proofs.scoped.pop.Tie as tie
-use Rattle.translate.proofs.scoped.pop.Reads as reads
-use Rattle.translate.proofs.scoped.pop.Lts as lts
-use Rattle.scopes.proofs.close.pop.Reads as pop-reads
-use Rattle.translate.proofs.steps.ended.Reads as ended-reads
-use Rattle.translate.proofs.steps.meant.Reads as meant-reads
 
--- src/scoped.rt:25:25
+-- the state that came in
+abbrev state : tie.Start → Scopes
+state st = made (st .args .halves .now) (st .args .links .now) (st .args .owner .now) (st .args .live .now) (st .args .dangled .now) (st .args .parent .now) (st .args .number .now) (st .args .bindings .now) (st .args .n)
+
+abbrev outcome : tie.After-pop → Outcome
+outcome c = record { state = made (c .pop .last .0) (c .pop .last .1 .0) (c .pop .last .1 .1 .0) (c .pop .last .1 .1 .1 .0) (c .pop .last .1 .1 .1 .1 .0) (c .pop .last .1 .1 .1 .1 .1 .0) (c .pop .last .1 .1 .1 .1 .1 .1 .0) (c .pop .last .1 .1 .1 .1 .1 .1 .1 .0) (c .pop .result .numbers); reply = c .pop .result .reply }
+
 meant-requires : tie.Need-meant-requires
 meant-requires c κs = search needs
 
--- src/scoped.rt:25:11
 pop-requires : tie.Need-pop-requires
 pop-requires c κs = search needs
 
--- src/scoped.rt:25:5
 ended-requires : tie.Need-ended-requires
 ended-requires c κs = search needs
 
--- src/scoped.rt:21:1
 returns : tie.Need-returns
-returns c = moves (c .before .before .before .args .s) (c .before .before .before .args .handed) (c .before .pop .result) (c .ended .result) (c .ended .ensures) (c .before .pop .ensures .1) (pop (c .before .before .before .args .n)) 0x02
-    (λ handles holders drained stands. pop-does (c .before .before .before .args .s) handles holders (c .before .before .before .args .handed) stands drained (view (c .before .pop .result .state)) (c .before .pop .result .reply) (c .before .before .before .args .n) (subst (λ (x : Option Found). seen (c .before .pop .result) ≡ toldOnly (view (c .before .before .before .args .s)) (rule.popScope base x (view (c .before .before .before .args .s)))) (c .before .before .meant .ensures .0) (c .before .pop .ensures .0)))
+returns c = λ handles holders stands drained.
+    let a = c .before in
+    let m = c .before .before .before .before .before .before .before .before .before .before in
+    let st = c .before .before .before .before .before .before .before .before .before .before .before .before .before in
+    let o = outcome a in
+    let e = a .pop .ensures (stands .whole) in
+    ended-works _ _ _ _ stands o (e .1) _ (reached-is (c .ended .ensures)) (frame.pop (st .args .k)) 0x02 drained
+    (pop-does _ _ _ _ stands drained (view (o .state)) (o .reply) (st .args .k) (m .meant .ensures (state st) .is) (e .0))
 
 pub pop-spec : {M : Type 1} → statement M
 pop-spec = tie.close (tie.spec meant-requires pop-requires ended-requires returns)

@@ -1,26 +1,33 @@
+-- 05 pop last. Assumes nothing.
+use native.Mathlib.Omega.{arith}
+use mathlib.Core.Path.{_≡_, refl, sym, ap, subst, _∙_}
+use Rattle.rules.specs.Frames as frame
+use Rattle.rules.specs.Sizes.{base}
 use Rattle.scopes.specs.View.{view}
-use Rattle.rules.specs.Frames.{popLast}
-use Rattle.translate.proofs.Moving.{pop-last-does, moves}
+use Rattle.scopes.specs.Lent.{made}
+use Rattle.scopes.specs.declared.Scopes.{Scopes}
+use Rattle.scopes.specs.declared.Outcome.{Outcome}
+use Rattle.translate.proofs.Allocations.{reached-is}
+use Rattle.translate.proofs.Moving.{pop-last-does, ended-works}
 use borrow.Author.Needs.{needs}
 use Rattle.translate.proofs.scoped.pop_last.Statement.{statement}
 use Rattle.translate.proofs.scoped.pop_last.Tie as tie
-use Rattle.translate.proofs.scoped.pop_last.Reads as reads
-use Rattle.translate.proofs.scoped.pop_last.Lts as lts
-use Rattle.scopes.proofs.close.pop_last.Reads as pop-last-reads
-use Rattle.translate.proofs.steps.ended.Reads as ended-reads
 
--- src/scoped.rt:46:11
+abbrev outcome : tie.After-pop-last → Outcome
+outcome c = record { state = made (c .pop-last .last .0) (c .pop-last .last .1 .0) (c .pop-last .last .1 .1 .0) (c .pop-last .last .1 .1 .1 .0) (c .pop-last .last .1 .1 .1 .1 .0) (c .pop-last .last .1 .1 .1 .1 .1 .0) (c .pop-last .last .1 .1 .1 .1 .1 .1 .0) (c .pop-last .last .1 .1 .1 .1 .1 .1 .1 .0) (c .pop-last .result .numbers); reply = c .pop-last .result .reply }
+
 pop-last-requires : tie.Need-pop-last-requires
 pop-last-requires c κs = search needs
 
--- src/scoped.rt:46:5
 ended-requires : tie.Need-ended-requires
 ended-requires c κs = search needs
 
--- src/scoped.rt:42:1
 returns : tie.Need-returns
-returns c = moves (c .before .before .args .s) (c .before .before .args .handed) (c .before .pop-last .result) (c .ended .result) (c .ended .ensures) (c .before .pop-last .ensures .1) popLast 0x05
-    (λ handles holders drained stands. pop-last-does (c .before .before .args .s) handles holders (c .before .before .args .handed) stands drained (view (c .before .pop-last .result .state)) (c .before .pop-last .result .reply) (c .before .pop-last .ensures .0))
+returns c = λ handles holders stands drained.
+    let a = c .before in
+    let o = outcome a in
+    let e = a .pop-last .ensures (stands .whole) in
+    ended-works _ _ _ _ stands o (e .1) _ (reached-is (c .ended .ensures)) frame.popLast 0x05 drained (pop-last-does _ _ _ _ stands drained (view (o .state)) (o .reply) (e .0))
 
 pub pop-last-spec : {M : Type 1} → statement M
 pop-last-spec = tie.close (tie.spec pop-last-requires ended-requires returns)

@@ -1,36 +1,43 @@
-use Rattle.scopes.specs.View.{view, seen, toldOnly}
-use Rattle.rules.specs.Frames.{restore}
-use Rattle.translate.proofs.Moving.{restore-does, moves}
-use mathlib.Core.Path.{_≡_, subst}
-use mathlib.Core.Option.{Option}
+-- 04 restore. Assumes nothing.
+use native.Mathlib.Omega.{arith}
+use mathlib.Core.Path.{_≡_, refl, sym, ap, subst, _∙_}
+use Rattle.rules.specs.Frames as frame
 use Rattle.rules.specs.Sizes.{base}
-use Rattle.rules.specs.Scopes as rule
-use Rattle.rules.specs.Scopes.{Found}
+use Rattle.scopes.specs.View.{view}
+use Rattle.scopes.specs.Lent.{withScopes}
+use Rattle.scopes.specs.declared.Scopes.{Scopes}
+use Rattle.scopes.specs.declared.Outcome.{Outcome}
+use Rattle.translate.proofs.Allocations.{reached-is}
+use Rattle.translate.proofs.Moving.{restore-does, ended-works}
 use borrow.Author.Needs.{needs}
 use Rattle.translate.proofs.scoped.restore.Statement.{statement}
 use Rattle.translate.proofs.scoped.restore.Tie as tie
-use Rattle.translate.proofs.scoped.restore.Reads as reads
-use Rattle.translate.proofs.scoped.restore.Lts as lts
-use Rattle.scopes.proofs.open.restore.Reads as restore-reads
-use Rattle.translate.proofs.steps.ended.Reads as ended-reads
-use Rattle.translate.proofs.steps.meant.Reads as meant-reads
 
--- src/scoped.rt:39:28
+-- the state that s is with the arrays as they came in
+abbrev state : tie.Start → Scopes → Scopes
+state st s = withScopes s (st .args .live .now) (st .args .dangled .now) (s .parent) (st .args .number .now) (st .args .n)
+
+abbrev outcome : tie.After-restore → Scopes → Outcome
+outcome c s = record { state = withScopes s (c .before .before .before .args .live .now) (c .restore .last .1 .0) (s .parent) (c .before .before .before .args .number .now) (c .restore .result .numbers); reply = c .restore .result .reply }
+
 meant-requires : tie.Need-meant-requires
 meant-requires c κs = search needs
 
--- src/scoped.rt:39:11
 restore-requires : tie.Need-restore-requires
 restore-requires c κs = search needs
 
--- src/scoped.rt:39:5
 ended-requires : tie.Need-ended-requires
 ended-requires c κs = search needs
 
--- src/scoped.rt:35:1
 returns : tie.Need-returns
-returns c = moves (c .before .before .before .args .s) (c .before .before .before .args .handed) (c .before .restore .result) (c .ended .result) (c .ended .ensures) (c .before .restore .ensures .1) (restore (c .before .before .before .args .n)) 0x04
-    (λ handles holders drained stands. restore-does (c .before .before .before .args .s) handles holders (c .before .before .before .args .handed) stands drained (view (c .before .restore .result .state)) (c .before .restore .result .reply) (c .before .before .before .args .n) (subst (λ (x : Option Found). seen (c .before .restore .result) ≡ toldOnly (view (c .before .before .before .args .s)) (rule.restoreScope x (view (c .before .before .before .args .s)))) (c .before .before .meant .ensures .0) (c .before .restore .ensures .0)))
+returns c = λ s handles holders stands drained.
+    let a = c .before in
+    let m = c .before .before .before in
+    let st = m .before in
+    let o = outcome a s in
+    let e = a .restore .ensures s (stands .whole) in
+    ended-works _ _ _ _ stands o (e .1) _ (reached-is (c .ended .ensures)) (frame.restore (st .args .k)) 0x04 drained
+    (restore-does _ _ _ _ stands drained (view (o .state)) (o .reply) (st .args .k) (m .meant .ensures (state st s) .is) (e .0))
 
 pub restore-spec : {M : Type 1} → statement M
 restore-spec = tie.close (tie.spec meant-requires restore-requires ended-requires returns)

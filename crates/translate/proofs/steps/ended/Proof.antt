@@ -11,7 +11,7 @@ adds-of-requires c κs = search needs
 
 -- src/steps.rt:59:1
 returns : tie.Need-returns
-returns c = λ t. record { state = c .before .before .args .o .state; handed = c .before .before .args .handed; adds = c .adds-of .ensures t }
+returns c = λ t. record { numbers = c .before .before .args .o .numbers; handed = c .before .before .args .handed; adds = c .adds-of .ensures t }
 
 pub ended-spec : {M : Type 1} → statement M
 ended-spec = tie.close (tie.spec adds-of-requires returns)

@@ -1,28 +1,35 @@
-use mathlib.Core.Path.{ap, _∙_}
-use Rattle.scopes.specs.declared.ScopeId.{ScopeId}
+-- The id of the scope that a number means. Assumes nothing.
+use native.Mathlib.Omega.{arith}
+use mathlib.Core.Path.{_≡_, refl, sym, ap, subst, _∙_}
+use Rattle.rules.specs.Frames as frame
 use Rattle.rules.specs.Sizes.{base}
-use Rattle.rules.specs.Scopes as rule
-use Rattle.scopes.specs.View.{view, idOf}
+use Rattle.scopes.specs.View.{view}
+use Rattle.scopes.proofs.Finds.{numbered-none, numbered-is, number-small}
+use Rattle.translate.specs.Steps.{onNumbered}
 use Rattle.translate.proofs.Meant.{meant-is, meant-none}
 use borrow.Author.Needs.{needs}
 use Rattle.translate.proofs.steps.meant.Statement.{statement}
 use Rattle.translate.proofs.steps.meant.Tie as tie
-use Rattle.translate.proofs.steps.meant.Reads as reads
-use Rattle.translate.proofs.steps.meant.Lts as lts
-use Rattle.scopes.proofs.open.numbered.Reads as numbered-reads
-use Rattle.translate.proofs.steps.id_or.Reads as id-or-reads
 
--- src/steps.rt:93:11
-numbered-requires : tie.Need-numbered-requires
-numbered-requires c κs = search needs
+with-number-requires : tie.Need-with-number-requires
+with-number-requires c κs = search needs
 
--- src/steps.rt:93:5
-id-or-requires : tie.Need-id-or-requires
-id-or-requires c κs = search needs
-
--- src/steps.rt:89:1
 returns : tie.Need-returns
-returns c = ((λ t. rule.byId base (view (c .before .before .args .s)) (idOf (c .id-or .ensures t))) ∙ meant-is (view (c .before .before .args .s)) (c .before .before .args .n) (c .before .numbered .result) (c .before .numbered .ensures), λ q. ap (λ (i : ScopeId). i .index) (c .id-or .ensures) ∙ meant-none (view (c .before .before .args .s)) (c .before .before .args .n) (c .before .numbered .result) (c .before .numbered .ensures) q)
+returns c = λ s.
+    let w = c .before in
+    let t = onNumbered s (w .before .args .live .now) (w .before .args .number .now) in
+    let e = numbered-none t (w .before .args .n) _ (w .with-number .ensures) (c .if1 .taken) in
+    record { is = meant-is (view t) (w .before .args .n) _ e; nowhere = λ q. refl }
+
+cast-t7 : tie.Need-cast-t7
+cast-t7 c = let w = c .before in omega (arith, number-small (w .before .args .live .now) (w .before .args .number .now) (w .before .args .n) _ (w .with-number .ensures) (c .if1 .left))
+
+returns-2 : tie.Need-returns-2
+returns-2 c = λ s.
+    let w = c .before in
+    let t = onNumbered s (w .before .args .live .now) (w .before .args .number .now) in
+    let e = numbered-is t (w .before .args .n) _ (w .with-number .ensures) (c .if1 .left) in
+    record { is = meant-is (view t) (w .before .args .n) _ e; nowhere = meant-none (view t) (w .before .args .n) _ e }
 
 pub meant-spec : {M : Type 1} → statement M
-meant-spec = tie.close (tie.spec numbered-requires id-or-requires returns)
+meant-spec = tie.close (tie.spec with-number-requires returns cast-t7 returns-2)

@@ -1,0 +1,63 @@
+-- A scope is restored. Assumes nothing.
+use mathlib.Core.Path.{_≡_}
+use Prim.Native.Nat.{ℕ, _<_}
+use borrow.Author.Tests.{not-true, not-false}
+use Rattle.rules.specs.Sizes.{base}
+use Rattle.rules.specs.Scopes as rule
+use Rattle.scopes.specs.View.{view, idOf}
+use Rattle.scopes.specs.Lent.{withScopes}
+use Rattle.scopes.specs.declared.Scopes.{Scopes}
+use Rattle.scopes.proofs.Finds.{Known, known, unknown}
+use Rattle.scopes.proofs.Marks.{restore-none, restore-undangled, restore-root, restore-unmarks}
+use borrow.Author.Needs.{needs}
+use Rattle.scopes.proofs.lent.open.restore.Statement.{statement}
+use Rattle.scopes.proofs.lent.open.restore.Tie as tie
+use Rattle.scopes.proofs.lent.open.restore.Reads as reads
+use Rattle.scopes.proofs.lent.open.restore.Lts as lts
+use Rattle.scopes.proofs.open.place_of.Reads as place-of-reads
+
+-- the state, with s for what is not lent
+abbrev state : tie.Start → Scopes → Scopes
+state w s = withScopes s (w .args .live .now) (w .args .dangled .now) (s .parent) (w .args .number .now) (w .args .n)
+
+meant : (c : tie.Else1) (s : Scopes) → Known (state (c .before .before) s) (rule.byId base (view (state (c .before .before) s)) (idOf (c .before .before .args .id))) (c .before .place-of .result)
+meant c s = known _ _ _ (c .before .place-of .ensures) (c .if1 .left)
+
+small : (c : tie.Else1) → c .before .place-of .result < 64
+small c = meant c (c .before .before .pre .0) .small
+
+place-of-requires : tie.Need-place-of-requires
+place-of-requires c κs = search needs
+
+returns : tie.Need-returns
+returns c s h = let w = c .before .before in (restore-none (state w s) _ (unknown (state w s) (idOf (w .args .id)) _ (c .before .place-of .ensures) (c .if1 .taken)), h)
+
+element-copy-out-if2 : tie.Need-element-copy-out-if2
+element-copy-out-if2 c = small c
+
+returns-2 : tie.Need-returns-2
+returns-2 c s h = let e = c .before .before in (restore-undangled (state (e .before .before) s) _ _ (meant e s) (not-true _ (c .if2 .taken)), h)
+
+returns-3 : tie.Need-returns-3
+returns-3 c s h = let e = c .before .before .before in (restore-root (state (e .before .before) s) _ _ (meant e s) (not-false _ (c .before .if2 .left)) (c .if3 .taken), h)
+
+element-write-dangled : tie.Need-element-write-dangled
+element-write-dangled c = small (c .before .before .before)
+
+returns-4 : tie.Need-returns-4
+returns-4 c s h =
+    let e2 = c .before in
+    let e = e2 .before .before in
+    restore-unmarks (state (e .before .before) s) _ _ (meant e s) (h .sound) (h .sized) (c .if3 .left) (not-false _ (e2 .if2 .left))
+
+pub restore-spec : {M : Type 1} → statement M
+restore-spec =
+    tie.close
+    (tie.spec
+    place-of-requires
+    returns
+    element-copy-out-if2
+    returns-2
+    returns-3
+    element-write-dangled
+    returns-4)

@@ -1,0 +1,187 @@
+// Scopes are closed: by id, and root at the end.
+ghost use mathlib.Core.Path.{_≡_};
+ghost use mathlib.Core.Bool.{true, false};
+ghost use Prim.Native.Nat.{ℕ, _<_};
+ghost use Rattle.rules.specs.Sizes.{base};
+ghost use Rattle.rules.specs.Scopes as rule;
+ghost use Rattle.scopes.specs.View.{idOf, toldOnly};
+ghost use Rattle.scopes.specs.Leaves.{NoChild};
+ghost use Rattle.scopes.specs.Lent.{made, withSlots, Whole, Becomes, Lives, Empties, Closes};
+use crate::LentOutcome;
+use crate::Numbers;
+use crate::Reply;
+use crate::ScopeId;
+use crate::Scopes;
+use crate::close as leaves;
+use crate::names;
+use crate::open;
+use slots::halves as bits;
+
+// The addresses of scope i, which is live, go to the dangling list in order.
+pub fn empty(
+    halves: &mut [u64; 16],
+    links: &mut [u16; 2178],
+    owner: &mut [u8; 1024],
+    n: Numbers,
+    i: usize,
+) -> Numbers
+    requires { ⌜ ((s : Scopes) × Whole (withSlots s (now halves) (now links) (now owner) n) × Lives s i) ⌝ }
+    ensures { λ r. ⌜ ((s : Scopes) → Lives s i → Empties (withSlots s (now (halves .entry)) (now (links .entry)) (now (owner .entry)) n) i (withSlots s (now (halves .exit)) (now (links .exit)) (now (owner .exit)) r)) ⌝ }
+{
+    let e = 1024 + i;
+    let mut head = n.head;
+    let mut a = links::first(links, i);
+    while a != e {
+        bits::vacate(halves, a);
+        links::place(links, 64, a);
+        owner[a] = 64;
+        head = a / 128;
+        a = links::first(links, i);
+    }
+    Numbers {
+        count: n.count,
+        segments: n.segments,
+        head: head,
+        top: n.top,
+        counter: n.counter,
+        size: n.size,
+    }
+}
+
+// Scope i, which is live and has no live child, is closed: its addresses dangle, its bindings go, top becomes its parent.
+pub fn close(
+    halves: &mut [u64; 16],
+    links: &mut [u16; 2178],
+    owner: &mut [u8; 1024],
+    live: &mut [bool; 64],
+    dangled: &mut [bool; 64],
+    parent: &mut [u8; 64],
+    number: &mut [u32; 64],
+    bindings: &mut [u64; 256],
+    n: Numbers,
+    i: usize,
+) -> Numbers
+    requires { ⌜ Whole (made (now halves) (now links) (now owner) (now live) (now dangled) (now parent) (now number) (now bindings) n) × Lives (made (now halves) (now links) (now owner) (now live) (now dangled) (now parent) (now number) (now bindings) n) i × NoChild (now live) (now parent) i ⌝ }
+    ensures { λ r. ⌜ Closes (made (now (halves .entry)) (now (links .entry)) (now (owner .entry)) (now (live .entry)) (now (dangled .entry)) (now (parent .entry)) (now (number .entry)) (now (bindings .entry)) n) i (made (now (halves .exit)) (now (links .exit)) (now (owner .exit)) (now (live .exit)) (now (dangled .exit)) (now (parent .exit)) (now (number .exit)) (now (bindings .exit)) r) ⌝ }
+{
+    let m = empty(halves, links, owner, n, i);
+    let count = names::forget_names(bindings, m.count, i);
+    let up = open::wide8(parent[i]);
+    live[i] = false;
+    dangled[i] = false;
+    parent[i] = 64;
+    number[i] = 0;
+    Numbers {
+        count: count,
+        segments: m.segments,
+        head: m.head,
+        top: up,
+        counter: m.counter,
+        size: m.size,
+    }
+}
+
+// pop s: 4, 5 and 6 are looked at first.
+pub fn pop(
+    halves: &mut [u64; 16],
+    links: &mut [u16; 2178],
+    owner: &mut [u8; 1024],
+    live: &mut [bool; 64],
+    dangled: &mut [bool; 64],
+    parent: &mut [u8; 64],
+    number: &mut [u32; 64],
+    bindings: &mut [u64; 256],
+    n: Numbers,
+    id: ScopeId,
+) -> LentOutcome
+    requires { ⌜ Whole (made (now halves) (now links) (now owner) (now live) (now dangled) (now parent) (now number) (now bindings) n) ⌝ }
+    ensures { λ r. ⌜ Becomes (made (now (halves .entry)) (now (links .entry)) (now (owner .entry)) (now (live .entry)) (now (dangled .entry)) (now (parent .entry)) (now (number .entry)) (now (bindings .entry)) n) (made (now (halves .exit)) (now (links .exit)) (now (owner .exit)) (now (live .exit)) (now (dangled .exit)) (now (parent .exit)) (now (number .exit)) (now (bindings .exit)) (r .numbers)) (r .reply) (λ c. toldOnly c (rule.popScope base (rule.byId base c (idOf id)) c)) ⌝ }
+{
+    let i = open::place_of(live, number, id);
+    if i == 64 {
+        return LentOutcome {
+            numbers: n,
+            reply: Reply::Refused(4),
+        };
+    }
+    if dangled[i] {
+        return LentOutcome {
+            numbers: n,
+            reply: Reply::Refused(5),
+        };
+    }
+    if i == 0 {
+        return LentOutcome {
+            numbers: n,
+            reply: Reply::Refused(5),
+        };
+    }
+    let k = leaves::child_of(live, parent, i);
+    if k < 64 {
+        return LentOutcome {
+            numbers: n,
+            reply: Reply::Refused(6),
+        };
+    }
+    LentOutcome {
+        numbers: close(
+            halves,
+            links,
+            owner,
+            live,
+            dangled,
+            parent,
+            number,
+            bindings,
+            n,
+            i,
+        ),
+        reply: Reply::Done,
+    }
+}
+
+// pop last: root is closed; then there is no top. 3, 6.
+pub fn pop_last(
+    halves: &mut [u64; 16],
+    links: &mut [u16; 2178],
+    owner: &mut [u8; 1024],
+    live: &mut [bool; 64],
+    dangled: &mut [bool; 64],
+    parent: &mut [u8; 64],
+    number: &mut [u32; 64],
+    bindings: &mut [u64; 256],
+    n: Numbers,
+) -> LentOutcome
+    requires { ⌜ Whole (made (now halves) (now links) (now owner) (now live) (now dangled) (now parent) (now number) (now bindings) n) ⌝ }
+    ensures { λ r. ⌜ Becomes (made (now (halves .entry)) (now (links .entry)) (now (owner .entry)) (now (live .entry)) (now (dangled .entry)) (now (parent .entry)) (now (number .entry)) (now (bindings .entry)) n) (made (now (halves .exit)) (now (links .exit)) (now (owner .exit)) (now (live .exit)) (now (dangled .exit)) (now (parent .exit)) (now (number .exit)) (now (bindings .exit)) (r .numbers)) (r .reply) (λ c. toldOnly c (rule.popLastScope base c)) ⌝ }
+{
+    let top = n.top;
+    if top == 64 {
+        return LentOutcome {
+            numbers: n,
+            reply: Reply::Refused(3),
+        };
+    }
+    let k = leaves::child_of(live, parent, 0);
+    if k < 64 {
+        return LentOutcome {
+            numbers: n,
+            reply: Reply::Refused(6),
+        };
+    }
+    LentOutcome {
+        numbers: close(
+            halves,
+            links,
+            owner,
+            live,
+            dangled,
+            parent,
+            number,
+            bindings,
+            n,
+            0,
+        ),
+        reply: Reply::Done,
+    }
+}

@@ -1,0 +1,126 @@
+// Names are bound in the top scope, and looked for from there up to root.
+ghost use mathlib.Core.Path.{_≡_};
+ghost use Rattle.rules.specs.Sizes.{base};
+ghost use Rattle.rules.specs.Scopes as rule;
+ghost use Rattle.scopes.specs.View.{view, bound, defined, told, toldOnly, replied};
+ghost use Rattle.scopes.specs.Lent.{withScopes, withNames, Whole, Becomes};
+use crate::HandleNumber;
+use crate::LentOutcome;
+use crate::Numbers;
+use crate::Reply;
+use crate::Scopes;
+use crate::names;
+use slots::SlotAddress;
+
+// get: the nearest binding of the name, from the top up to root. 3, 10, 11.
+pub fn get<'a>(
+    live: &'a [bool; 64],
+    parent: &'a [u8; 64],
+    bindings: &'a [u64; 256],
+    n: Numbers,
+    name: u16,
+) -> Reply
+    requires { ⌜ ((s : Scopes) × Whole (withNames (withScopes s (now live) (s .dangled) (now parent) (s .number) n) (now bindings) n)) ⌝ }
+    ensures { λ r. ⌜ ((s : Scopes) → Whole (withNames (withScopes s (now (live .entry)) (s .dangled) (now (parent .entry)) (s .number) n) (now (bindings .entry)) n) → r ≡ replied bound (rule.getName base name (view (withNames (withScopes s (now (live .entry)) (s .dangled) (now (parent .entry)) (s .number) n) (now (bindings .entry)) n)))) ⌝ }
+{
+    let top = n.top;
+    if top == 64 {
+        return Reply::Refused(3);
+    }
+    let j = names::lookup(live, parent, bindings, n.count, name, top, 64);
+    if 256 <= j {
+        return Reply::Refused(10);
+    }
+    let b = bindings[j];
+    if b % 2 == 1 {
+        return Reply::Refused(11);
+    }
+    Reply::Found(names::bound_of(b))
+}
+
+// take: the same, and the binding is marked moved where it stands.
+pub fn take<'a>(
+    live: &'a [bool; 64],
+    parent: &'a [u8; 64],
+    bindings: &mut [u64; 256],
+    n: Numbers,
+    name: u16,
+) -> LentOutcome
+    requires { ⌜ ((s : Scopes) × Whole (withNames (withScopes s (now live) (s .dangled) (now parent) (s .number) n) (now bindings) n)) ⌝ }
+    ensures { λ r. ⌜ ((s : Scopes) → Becomes (withNames (withScopes s (now (live .entry)) (s .dangled) (now (parent .entry)) (s .number) n) (now (bindings .entry)) n) (withNames (withScopes s (now (live .entry)) (s .dangled) (now (parent .entry)) (s .number) n) (now (bindings .exit)) (r .numbers)) (r .reply) (λ c. told bound c (rule.takeName base name c))) ⌝ }
+{
+    let top = n.top;
+    if top == 64 {
+        return LentOutcome {
+            numbers: n,
+            reply: Reply::Refused(3),
+        };
+    }
+    let j = names::lookup(live, parent, bindings, n.count, name, top, 64);
+    if 256 <= j {
+        return LentOutcome {
+            numbers: n,
+            reply: Reply::Refused(10),
+        };
+    }
+    let b = bindings[j];
+    if b % 2 == 1 {
+        return LentOutcome {
+            numbers: n,
+            reply: Reply::Refused(11),
+        };
+    }
+    bindings[j] = names::moved(b);
+    LentOutcome {
+        numbers: n,
+        reply: Reply::Found(names::bound_of(b)),
+    }
+}
+
+// define: binds in the top, replacing an equal name there and its moved mark. 3, 9.
+pub fn define(
+    bindings: &mut [u64; 256],
+    n: Numbers,
+    name: u16,
+    address: SlotAddress,
+    handle: HandleNumber,
+) -> LentOutcome
+    requires { ⌜ ((s : Scopes) × Whole (withNames s (now bindings) n)) ⌝ }
+    ensures { λ r. ⌜ ((s : Scopes) → Becomes (withNames s (now (bindings .entry)) n) (withNames s (now (bindings .exit)) (r .numbers)) (r .reply) (λ c. toldOnly c (defined name (address .0) (handle .0) c))) ⌝ }
+{
+    let top = n.top;
+    let count = n.count;
+    if top == 64 {
+        return LentOutcome {
+            numbers: n,
+            reply: Reply::Refused(3),
+        };
+    }
+    let j = names::find(bindings, count, top, name);
+    let b = names::packed(top, name, address, handle);
+    if j < 256 {
+        bindings[j] = b;
+        return LentOutcome {
+            numbers: n,
+            reply: Reply::Done,
+        };
+    }
+    if count == 256 {
+        return LentOutcome {
+            numbers: n,
+            reply: Reply::Refused(9),
+        };
+    }
+    bindings[count] = b;
+    LentOutcome {
+        numbers: Numbers {
+            count: count + 1,
+            segments: n.segments,
+            head: n.head,
+            top: top,
+            counter: n.counter,
+            size: n.size,
+        },
+        reply: Reply::Done,
+    }
+}

@@ -1,0 +1,160 @@
+// Scopes are opened, dangled and restored, and looked up by number.
+ghost use mathlib.Core.Path.{_≡_};
+ghost use Rattle.rules.specs.Notation.{refuse_unless_};
+ghost use Rattle.rules.specs.Sizes.{base};
+ghost use Rattle.rules.specs.Scopes as rule;
+ghost use Rattle.scopes.specs.View.{view, idOf, opened, told, toldOnly, replied};
+ghost use Rattle.scopes.specs.Lent.{numbersOf, withScopes, Whole, Becomes};
+use crate::LentOutcome;
+use crate::Numbers;
+use crate::Reply;
+use crate::ScopeId;
+use crate::Scopes;
+use crate::open;
+
+// child: the parent is the top; the new scope becomes the top. 3, 8.
+pub fn child(
+    live: &mut [bool; 64],
+    parent: &mut [u8; 64],
+    number: &mut [u32; 64],
+    n: Numbers,
+) -> LentOutcome
+    requires { ⌜ ((s : Scopes) × Whole (withScopes s (now live) (s .dangled) (now parent) (now number) n)) ⌝ }
+    ensures { λ r. ⌜ ((s : Scopes) → Becomes (withScopes s (now (live .entry)) (s .dangled) (now (parent .entry)) (now (number .entry)) n) (withScopes s (now (live .exit)) (s .dangled) (now (parent .exit)) (now (number .exit)) (r .numbers)) (r .reply) (λ c. told opened c (rule.openChild base c))) ⌝ }
+{
+    let top = n.top;
+    if top == 64 {
+        return LentOutcome {
+            numbers: n,
+            reply: Reply::Refused(3),
+        };
+    }
+    let i = open::free_index(live);
+    if i == 64 {
+        return LentOutcome {
+            numbers: n,
+            reply: Reply::Refused(8),
+        };
+    }
+    let m = n.counter;
+    live[i] = true;
+    parent[i] = top as u8;
+    number[i] = m;
+    LentOutcome {
+        numbers: Numbers {
+            count: n.count,
+            segments: n.segments,
+            head: n.head,
+            top: i,
+            counter: std::num::wrapping_add_u32(m, 1),
+            size: n.size,
+        },
+        reply: Reply::Opened(ScopeId {
+            index: i as u8,
+            number: m,
+        }),
+    }
+}
+
+// dangle s: marks it; top becomes its parent. 4, 5.
+pub fn dangle<'a>(
+    live: &'a [bool; 64],
+    dangled: &mut [bool; 64],
+    parent: &'a [u8; 64],
+    number: &'a [u32; 64],
+    n: Numbers,
+    id: ScopeId,
+) -> LentOutcome
+    requires { ⌜ ((s : Scopes) × Whole (withScopes s (now live) (now dangled) (now parent) (now number) n)) ⌝ }
+    ensures { λ r. ⌜ ((s : Scopes) → Becomes (withScopes s (now (live .entry)) (now (dangled .entry)) (now (parent .entry)) (now (number .entry)) n) (withScopes s (now (live .entry)) (now (dangled .exit)) (now (parent .entry)) (now (number .entry)) (r .numbers)) (r .reply) (λ c. toldOnly c (rule.dangleScope (rule.byId base c (idOf id)) c))) ⌝ }
+{
+    let i = open::place_of(live, number, id);
+    if i == 64 {
+        return LentOutcome {
+            numbers: n,
+            reply: Reply::Refused(4),
+        };
+    }
+    if dangled[i] {
+        return LentOutcome {
+            numbers: n,
+            reply: Reply::Refused(5),
+        };
+    }
+    if i == 0 {
+        return LentOutcome {
+            numbers: n,
+            reply: Reply::Refused(5),
+        };
+    }
+    dangled[i] = true;
+    LentOutcome {
+        numbers: Numbers {
+            count: n.count,
+            segments: n.segments,
+            head: n.head,
+            top: open::wide8(parent[i]),
+            counter: n.counter,
+            size: n.size,
+        },
+        reply: Reply::Done,
+    }
+}
+
+// restore s: unmarks it; top becomes s. 4, 5.
+pub fn restore<'a>(
+    live: &'a [bool; 64],
+    dangled: &mut [bool; 64],
+    number: &'a [u32; 64],
+    n: Numbers,
+    id: ScopeId,
+) -> LentOutcome
+    requires { ⌜ ((s : Scopes) × Whole (withScopes s (now live) (now dangled) (s .parent) (now number) n)) ⌝ }
+    ensures { λ r. ⌜ ((s : Scopes) → Becomes (withScopes s (now (live .entry)) (now (dangled .entry)) (s .parent) (now (number .entry)) n) (withScopes s (now (live .entry)) (now (dangled .exit)) (s .parent) (now (number .entry)) (r .numbers)) (r .reply) (λ c. toldOnly c (rule.restoreScope (rule.byId base c (idOf id)) c))) ⌝ }
+{
+    let i = open::place_of(live, number, id);
+    if i == 64 {
+        return LentOutcome {
+            numbers: n,
+            reply: Reply::Refused(4),
+        };
+    }
+    if !dangled[i] {
+        return LentOutcome {
+            numbers: n,
+            reply: Reply::Refused(5),
+        };
+    }
+    if i == 0 {
+        return LentOutcome {
+            numbers: n,
+            reply: Reply::Refused(5),
+        };
+    }
+    dangled[i] = false;
+    LentOutcome {
+        numbers: Numbers {
+            count: n.count,
+            segments: n.segments,
+            head: n.head,
+            top: i,
+            counter: n.counter,
+            size: n.size,
+        },
+        reply: Reply::Done,
+    }
+}
+
+// A script names a scope by its number: the id of the one that is meant. 4.
+pub fn numbered<'a>(live: &'a [bool; 64], number: &'a [u32; 64], m: u32) -> Reply
+    ensures { λ r. ⌜ ((s : Scopes) → r ≡ replied (λ k. opened (rule.idOf k)) (refuse 4 unless (rule.byNumber base (view (withScopes s (now (live .entry)) (s .dangled) (s .parent) (now (number .entry)) (numbersOf s))) m))) ⌝ }
+{
+    let i = open::with_number(live, number, m);
+    if i == 64 {
+        return Reply::Refused(4);
+    }
+    Reply::Opened(ScopeId {
+        index: i as u8,
+        number: m,
+    })
+}
