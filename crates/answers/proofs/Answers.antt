@@ -16,6 +16,7 @@ use Rattle.translate.proofs.Numbers as translation
 use Rattle.machine.specs.Machine as machine
 use Rattle.machine.proofs.Answer as running
 use Rattle.answers.specs.Prints.{Prints, Halved, Shown}
+use Rattle.answers.proofs.Printed.{prints-as}
 
 -- an answer of which the text is to be printed: it counts the text's bytes, which stand at the start of out; or out stays, and the text is
 -- the line of a refusal
@@ -34,7 +35,7 @@ module _ (text out : List ℕ) (answer : ℕ) (out′ : List ℕ) where
       let x : answer / 4294967296 ≡ m = omega arith in
       let y : answer % 4294967296 ≡ i = omega arith in
       let l : eeText (answer / 4294967296) (answer % 4294967296) ≡ text = rw (x, y) t in
-      subst (λ (o : List ℕ). Prints text o n out″) q (subst (λ (z : List ℕ). Prints z out′ n out″) l (s .refuses (omega arith)))
+      subst (λ (o : List ℕ). Prints text o n out″) q (prints-as l (s .refuses (omega arith)))
 
 -- ---- translate
 
