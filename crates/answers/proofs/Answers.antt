@@ -87,16 +87,16 @@ module _ (list : List ℕ) where
   unfolding runnerPrints unlessLonger if_then_else_ base
   list-longer h = sym (rw (lt-ltb _ _ h, if_then_else_))
 
-  list-fits : length list ≤ 32768 → runText (ranOn base (cellsOf (replicate 2048 0)) list) ≡ runnerPrints base list
-  unfolding runnerPrints unlessLonger if_then_else_ base
-  list-fits h = ap (λ (cs : List ℕ). runText (ranOn base cs list)) (zero-cells 1024) ∙ sym (rw (le-ltb _ _ h, if_then_else_))
+  module _ (h : length list ≤ 32768) (out : List ℕ) (wide : 32768 ≤ length out) (cells : List ℕ) (zeros : cells ≡ replicate 2048 0) where
+    list-fits : runText (ranOn base (cellsOf cells) list) ≡ runnerPrints base list
+    unfolding runnerPrints unlessLonger if_then_else_ base
+    list-fits = ap (λ (cs : List ℕ). runText (ranOn base cs list)) (ap cellsOf zeros ∙ zero-cells 1024) ∙ sym (rw (le-ltb _ _ h, if_then_else_))
 
-  come-to : running.Comes 2048 (ranOn base (cellsOf (replicate 2048 0)) list)
-  unfolding base
-  come-to = running.comes base (cellsOf (replicate 2048 0)) list
+    come-to : running.Comes 2048 (ranOn base (cellsOf cells) list)
+    unfolding base
+    come-to = running.comes base (cellsOf cells) list
 
-  pub run-says : length list ≤ 32768 → (out : List ℕ) → 32768 ≤ length out → (r : ℕ) (cells′ out′ : List ℕ)
-      → machine.Leaves (runEntry base list (replicate 2048 0) out) r cells′ out′ → Says (runnerPrints base list) out r out′
-  unfolding runEntry
-  run-says h out wide r cells′ out′ l =
-      subst (λ (t : List ℕ). Says t out r out′) (list-fits h) (run-left (ranOn base (cellsOf (replicate 2048 0)) list) come-to (replicate 2048 0) out wide r cells′ out′ l)
+    pub run-says : (r : ℕ) (cells′ out′ : List ℕ) → machine.Leaves (runEntry base list cells out) r cells′ out′ → Says (runnerPrints base list) out r out′
+    unfolding runEntry
+    run-says r cells′ out′ l =
+        subst (λ (t : List ℕ). Says t out r out′) list-fits (run-left (ranOn base (cellsOf cells) list) come-to cells out wide r cells′ out′ l)

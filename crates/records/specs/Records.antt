@@ -1,18 +1,19 @@
 -- Stored answers as bytes (oracle/README.md): what a record is, and when two texts are one. Assumes nothing.
-use mathlib.Core.Path.{_≡_}
 use mathlib.Core.Bool.{Bool, true, false}
-use mathlib.Core.List.{List}
+use mathlib.Core.List.{List, [], _∷_}
 use Prim.Native.Nat.{ℕ, _+_, _*_, _-_, _≤_}
 use lib.ListN.{length}
-use lib.Dec.{ltb}
+use lib.Dec.{ltb, eqb}
 use Rattle.text.specs.Lines.{wordAt}
 use Rattle.records.specs.declared.Found.{Found}
 use Rattle.records.specs.declared.Found.the-variants.{Broken, Record}
 
--- whether two texts are one
-pub record Same (a b : List ℕ) (r : Bool) : Type 0 where
-  pub one : r ≡ true → a ≡ b
-  pub two : r ≡ false → a ≡ b → ⊥
+-- whether two texts are one, byte for byte
+unfoldable pub sameText : List ℕ → List ℕ → Bool
+sameText [] [] = true
+sameText [] (b ∷ m) = false
+sameText (a ∷ l) [] = false
+sameText (a ∷ l) (b ∷ m) = elim (eqb a b) [ true ↦ sameText l m | false ↦ false ]
 
 -- the number that eight digits show
 abbrev pub numberAt : List ℕ → ℕ → ℕ

@@ -5,7 +5,9 @@ ghost use mathlib.Core.Path.{_≡_};
 ghost use Prim.Native.Nat.{ℕ, _+_, _≤_};
 ghost use lib.ListN.{length};
 ghost use Rattle.text.specs.Lines.{wordAt};
-ghost use Rattle.records.specs.Records.{Same, numberAt, foundAt};
+ghost use Rattle.records.specs.Records.{sameText, numberAt, foundAt};
+
+pub mod tally; // the records of a text, replayed and counted
 
 // Where a record's script and answer begin, and where the answer ends.
 pub enum Found {
@@ -19,7 +21,7 @@ pub enum Found {
 
 // Whether two texts are one, byte for byte.
 pub fn same(a: &[u8], b: &[u8]) -> bool
-    ensures { λ r. ⌜ Same (now (a .entry)) (now (b .entry)) r ⌝ }
+    ensures { λ r. ⌜ r ≡ sameText (now (a .entry)) (now (b .entry)) ⌝ }
 {
     if a.len() != b.len() {
         return false;

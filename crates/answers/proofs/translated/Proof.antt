@@ -10,7 +10,7 @@ longer-requires : tie.Need-longer-requires
 longer-requires c κs = search needs
 
 returns : tie.Need-returns
-returns c = prints-as (script-longer _ (c .before .before .if1 .taken)) (c .longer .ensures)
+returns c = prints-as (script-longer _ (omega (arith, c .before .before .if1 .taken))) (c .longer .ensures)
 
 translate-requires : tie.Need-translate-requires
 translate-requires c κs = search needs
@@ -18,12 +18,12 @@ translate-requires c κs = search needs
 shown-requires : tie.Need-shown-requires
 shown-requires c κs =
     let t = c .before .before in
-    halved _ _ _ _ (translate-says _ (t .before .if1 .left) _ (omega (arith, t .translate-arg .given)) _ _ (c .before .translate .ensures))
+    halved _ _ _ _ (translate-says _ (omega (arith, t .before .if1 .left)) _ (omega (arith, t .translate-arg .given)) _ _ (c .before .translate .ensures))
 
 returns-2 : tie.Need-returns-2
 returns-2 c =
     let t = c .before .before .before in
-    printed _ _ _ _ _ _ (translate-says _ (t .before .if1 .left) _ (omega (arith, t .translate-arg .given)) _ _ (c .before .before .translate .ensures)) (c .shown .ensures)
+    printed _ _ _ _ _ _ (translate-says _ (omega (arith, t .before .if1 .left)) _ (omega (arith, t .translate-arg .given)) _ _ (c .before .before .translate .ensures)) (c .shown .ensures)
 
 pub translated-spec : {M : Type 1} → statement M
 translated-spec =
