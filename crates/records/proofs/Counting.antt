@@ -12,7 +12,7 @@ use Rattle.records.specs.declared.Found.the-variants.{Broken, Record}
 use Rattle.records.specs.declared.tally.Tally.{Tally}
 use Rattle.records.specs.Records.{foundAt}
 use Rattle.records.specs.Tally.{agreeing, tally, none, oneMore, tallied}
-use Rattle.records.proofs.Texts.{bounded}
+use Rattle.records.proofs.Parts.{bounded}
 
 -- ---- one more record
 
