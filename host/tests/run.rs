@@ -55,7 +55,7 @@ fn by_model(list: &[u8], cells: &mut [u8], out: &mut [u8]) -> Answer {
 /// Each list as it is, and with one byte of it another.
 #[test]
 fn the_stored_lists_and_the_model() {
-    let bytes = std::fs::read("../oracle/stored/answers.txt").expect("the stored answers");
+    let bytes = std::fs::read("../crates/replay/data/answers.txt").expect("the stored answers");
     let mut rest = &bytes[..];
     let mut asked = 0;
     while !rest.is_empty() {

@@ -46,7 +46,7 @@ fn printed(script: &[u8]) -> Vec<u8> {
 
 #[test]
 fn the_stored_answers() {
-    let bytes = std::fs::read("../oracle/stored/answers.txt").expect("the stored answers");
+    let bytes = std::fs::read("../crates/replay/data/answers.txt").expect("the stored answers");
     let mut rest = &bytes[..];
     let mut replayed = 0;
     while !rest.is_empty() {

@@ -1,9 +1,10 @@
--- How much was read. Assumes nothing.
-use Prim.Native.Nat.{ℕ, _≤_}
+-- What was read. Assumes nothing.
+use Prim.Native.Nat.{ℕ, _<_}
 use Rattle.input.specs.declared.Input.{Input}
-use Rattle.input.specs.declared.Input.the-variants.{Bytes, Failed}
+use Rattle.input.specs.declared.Input.the-variants.{Whole, Full, Failed}
 
--- no more than there is room for
+-- an input that was read whole took less than there is room for
 abbrev pub Within : Input → ℕ → Type 0
-Within (Bytes n) most = n ≤ most
+Within (Whole n) most = n < most
+Within Full most = Unit {0}
 Within Failed most = Unit {0}

@@ -4,12 +4,14 @@ ghost use Prim.Native.Nat.{ℕ, _≤_};
 ghost use lib.ListN.{length};
 ghost use Rattle.input.specs.Within.{Within};
 
+// All of it, in so many bytes at the start of the buffer, where room is left; or the buffer is full, and more may follow; or a read failed.
 pub enum Input {
-    Bytes(usize),
+    Whole(usize),
+    Full,
     Failed,
 }
 
-// Reads until buf is full or the input ends. It answers how many bytes it put at the start of buf, or that a read failed.
+// Reads until buf is full or the input ends.
 fn fill(fd: i32, buf: &mut [u8]) -> Input
     ensures { λ r. ⌜ Within r (length (now (buf .entry))) ⌝ }
 {
@@ -21,11 +23,11 @@ fn fill(fd: i32, buf: &mut [u8]) -> Input
         }
         let more = io::count(got, &buf[n..]);
         if more == 0 {
-            return Input::Bytes(n);
+            return Input::Whole(n);
         }
         n += more;
     }
-    Input::Bytes(n)
+    Input::Full
 }
 
 // The same, and a word on standard error where a read failed.
@@ -35,7 +37,8 @@ fn fill_or_say(fd: i32, buf: &mut [u8], name: &[u8]) -> Input
     let r = fill(fd, buf);
     match r {
         Input::Failed => os::fail(name),
-        Input::Bytes(_) => {}
+        Input::Full => {}
+        Input::Whole(_) => {}
     }
     r
 }

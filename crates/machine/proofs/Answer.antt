@@ -16,6 +16,7 @@ use Rattle.rules.specs.Meaning.{Ran, obey, high}
 use Rattle.rules.specs.Text.{split, Listed, listed, unlisted, listFrom}
 use Rattle.rules.specs.Entries.{RunOutcome, ran, stopped, runListed, ranOn, loadsText, cellsOf, Running, runLeft, runEntry}
 use Rattle.text.proofs.Bounds.{ListIn, list-in}
+use Rattle.text.proofs.Halves.{Halves, by-count, by-number}
 use Rattle.machine.specs.Machine.{Leaves}
 use Rattle.machine.proofs.Link.{text-most}
 
@@ -62,24 +63,23 @@ comes room cells list = go (listFrom room 0 (split list)) (list-in room (split l
 
 -- ---- the two halves of the answer
 
-pub data Halves (cells out : List ℕ) (most : ℕ) (l : Running) : Type 0 where
-  count : l .answer / 4294967296 ≡ 0 → l .answer ≤ length out → l .answer ≤ 7 * most → Halves cells out most l
-  number : (n i : ℕ) → l .answer / 4294967296 ≡ n → l .answer % 4294967296 ≡ i → 1 ≤ n → n ≤ 20 → i ≤ most → l .cells ≡ cells → l .out ≡ out → Halves cells out most l
+abbrev pub HalvesOf : List ℕ → List ℕ → ℕ → Running → Type 0
+HalvesOf cells out most l = Halves (length out) (7 * most) most ((l .cells ≡ cells) × (l .out ≡ out)) (l .answer)
 
-halves-of : (most : ℕ) → most ≤ 65535 → (cells out : List ℕ) (o : RunOutcome) → Comes most o → Halves cells out most (runLeft o cells out)
+halves-of : (most : ℕ) → most ≤ 65535 → (cells out : List ℕ) (o : RunOutcome) → Comes most o → HalvesOf cells out most (runLeft o cells out)
 unfolding runLeft if_then_else_
-halves-of most h cells out _ (to-stop n i a b c) = number n i (omega arith) (omega arith) a b c refl refl
+halves-of most h cells out _ (to-stop n i a b c) = by-number _ _ _ _ n i (omega arith) a b c (refl, refl)
 halves-of most h cells out _ (to-end {r = r} a) = go (leb (length (loadsText (r .loaded))) (length out)) refl
   where
-    go : (b : Bool) → leb (length (loadsText (r .loaded))) (length out) ≡ b → Halves cells out most (runLeft (ran r) cells out)
-    go true e = rw (e, if_then_else_) (count (omega arith) (leb-true _ _ e) a)
-    go false e = rw (e, if_then_else_) (number 17 0 refl refl (omega arith) (omega arith) (omega arith) refl refl)
+    go : (b : Bool) → leb (length (loadsText (r .loaded))) (length out) ≡ b → HalvesOf cells out most (runLeft (ran r) cells out)
+    go true e = rw (e, if_then_else_) (by-count _ _ _ _ _ (omega arith) (leb-true _ _ e) a)
+    go false e = rw (e, if_then_else_) (by-number _ _ _ _ 17 0 (omega arith) (omega arith) (omega arith) (omega arith) (refl, refl))
 
-pub run-halves : (room : Room) → room .lines ≤ 65535 → (list cells out : List ℕ) → Halves cells out (room .lines) (runEntry room list cells out)
+pub run-halves : (room : Room) → room .lines ≤ 65535 → (list cells out : List ℕ) → HalvesOf cells out (room .lines) (runEntry room list cells out)
 unfolding runEntry
 run-halves room h list cells out = halves-of (room .lines) h cells out _ (comes room (cellsOf cells) list)
 
 -- as `run` promises it
-pub run-answer : (list cells out : List ℕ) → Halves cells out 2048 (runEntry base list cells out)
+pub run-answer : (list cells out : List ℕ) → HalvesOf cells out 2048 (runEntry base list cells out)
 unfolding base
 run-answer list cells out = run-halves base (omega arith) list cells out

@@ -3,24 +3,17 @@ use passes::Survey;
 use passes::obey;
 use passes::scan;
 use passes::zero;
+use text::refusal::refuse;
 use text::whole::Checked;
 use text::whole::check_list;
 ghost use mathlib.Core.Path.{_≡_};
-ghost use Prim.Native.Nat.{ℕ, _+_, _*_, _^_, _≤_, _<_};
+ghost use Prim.Native.Nat.{ℕ, _<_};
 ghost use Rattle.rules.specs.Sizes.{base};
-ghost use Rattle.rules.specs.Entries.{refusalAnswer, runEntry};
+ghost use Rattle.rules.specs.Entries.{runEntry};
 ghost use Rattle.machine.specs.Machine.{entries, surveyOf, roomOf, surveyLeft, Leaves};
 
 pub mod entries; // what a line asks of the machine
 pub mod passes; // the passes over a list, and the lent cells
-
-// The answer of a refusal: its number in the high 32 bits, its line in the low 32.
-fn refuse(number: u8, line: usize) -> u64
-    requires { ⌜ line ≤ 2 ^ 63 ⌝ }
-    ensures { λ r. ⌜ r ≡ refusalAnswer number line ⌝ }
-{
-    (number as u64) * 4294967296 + (line as u64)
-}
 
 // The list is read and its addresses are below the size: 17, or the work.
 fn run_below(list: &[u8], cells: &mut [u8], out: &mut [u8], size: usize, loads: usize) -> u64

@@ -1,14 +1,17 @@
 // Stored answers, read where they lie: a row of records, each a head of 18 bytes (a mark, two lengths of eight digits, LF), a script and
 // what is printed for it.
 use text::digits::digit_value;
+use text::lines::all_hex;
 ghost use mathlib.Core.Path.{_≡_};
 ghost use Prim.Native.Nat.{ℕ, _+_, _≤_};
 ghost use lib.ListN.{length};
 ghost use Rattle.text.specs.Lines.{wordAt};
-ghost use Rattle.records.specs.Records.{Same, numberAt, foundAt};
+ghost use Rattle.records.specs.Records.{sameText, marked, headAt, numberAt, foundAt};
+
+pub mod tally; // the records of a text, replayed and counted
 
 // Where a record's script and answer begin, and where the answer ends.
-pub enum Found {
+enum Found {
     Broken,
     Record {
         script: usize,
@@ -18,8 +21,8 @@ pub enum Found {
 }
 
 // Whether two texts are one, byte for byte.
-pub fn same(a: &[u8], b: &[u8]) -> bool
-    ensures { λ r. ⌜ Same (now (a .entry)) (now (b .entry)) r ⌝ }
+fn same(a: &[u8], b: &[u8]) -> bool
+    ensures { λ r. ⌜ r ≡ sameText (now (a .entry)) (now (b .entry)) ⌝ }
 {
     if a.len() != b.len() {
         return false;
@@ -34,7 +37,7 @@ pub fn same(a: &[u8], b: &[u8]) -> bool
     true
 }
 
-// The number that four digits show; a byte that is no digit counts as 16.
+// The number that four digits show.
 fn four_at(s: &[u8], p: usize) -> usize
     requires { ⌜ p + 4 ≤ length (now s) ⌝ }
     ensures { λ r. ⌜ (r ≡ wordAt (now (s .entry)) p) × (r ≤ 1114095) ⌝ }
@@ -56,13 +59,43 @@ fn number_at(s: &[u8], p: usize) -> usize
     high * 65536 + low
 }
 
+// Whether a byte says whose answer a record has.
+fn is_mark(b: u8) -> bool
+    ensures { λ r. ⌜ r ≡ marked b ⌝ }
+{
+    if b == b'o' {
+        return true;
+    }
+    if b == b'r' {
+        return true;
+    }
+    b == b'm'
+}
+
+// Whether a record's head stands at p.
+fn head_at(s: &[u8], p: usize) -> bool
+    requires { ⌜ p + 18 ≤ length (now s) ⌝ }
+    ensures { λ r. ⌜ r ≡ headAt (now (s .entry)) p ⌝ }
+{
+    if !is_mark(s[p]) {
+        return false;
+    }
+    if s[p + 17] != 10 {
+        return false;
+    }
+    all_hex(s, p + 1, p + 17)
+}
+
 // The record at p.
-pub fn record_at(s: &[u8], p: usize) -> Found
+fn record_at(s: &[u8], p: usize) -> Found
     requires { ⌜ p ≤ length (now s) ⌝ }
     ensures { λ r. ⌜ r ≡ foundAt (now (s .entry)) p ⌝ }
 {
     let left = s.len() - p;
     if left < 18 {
+        return Found::Broken;
+    }
+    if !head_at(s, p) {
         return Found::Broken;
     }
     let most = left - 18;

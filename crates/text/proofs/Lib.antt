@@ -7,3 +7,4 @@ pub mod Splits
 pub mod Texts
 pub mod Bounds
 pub mod Over
+pub mod Halves

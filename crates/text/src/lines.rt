@@ -49,7 +49,8 @@ pub fn line_end(s: &[u8], p: usize) -> usize
     e
 }
 
-fn all_hex(s: &[u8], p: usize, e: usize) -> bool
+// Whether the bytes from p on, below e, are digits.
+pub fn all_hex(s: &[u8], p: usize, e: usize) -> bool
     requires { ⌜ (p ≤ e) × (e ≤ length (now s)) ⌝ }
     ensures { λ r. ⌜ r ≡ allHex (slice p e (now (s .entry))) ⌝ }
 {

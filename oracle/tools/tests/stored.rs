@@ -6,7 +6,7 @@ use std::path::Path;
 
 #[test]
 fn stored_answers() {
-    let path = Path::new(env!("CARGO_MANIFEST_DIR")).join("../stored/answers.txt");
+    let path = Path::new(env!("CARGO_MANIFEST_DIR")).join("../../crates/replay/data/answers.txt");
     let bytes = fs::read(path).expect("the stored answers");
     let records = records::read(&bytes).expect("records");
     assert!(records.len() >= 300);

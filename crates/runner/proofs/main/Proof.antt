@@ -1,7 +1,5 @@
--- `main` is safe and ends; what it prints is `respond`'s. Assumes nothing.
-use mathlib.Core.Path.{sym}
-use lib.Seq.{length-take-le}
-use Rattle.input.proofs.Read.{bytes-in, bytes-all}
+-- `main` is safe and ends. Assumes nothing.
+use Rattle.input.proofs.Read.{whole-in, whole-all}
 use borrow.Author.Needs.{needs}
 use Rattle.runner.proofs.main.Statement.{statement}
 use Rattle.runner.proofs.main.Tie as tie
@@ -15,41 +13,39 @@ read-input-requires c κs = search needs
 enum-told : tie.Need-enum-told
 enum-told c = search needs
 
+enum-told-2 : tie.Need-enum-told-2
+enum-told-2 c = search needs
+
+slice-aggregate-print : tie.Need-slice-aggregate-print
+slice-aggregate-print c = search needs
+
+print-requires : tie.Need-print-requires
+print-requires c κs = search needs
+
 enum-known-n : tie.Need-enum-known-n
 enum-known-n c = search needs
 
 array-share-prefix-list : tie.Need-array-share-prefix-list
 array-share-prefix-list c =
-    let c4 = c .before .before .before .before in
-    bytes-in (c4 .read-input .result) _ _ (c4 .read-input .last .0) (c4 .read-input .ensures) (c4 .read-input .kept .0) (c .before .n .given .1)
+    let r = c .before .before .before .before .read-input in
+    whole-in (r .result) _ _ (r .last .0) (r .ensures) (r .kept .0) (c .before .n .given .1)
 
-slice-aggregate-respond : tie.Need-slice-aggregate-respond
-slice-aggregate-respond c =
-    let c5 = c .before .before .before .before .before in
-    bytes-all (c5 .read-input .result) _ _ (c5 .read-input .last .0) (c5 .read-input .ensures) (c5 .read-input .kept .0) (c .before .before .n .given .1)
+slice-aggregate-print-2 : tie.Need-slice-aggregate-print-2
+slice-aggregate-print-2 c =
+    let r = c .before .before .before .before .before .read-input in
+    whole-all (r .result) _ _ (r .last .0) (r .ensures) (r .kept .0) (c .before .before .n .given .1)
 
-slice-aggregate-respond-2 : tie.Need-slice-aggregate-respond-2
-slice-aggregate-respond-2 c = search needs
-
-respond-requires : tie.Need-respond-requires
-respond-requires c κs = search needs
-
-array-share-prefix-out : tie.Need-array-share-prefix-out
-array-share-prefix-out c = search needs
-
-slice-aggregate-write-all : tie.Need-slice-aggregate-write-all
-slice-aggregate-write-all c =
-    let c2 = c .before .before in
-    sym (length-take-le _ (c2 .respond .last .1 .0) (c2 .respond .ensures .count))
-
-write-all-requires : tie.Need-write-all-requires
-write-all-requires c κs = search needs
+print-requires-2 : tie.Need-print-requires-2
+print-requires-2 c κs = search needs
 
 returns : tie.Need-returns
 returns c = search needs
 
 returns-2 : tie.Need-returns-2
 returns-2 c = search needs
+
+returns-3 : tie.Need-returns-3
+returns-3 c = search needs
 
 pub main-spec : {M : Type 1} → statement M
 main-spec =
@@ -58,13 +54,13 @@ main-spec =
     slice-aggregate-read-input
     read-input-requires
     enum-told
+    enum-told-2
+    slice-aggregate-print
+    print-requires
     enum-known-n
     array-share-prefix-list
-    slice-aggregate-respond
-    slice-aggregate-respond-2
-    respond-requires
-    array-share-prefix-out
-    slice-aggregate-write-all
-    write-all-requires
+    slice-aggregate-print-2
+    print-requires-2
     returns
-    returns-2)
+    returns-2
+    returns-3)

@@ -1,0 +1,30 @@
+-- `print` is safe and ends; what it prints is `ran`'s. Assumes nothing.
+use Rattle.answers.proofs.Printed.{prints-in, prints-all}
+use borrow.Author.Needs.{needs}
+use Rattle.runner.proofs.print.Statement.{statement}
+use Rattle.runner.proofs.print.Tie as tie
+
+ran-requires : tie.Need-ran-requires
+ran-requires c κs = search needs
+
+array-share-prefix-out : tie.Need-array-share-prefix-out
+array-share-prefix-out c = prints-in (c .ran .ensures)
+
+slice-aggregate-write-all : tie.Need-slice-aggregate-write-all
+slice-aggregate-write-all c = prints-all (c .before .ran .ensures)
+
+write-all-requires : tie.Need-write-all-requires
+write-all-requires c κs = search needs
+
+returns : tie.Need-returns
+returns c = search needs
+
+pub print-spec : {M : Type 1} → statement M
+print-spec =
+    tie.close
+    (tie.spec
+    ran-requires
+    array-share-prefix-out
+    slice-aggregate-write-all
+    write-all-requires
+    returns)
