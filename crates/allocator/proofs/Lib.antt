@@ -1,8 +1,1 @@
-pub mod Tested
-pub mod Walks
-pub mod Marked
-pub mod Climbs
-pub mod Places
-pub mod Keys
-pub mod Agrees
 pub mod Entered

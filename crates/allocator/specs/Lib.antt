@@ -1,3 +1,1 @@
-pub mod Parts
-pub mod Canonical
 pub mod Entries
