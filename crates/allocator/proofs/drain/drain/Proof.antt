@@ -6,8 +6,6 @@ use Rattle.allocator.proofs.Entered.{gives, refuses, passed}
 use Rattle.allocator.proofs.Drained.{short, handed}
 use Rattle.allocator.proofs.drain.drain.Statement.{statement}
 use Rattle.allocator.proofs.drain.drain.Tie as tie
-use Rattle.allocator.proofs.drain.drain.Reads as reads
-use Rattle.allocator.proofs.drain.drain.Lts as lts
 
 is-sound-requires : tie.Need-is-sound-requires
 is-sound-requires c κs = search needs
@@ -24,7 +22,7 @@ returns-2 c =
     let i = e .before .before in
     let a = i .before .before .before .args in
     gives (i .before .is-sound .ensures .1) (i .if1 .left)
-    (short (a .s) (a .out .now) _ (e .drain .result) (e .drain .ensures .0 .1) (omega arith) (c .if2 .taken), passed (i .before .is-sound .ensures .0) (i .if1 .left))
+    (short (a .s) (a .out .now) _ (e .drain .result) (e .drain .ensures .0 .1) (omega arith) (omega (arith, c .if2 .taken)), passed (i .before .is-sound .ensures .0) (i .if1 .left))
 
 copy-requires : tie.Need-copy-requires
 copy-requires c κs = search needs
