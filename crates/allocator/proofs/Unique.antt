@@ -6,12 +6,13 @@ use mathlib.Core.List.{List}
 use Prim.Native.Nat.{ℕ}
 use Rattle.rules.specs.Notation.{Answer, given, refused}
 use Rattle.rules.specs.Needs as rule
-use Rattle.scopes.specs.View.{Seen}
+use Rattle.scopes.specs.View.{view, Seen}
 use Rattle.scopes.specs.Sound.{Sound, Typed}
 use Rattle.scopes.specs.declared.Scopes.{Scopes}
 use Rattle.scopes.specs.declared.Outcome.{Outcome}
 use Rattle.scopes.specs.declared.Reply.{Reply}
 use Rattle.scopes.proofs.Unique.{same-state, admits-one}
+use Rattle.soundness.proofs.Agrees.{good-sound}
 use Rattle.needs.specs.Answers as needs
 use Rattle.needs.specs.declared.Need.{Need}
 use Rattle.needs.specs.declared.AddressOutcome.{AddressOutcome}
@@ -38,6 +39,14 @@ call-one s x r q tr tq = checked-one (admits-one x r q tr tq)
 
 pub asked-one : (s : Scopes) (x r q : Reply) → Asked s x r → Asked s x q → r ≡ q
 asked-one s x r q = checked-one (λ e f. e ∙ sym f)
+
+-- ---- "All leave state .. unchanged": where the rule's next state is the one that came in, so is the record
+
+pub unchanged : {R : Type 0} {s : Scopes} {refusal : R} {Gives : R → Type 0} {r : R} (state : R → Scopes) → Typed s → Typed (state r) → state refusal ≡ s
+    → (Gives r → (view (state r) ≡ view s) × Sound (state r)) → Checked s refusal Gives r → state r ≡ s
+unchanged state ts tr e same (turned n q) = ap state q ∙ e
+unchanged {s = s} {r = r} state ts tr e same (taken g h) =
+    same-state (state r) s (same h .1) (good-sound s (ts .sized .live) (ts .sized .bindings) g) tr ts (same h .0)
 
 -- ---- addresses, runs, needs
 

@@ -228,6 +228,9 @@ module _ (s : Scopes) (long : length (s .live) ≡ 64) (room : length (s .bindin
         };
       }
 
+  pub good-sound : Good s → Sound s
+  good-sound x = of-rules (tells-sound base (view s) .holds (x .0)) (x .1)
+
   -- what tells the record's soundness tells 01's test of the view, and that the record is canonical
   pub tells-both : (r : Bool) → Tells r (Sound s) → Tells r (Good s)
-  tells-both r t = tells-as t (λ h. (passes h, is-canonical h)) (λ x. of-rules (tells-sound base (view s) .holds (x .0)) (x .1))
+  tells-both r t = tells-as t (λ h. (passes h, is-canonical h)) good-sound
