@@ -1,8 +1,3 @@
-pub mod Tested
-pub mod Walks
-pub mod Marked
-pub mod Climbs
-pub mod Places
-pub mod Keys
-pub mod Agrees
 pub mod Entered
+pub mod Drained
+pub mod Unique

@@ -1,34 +1,66 @@
--- What the public entries promise: "29 first", with the state unchanged; else what the rule gives, in a sound state. Assumes nothing.
+-- What the public entries promise: "29 first", with all that was handed in as it was; else what the rule gives, in a sound state.
+-- Assumes nothing.
 use mathlib.Core.Path.{_≡_}
-use mathlib.Core.Bool.{Bool, true, false}
-use Rattle.rules.specs.Sizes.{base}
-use Rattle.rules.specs.Sound.{sound}
-use Rattle.rules.proofs.Tells.{Tells}
-use Rattle.scopes.specs.View.{view, Seen, seen}
+use mathlib.Core.Option.{Option}
+use mathlib.Core.List.{List}
+use Prim.Native.Nat.{ℕ}
+use Rattle.rules.specs.Needs as rule
+use Rattle.scopes.specs.View.{Seen, seen}
 use Rattle.scopes.specs.Sound.{Sound}
 use Rattle.scopes.specs.declared.Scopes.{Scopes}
 use Rattle.scopes.specs.declared.Outcome.{Outcome}
 use Rattle.scopes.specs.declared.Reply.{Reply}
-use Rattle.scopes.specs.declared.Reply.the-variants.{Refused}
-use Rattle.allocator.specs.Canonical.{Canonical}
+use Rattle.scopes.specs.declared.Reply.the-variants as reply
+use Rattle.needs.specs.Answers as needs
+use Rattle.needs.specs.declared.Need.{Need}
+use Rattle.needs.specs.declared.AddressAnswer.the-variants as address
+use Rattle.needs.specs.declared.RunAnswer.the-variants as run
+use Rattle.needs.specs.declared.SlotAnswer.the-variants as slot
+use Rattle.needs.specs.declared.OutputAnswer.the-variants as output
+use Rattle.needs.specs.declared.FreeAnswer.the-variants as free
+use Rattle.needs.specs.declared.AddressOutcome.{AddressOutcome}
+use Rattle.needs.specs.declared.RunOutcome.{RunOutcome}
+use Rattle.needs.specs.declared.SlotOutcome.{SlotOutcome}
+use Rattle.needs.specs.declared.OutputOutcome.{OutputOutcome}
+use Rattle.needs.specs.declared.FreeOutcome.{FreeOutcome}
+use Rattle.soundness.specs.Canonical.{Good}
 
--- 01's test says yes of what the rules see, and the record is written in the one way that it can be
-abbrev pub Good : Scopes → Type 0
-Good s = (sound base (view s) ≡ true) × Canonical s
+-- An entry was handed the state s and left r: the refusal where s isn't sound, else what `Gives` says.
+pub data Checked {R : Type 0} (s : Scopes) (refusal : R) (Gives : R → Type 0) (r : R) : Type 0 where
+  turned : (Good s → ⊥) → r ≡ refusal → Checked s refusal Gives r
+  taken : Good s → Gives r → Checked s refusal Gives r
+
+-- ---- for each kind of result: the refusal, and what is left where the rule gives x
 
 abbrev pub unsound : Scopes → Outcome
-unsound s = record { state = s; reply = Refused 29 }
+unsound s = record { state = s; reply = reply.Refused 29 }
 
--- the entry was handed s and answered r; x is what the rule gives
-pub record Checked (s : Scopes) (x : Seen) (r : Outcome) : Type 0 where
-  pub verdict : Bool
-  pub tells : Tells verdict (Good s)
-  pub given : verdict ≡ true → (seen r ≡ x) × Sound (r .state)
-  pub refused : verdict ≡ false → r ≡ unsound s
+abbrev pub Call : Scopes → Seen → Outcome → Type 0
+Call s x r = Checked s (unsound s) (λ o. (seen o ≡ x) × Sound (o .state)) r
 
--- a question's answer
-pub record Asked (s : Scopes) (x r : Reply) : Type 0 where
-  pub verdict : Bool
-  pub tells : Tells verdict (Good s)
-  pub given : verdict ≡ true → r ≡ x
-  pub refused : verdict ≡ false → r ≡ Refused 29
+-- a question
+abbrev pub Asked : Scopes → Reply → Reply → Type 0
+Asked s x r = Checked s (reply.Refused 29) (λ o. o ≡ x) r
+
+abbrev pub unsoundAddress : Scopes → AddressOutcome
+unsoundAddress s = record { state = s; answer = address.Refused 29 }
+
+abbrev pub AddressCall : Scopes → needs.Seen rule.Address → AddressOutcome → Type 0
+AddressCall s x r = Checked s (unsoundAddress s) (λ o. (needs.seenAddress o ≡ x) × Sound (o .state)) r
+
+abbrev pub unsoundRun : Scopes → RunOutcome
+unsoundRun s = record { state = s; answer = run.Refused 29 }
+
+abbrev pub RunCall : Scopes → needs.Seen (List rule.Address) → RunOutcome → Type 0
+RunCall s x r = Checked s (unsoundRun s) (λ o. (needs.seenRun o ≡ x) × needs.PlainRun (o .answer) × Sound (o .state)) r
+
+-- the need too comes back as it was
+
+abbrev pub SlotCall : Scopes → Need → needs.SeenBoth (Option ℕ) → SlotOutcome → Type 0
+SlotCall s d x r = Checked s (record { state = s; need = d; answer = slot.Refused 29 }) (λ o. (needs.seenSlot o ≡ x) × Sound (o .state)) r
+
+abbrev pub OutputCall : Scopes → Need → needs.SeenBoth rule.Output → OutputOutcome → Type 0
+OutputCall s d x r = Checked s (record { state = s; need = d; answer = output.Refused 29 }) (λ o. (needs.seenOutput o ≡ x) × Sound (o .state)) r
+
+abbrev pub FreeCall : Scopes → Need → needs.SeenBoth (Unit {0}) → FreeOutcome → Type 0
+FreeCall s d x r = Checked s (record { state = s; need = d; answer = free.Refused 29 }) (λ o. (needs.seenFree o ≡ x) × Sound (o .state)) r

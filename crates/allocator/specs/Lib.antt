@@ -1,3 +1,2 @@
-pub mod Parts
-pub mod Canonical
 pub mod Entries
+pub mod Drained

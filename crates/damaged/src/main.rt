@@ -9,7 +9,7 @@ const NAMED: u64 = 8589934592;
 
 fn say(case: &[u8], s: Scopes) {
     io::write_all(1, case);
-    if allocator::sound::is_sound(s) {
+    if soundness::is_sound(s) {
         io::write_all(1, b": sound\n");
     } else {
         io::write_all(1, b": 29\n");

@@ -1,0 +1,15 @@
+-- `scope::dangle` meets its contract. Assumes nothing.
+use borrow.Author.Needs.{needs}
+use Rattle.allocator.proofs.Entered.{gives, refuses, passed}
+use Rattle.allocator.proofs.scope.dangle.Statement.{statement}
+use Rattle.allocator.proofs.scope.dangle.Tie as tie
+
+pub dangle-spec : {M : Type 1} → statement M
+dangle-spec =
+    tie.close
+    (tie.spec
+    (λ c κs. search needs)
+    (λ c κs. search needs)
+    (λ c. search refuses)
+    (λ c κs. search passed)
+    (λ c. search gives))

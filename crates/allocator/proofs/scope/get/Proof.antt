@@ -1,0 +1,14 @@
+-- `scope::get` meets its contract. Assumes nothing.
+use borrow.Author.Needs.{needs}
+use Rattle.allocator.proofs.Entered.{gives, refuses, passed}
+use Rattle.allocator.proofs.scope.get.Statement.{statement}
+use Rattle.allocator.proofs.scope.get.Tie as tie
+
+pub get-spec : {M : Type 1} → statement M
+get-spec =
+    tie.close
+    (tie.spec
+    (λ c κs. search needs)
+    (λ c. search refuses)
+    (λ c κs. search passed)
+    (λ c. search gives))

@@ -1,0 +1,14 @@
+-- `scope::numbered` meets its contract. Assumes nothing.
+use borrow.Author.Needs.{needs}
+use Rattle.allocator.proofs.Entered.{gives, refuses, passed}
+use Rattle.allocator.proofs.scope.numbered.Statement.{statement}
+use Rattle.allocator.proofs.scope.numbered.Tie as tie
+
+pub numbered-spec : {M : Type 1} → statement M
+numbered-spec =
+    tie.close
+    (tie.spec
+    (λ c κs. search needs)
+    (λ c. search refuses)
+    (λ c κs. search passed)
+    (λ c. search gives))

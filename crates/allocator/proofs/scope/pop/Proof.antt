@@ -1,0 +1,15 @@
+-- `scope::pop` meets its contract. Assumes nothing.
+use borrow.Author.Needs.{needs}
+use Rattle.allocator.proofs.Entered.{gives, refuses, passed}
+use Rattle.allocator.proofs.scope.pop.Statement.{statement}
+use Rattle.allocator.proofs.scope.pop.Tie as tie
+
+pub pop-spec : {M : Type 1} → statement M
+pop-spec =
+    tie.close
+    (tie.spec
+    (λ c κs. search needs)
+    (λ c κs. search needs)
+    (λ c. search refuses)
+    (λ c κs. search passed)
+    (λ c. search gives))

@@ -1,0 +1,62 @@
+// A need: allocated, freed; a refusal leaves it as it was. The calls over a need alone take no state, and are those of crate needs.
+ghost use mathlib.Core.Path.{_≡_};
+ghost use Rattle.scopes.specs.View.{view};
+ghost use Rattle.needs.specs.Kinds.{needOf};
+ghost use Rattle.needs.specs.Answers.{allocation, outputAllocation, freeing};
+ghost use Rattle.allocator.specs.Entries.{SlotCall, OutputCall, FreeCall};
+use needs::FreeAnswer;
+use needs::FreeOutcome;
+use needs::Need;
+use needs::OutputAnswer;
+use needs::OutputOutcome;
+use needs::SlotAnswer;
+use needs::SlotOutcome;
+use needs::any;
+pub use needs::any::addr;
+pub use needs::any::assign_from;
+pub use needs::any::into_addr;
+pub use needs::any::output;
+pub use needs::any::try_as_addr;
+use scopes::Scopes;
+
+// Defer becomes a Scope address, Dangling becomes Local; the slot, or nothing.
+pub fn allocate(s: Scopes, need: Need) -> SlotOutcome
+    ensures { λ r. ⌜ SlotCall s need (allocation (needOf need) (view s)) r ⌝ }
+{
+    if !soundness::is_sound(s) {
+        return SlotOutcome {
+            state: s,
+            need,
+            answer: SlotAnswer::Refused(29),
+        };
+    }
+    any::allocate(s, need)
+}
+
+// The same, as output: keep, or discard.
+pub fn allocate_output(s: Scopes, need: Need) -> OutputOutcome
+    ensures { λ r. ⌜ OutputCall s need (outputAllocation (needOf need) (view s)) r ⌝ }
+{
+    if !soundness::is_sound(s) {
+        return OutputOutcome {
+            state: s,
+            need,
+            answer: OutputAnswer::Refused(29),
+        };
+    }
+    any::allocate_output(s, need)
+}
+
+// Its address is freed; the need is Freed.
+pub fn free_need(s: Scopes, need: Need) -> FreeOutcome
+    ensures { λ r. ⌜ FreeCall s need (freeing (needOf need) (view s)) r ⌝ }
+{
+    if !soundness::is_sound(s) {
+        return FreeOutcome {
+            state: s,
+            need,
+            answer: FreeAnswer::Refused(29),
+        };
+    }
+    any::free_need(s, need)
+}

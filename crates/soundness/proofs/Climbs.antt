@@ -1,0 +1,164 @@
+-- Parents lead to root alike as the state stores them and as the rules see them, and climbing over at most 64 of them tells it.
+-- Assumes nothing.
+use mathlib.Core.Path.{_≡_, refl, sym, ap, _∙_, subst}
+use mathlib.Core.Logic.{_≢_, by-cases}
+use mathlib.Core.Bool.{Bool, true, false}
+use mathlib.Core.Option.{Option, none, some}
+use mathlib.Core.List.{List, []}
+use Prim.Native.Nat.{ℕ, zero, suc, _-_, _≤_, _<_}
+use native.Mathlib.Decide.{decLt}
+use native.Mathlib.Omega.{arith}
+use lib.Dec.{eqb, ltb}
+use lib.ListN.{length, getD, List·getD-eq-default}
+use borrow.Author.Tests.{eq-eqb, ne-eqb, eqb-true, lt-ltb, le-ltb, ltb-true, ltb-false}
+use Rattle.rules.specs.Notation.{isSome}
+use Rattle.rules.specs.Scopes.{Scope}
+use Rattle.rules.proofs.Tables.{by-eqb}
+use Rattle.rules.proofs.Chains.{none-some}
+use Rattle.rules.proofs.Sound as rule
+use Rattle.rules.proofs.Climb.{height, height-below}
+use Rattle.rules.proofs.Tells.{Tells, decided, clash}
+use Rattle.scopes.specs.View.{index, onlyIf, scopeAt, scopesFrom}
+use Rattle.scopes.specs.Sound.{Leads, root, up}
+use Rattle.soundness.specs.Parts.{climb}
+
+-- ---- an index below 64, or none
+
+pub index-some : (n : ℕ) → n < 64 → index n ≡ some n
+index-some n h = rw (lt-ltb n 64 h, index)
+
+pub index-none : (n : ℕ) → 64 ≤ n → index n ≡ none
+index-none n h = rw (le-ltb n 64 h, index)
+
+pub index-is : (n p : ℕ) → index n ≡ some p → (n ≡ p) × (n < 64)
+index-is n p e =
+    by-cases (decLt n 64)
+    (λ l. (let q : some n ≡ some p = sym (index-some n l) ∙ e in cc, l))
+    (λ l. none-some (sym (index-none n (omega arith)) ∙ e))
+
+pub index-over : (n : ℕ) → index n ≡ none → 64 ≤ n
+index-over n e = by-cases (decLt n 64) (λ l. none-some (sym e ∙ index-some n l)) (λ l. omega arith)
+
+-- ---- which scopes are live
+
+pub live-below : (live : List Bool) → length live ≡ 64 → (i : ℕ) → getD live i false ≡ true → i < 64
+live-below live len i l = by-cases (decLt i 64) (λ h. h) (λ h. clash l (List·getD-eq-default live false (omega arith)))
+
+pub leads-live : (live : List Bool) (parent : List ℕ) (i : ℕ) → Leads live parent i → getD live i false ≡ true
+leads-live live parent i (root l q) = l
+leads-live live parent i (up n l r) = l
+
+-- root has no parent
+pub leads-root : (live : List Bool) (parent : List ℕ) (i : ℕ) → Leads live parent i → getD parent 0 0 ≡ 64
+leads-root live parent i (root l q) = q
+leads-root live parent i (up n l r) = leads-root live parent (getD parent i 0) r
+
+some-live : (b : Bool) (x k : Scope) → onlyIf b x ≡ some k → (b ≡ true) × (x ≡ k)
+some-live true x k e = (refl, cc)
+some-live false x k e = none-some e
+
+-- ---- the state's parents and the rules'
+
+module _ (live dangled : List Bool) (parent number : List ℕ) (owned : ℕ → List ℕ) where
+  abbrev pub seen : ℕ → Option Scope
+  seen = scopesFrom live dangled parent number owned
+
+  abbrev scope : ℕ → Scope
+  scope i = scopeAt dangled parent number owned i
+
+  pub seen-live : (i : ℕ) → getD live i false ≡ true → seen i ≡ some (scope i)
+  seen-live i l = ap (λ (b : Bool). onlyIf b (scope i)) l
+
+  pub to-rule : length live ≡ 64 → getD number 0 0 ≡ 0 → (i : ℕ) → Leads live parent i → rule.Leads 64 seen i
+  to-rule len z i (root l q) = rule.root (scope 0) (seen-live 0 l) (index-none (getD parent 0 0) (omega (arith, q))) refl z
+  to-rule len z i (up n l r) =
+      let below : getD parent i 0 < 64 = live-below live len (getD parent i 0) (leads-live live parent (getD parent i 0) r) in
+      rule.up (scope i) (getD parent i 0) (seen-live i l) (index-some (getD parent i 0) below) n below (to-rule len z (getD parent i 0) r)
+
+  pub of-rule : getD parent 0 0 ≤ 64 → (i : ℕ) → rule.Leads 64 seen i → Leads live parent i
+  of-rule most i (rule.root k e p z q) =
+      let w : (getD live i false ≡ true) × (scope i ≡ k) = some-live (getD live i false) (scope i) k e in
+      let over : 64 ≤ getD parent i 0 = index-over (getD parent i 0) (ap (λ (x : Scope). x .parent) (w .1) ∙ p) in
+      subst (Leads live parent) (sym z)
+      (root (subst (λ (j : ℕ). getD live j false ≡ true) z (w .0)) (omega (arith, subst (λ (j : ℕ). 64 ≤ getD parent j 0) z over, most)))
+  of-rule most i (rule.up k p e q z l d) =
+      let w : (getD live i false ≡ true) × (scope i ≡ k) = some-live (getD live i false) (scope i) k e in
+      let to : getD parent i 0 ≡ p = index-is (getD parent i 0) p (ap (λ (x : Scope). x .parent) (w .1) ∙ q) .0 in
+      up z (w .0) (subst (Leads live parent) (sym to) (of-rule most p d))
+
+  -- root's number
+  pub root-number : rule.Leads 64 seen 0 → getD number 0 0 ≡ 0
+  root-number d = go 0 refl d
+    where
+      go : (i : ℕ) → i ≡ 0 → rule.Leads 64 seen i → getD number 0 0 ≡ 0
+      go i e (rule.root k f p z q) =
+          subst (λ (j : ℕ). getD number j 0 ≡ 0) z (ap (λ (x : Scope). x .number) (some-live (getD live i false) (scope i) k f .1) ∙ q)
+      go i e (rule.up k p f q z l d) = absurd (z e)
+
+-- ---- the climb
+
+module _ (live : List Bool) (parent : List ℕ) where
+  pub climb-dead : (k i : ℕ) → getD live i false ≡ false → climb live parent k i ≡ false
+  unfolding climb
+  climb-dead zero i e = refl
+  climb-dead (suc k) i e = rw (e, climb)
+
+  climb-root : (k i : ℕ) → getD live i false ≡ true → i ≡ 0 → climb live parent (suc k) i ≡ eqb (getD parent i 0) 64
+  unfolding climb
+  climb-root k i e z = rw (e, eq-eqb i 0 z, climb)
+
+  climb-up : (k i : ℕ) → getD live i false ≡ true → i ≢ 0 → climb live parent (suc k) i ≡ climb live parent k (getD parent i 0)
+  unfolding climb
+  climb-up k i e z = rw (e, ne-eqb i 0 z, climb)
+
+  climb-leads : (k i : ℕ) → climb live parent k i ≡ true → Leads live parent i
+  unfolding climb
+  climb-leads zero i e = clash e refl
+  climb-leads (suc k) i e = decided (getD live i false) (on (climb-leads k (getD parent i 0))) (λ l. clash e (climb-dead (suc k) i l))
+    where
+      on : (climb live parent k (getD parent i 0) ≡ true → Leads live parent (getD parent i 0)) → getD live i false ≡ true → Leads live parent i
+      on ih l =
+          by-eqb i 0
+          (λ z. subst (Leads live parent) (sym z)
+          (root (subst (λ (j : ℕ). getD live j false ≡ true) z l) (subst (λ (j : ℕ). getD parent j 0 ≡ 64) z (eqb-true _ _ (sym (climb-root k i l z) ∙ e)))))
+          (λ z. up z l (ih (sym (climb-up k i l z) ∙ e)))
+
+  -- the rules' way up, of which the height is known
+  abbrev Way : ℕ → Type 0
+  Way i = rule.Leads 64 (scopesFrom live [] parent [] (λ j. [])) i
+
+  climbs : getD parent 0 0 ≡ 64 → (k : ℕ) (i : ℕ) (d : Way i) → height d < k → climb live parent k i ≡ true
+  unfolding height
+  climbs z zero i d h = absurd (omega arith)
+  climbs z (suc k) i (rule.root x e p q m) h =
+      climb-root k i (some-live (getD live i false) _ x e .0) q ∙ eq-eqb (getD parent i 0) 64 (subst (λ (j : ℕ). getD parent j 0 ≡ 64) (sym q) z)
+  climbs z (suc k) i (rule.up x p e q n l d) h =
+      let w = some-live (getD live i false) _ x e in
+      climb-up k i (w .0) n
+      ∙ ap (climb live parent k) (index-is (getD parent i 0) p (ap (λ (y : Scope). y .parent) (w .1) ∙ q) .0)
+      ∙ climbs z k p d (omega arith)
+
+  pub climb-tells : length live ≡ 64 → (r : Bool) (i : ℕ) → r ≡ climb live parent 64 i → Tells r (Leads live parent i)
+  climb-tells len r i e =
+      record {
+        holds = λ t. climb-leads 64 i (sym e ∙ t);
+        shows = λ h.
+            let d : Way i = to-rule live [] parent [] (λ j. []) len refl i h in
+            e ∙ climbs (leads-root live parent i h) 64 i d (height-below (live-below live len i (leads-live live parent i h)) d);
+      }
+
+  -- ---- the steps as the code takes them
+
+  pub root-at : (k i p : ℕ) → 0 < k → getD live i false ≡ true → i ≡ 0 → p ≡ getD parent i 0 → climb live parent k i ≡ eqb p 64
+  root-at k i p h l z q = let e : k ≡ suc (k - 1) = omega arith in ap (λ (m : ℕ). climb live parent m i) e ∙ climb-root (k - 1) i l z ∙ ap (λ (x : ℕ). eqb x 64) (sym q)
+
+  pub up-at : (k i p : ℕ) → 0 < k → getD live i false ≡ true → i ≢ 0 → p ≡ getD parent i 0 → climb live parent k i ≡ climb live parent (k - 1) p
+  up-at k i p h l z q = let e : k ≡ suc (k - 1) = omega arith in ap (λ (m : ℕ). climb live parent m i) e ∙ climb-up (k - 1) i l z ∙ ap (climb live parent (k - 1)) (sym q)
+
+  pub climb-zero : (k i : ℕ) → k ≤ 0 → climb live parent k i ≡ false
+  unfolding climb
+  climb-zero zero i h = refl
+  climb-zero (suc k) i h = absurd (omega arith)
+
+  pub beyond : (k i : ℕ) → length live ≤ i → climb live parent k i ≡ false
+  beyond k i h = climb-dead k i (List·getD-eq-default live false h)

@@ -1,0 +1,7 @@
+pub mod Tested
+pub mod Walks
+pub mod Marked
+pub mod Climbs
+pub mod Places
+pub mod Keys
+pub mod Agrees

@@ -1,0 +1,109 @@
+// "top is live, or nothing is; every live scope's parents are live and lead to root": of any content, so the climb has a bound on its steps.
+ghost use mathlib.Core.Path.{_≡_};
+ghost use mathlib.Core.Logic.{_⊎_};
+ghost use mathlib.Core.Bool.{true, false};
+ghost use Prim.Native.Nat.{ℕ, _<_};
+ghost use lib.ListN.{length, getD};
+ghost use Rattle.rules.proofs.Tells.{Tells};
+ghost use Rattle.scopes.specs.Sound.{Rooted, Leads};
+ghost use Rattle.soundness.specs.Parts.{Below, RootedAt, Topped};
+use scopes::open;
+
+// Parents lead from i to root.
+pub fn leads<'a>(live: &'a [bool; 64], parent: &'a [u8; 64], i: usize) -> bool
+    requires { ⌜ length (now live) ≡ 64 ⌝ }
+    ensures { λ r. ⌜ Tells r (Leads (now (live .entry)) (now (parent .entry)) i) ⌝ }
+{
+    let mut k = i;
+    let mut n: usize = 64;
+    while 0 < n {
+        if 64 <= k {
+            return false;
+        }
+        if !live[k] {
+            return false;
+        }
+        let p = open::wide8(parent[k]);
+        if k == 0 {
+            return p == 64;
+        }
+        k = p;
+        n -= 1;
+    }
+    false
+}
+
+// A live scope's parents lead to root; the record of a closed one is blank.
+pub fn rooted_at<'a>(
+    live: &'a [bool; 64],
+    dangled: &'a [bool; 64],
+    parent: &'a [u8; 64],
+    number: &'a [u32; 64],
+    i: usize,
+) -> bool
+    requires { ⌜ (i < 64) × (length (now live) ≡ 64) ⌝ }
+    ensures { λ r. ⌜ Tells r (RootedAt (now (live .entry)) (now (dangled .entry)) (now (parent .entry)) (now (number .entry)) i) ⌝ }
+{
+    if live[i] {
+        return leads(live, parent, i);
+    }
+    if dangled[i] {
+        return false;
+    }
+    let p = open::wide8(parent[i]);
+    if p != 64 {
+        return false;
+    }
+    number[i] == 0
+}
+
+pub fn none_live(live: &[bool; 64]) -> bool
+    ensures { λ r. ⌜ Tells r (Below 64 (λ i. getD (now (live .entry)) i false ≡ false)) ⌝ }
+{
+    let mut i: usize = 0;
+    while i < 64 {
+        if live[i] {
+            return false;
+        }
+        i += 1;
+    }
+    true
+}
+
+pub fn topped(live: &[bool; 64], top: usize) -> bool
+    ensures { λ r. ⌜ Tells r (Topped (now (live .entry)) top) ⌝ }
+{
+    if top < 64 {
+        return live[top];
+    }
+    if top != 64 {
+        return false;
+    }
+    none_live(live)
+}
+
+pub fn rooted<'a>(
+    live: &'a [bool; 64],
+    dangled: &'a [bool; 64],
+    parent: &'a [u8; 64],
+    number: &'a [u32; 64],
+    top: usize,
+) -> bool
+    requires { ⌜ length (now live) ≡ 64 ⌝ }
+    ensures { λ r. ⌜ Tells r (Rooted (now (live .entry)) (now (dangled .entry)) (now (parent .entry)) (now (number .entry)) top) ⌝ }
+{
+    if !topped(live, top) {
+        return false;
+    }
+    if number[0] != 0 {
+        return false;
+    }
+    let mut i: usize = 0;
+    while i < 64 {
+        if !rooted_at(live, dangled, parent, number, i) {
+            return false;
+        }
+        i += 1;
+    }
+    true
+}
