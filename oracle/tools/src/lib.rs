@@ -8,6 +8,8 @@ pub mod damage;
 pub mod every;
 pub mod judge;
 pub mod known;
+#[cfg(feature = "linked")]
+pub mod linked;
 pub mod lists;
 pub mod ours;
 pub mod phases;

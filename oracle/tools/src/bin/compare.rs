@@ -15,6 +15,7 @@ struct Plan {
     against: Against,
     program: Option<String>,
     runner: Option<String>,
+    linked: bool,
     every: usize,
     wide: usize,
     random: u64,
@@ -48,6 +49,7 @@ fn plan(args: &Args) -> Plan {
         },
         program,
         runner: args.value("--runner").map(String::from),
+        linked: args.flag("--linked"),
         every: args.number("--every", every) as usize,
         wide: args.number("--wide", every - 1) as usize,
         random: args.number("--random", random),
@@ -91,11 +93,42 @@ fn every_script(comparison: &mut Comparison, name: &str, alphabet: &[Frame], lon
     comparison.tally = Default::default();
 }
 
-fn scripts(plan: &Plan) -> usize {
-    let ours: Box<dyn Ours> = match &plan.program {
+/// The two linked functions.
+#[cfg(feature = "linked")]
+fn linked() -> [Box<dyn Ours>; 2] {
+    use oracle::linked::{Run, Translate};
+    [Box::new(Translate::default()), Box::new(Run)]
+}
+
+#[cfg(not(feature = "linked"))]
+fn linked() -> [Box<dyn Ours>; 2] {
+    panic!("--linked needs the archive: cargo run --release --features linked")
+}
+
+fn translator(plan: &Plan) -> Box<dyn Ours> {
+    match &plan.program {
+        _ if plan.linked => {
+            let [translate, _] = linked();
+            translate
+        }
         Some(command) => Box::new(Program::new(command)),
         None => Box::new(Model(plan.plant)),
-    };
+    }
+}
+
+fn runner(plan: &Plan) -> Option<Box<dyn Ours>> {
+    match &plan.runner {
+        _ if plan.linked => {
+            let [_, run] = linked();
+            Some(run)
+        }
+        Some(command) => Some(Box::new(Program::new(command))),
+        None => None,
+    }
+}
+
+fn scripts(plan: &Plan) -> usize {
+    let ours = translator(plan);
     println!("ours: {}; seed {}", ours.name(), plan.seed);
     let mut comparison = Comparison::new(ours, plan.against);
     every_script(&mut comparison, "small", &every::alphabet(), plan.every);
@@ -106,7 +139,7 @@ fn scripts(plan: &Plan) -> usize {
     println!("by chance, {} s, {profiles:?}", begun.elapsed().as_secs());
     println!("{}", comparison.tally);
 
-    if plan.program.is_some() || plan.plant.is_some() {
+    if plan.linked || plan.program.is_some() || plan.plant.is_some() {
         comparison.tally = Default::default();
         phases::damaged_texts(&mut comparison, plan.damaged, plan.seed);
         println!("damaged texts, by the model only");
@@ -125,11 +158,10 @@ fn bare(plan: &Plan) -> usize {
 }
 
 fn lists(plan: &Plan) -> usize {
-    let Some(command) = &plan.runner else {
+    let Some(mut runner) = runner(plan) else {
         return 0;
     };
-    let mut runner = Program::new(command);
-    let differs = phases::lists_run(&mut runner, plan.lists, plan.seed);
+    let differs = phases::lists_run(runner.as_mut(), plan.lists, plan.seed);
     println!("{} lists to {}", plan.lists, runner.name());
     if let Some(list) = &differs {
         let printed = runner.answers(std::slice::from_ref(list)).remove(0);
