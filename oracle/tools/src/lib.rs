@@ -10,6 +10,8 @@ pub mod judge;
 pub mod known;
 #[cfg(feature = "linked")]
 pub mod linked;
+#[cfg(feature = "linked")]
+pub mod linked_slots;
 pub mod lists;
 pub mod ours;
 pub mod phases;

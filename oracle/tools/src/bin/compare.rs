@@ -2,6 +2,7 @@
 
 use model::{Fault, Frame, Plant};
 use oracle::args::Args;
+use oracle::bare::{model_rows, Player};
 use oracle::comparison::{Comparison, Found};
 use oracle::judge::{Against, ORIGINAL_FAULTS};
 use oracle::known::known;
@@ -148,13 +149,37 @@ fn scripts(plan: &Plan) -> usize {
     report(&comparison.found)
 }
 
-fn bare(plan: &Plan) -> usize {
-    let (tally, differs) = phases::bare_runs(plan.bare, plan.seed, plan.plant);
-    println!("bare slots (the model's, against the original)\n{tally}");
+/// Our slots, linked; by the model too, which goes on where the original is not compared.
+#[cfg(feature = "linked")]
+fn bare_linked(plan: &Plan) -> usize {
+    use oracle::linked_slots::rows;
+    let (equal, differs) = phases::bare_by_model(plan.bare, plan.seed, &mut |c| rows(c));
+    println!("bare slots (ours, linked, against the model)\n{equal} calls equal");
+    if let Some((calls, i)) = &differs {
+        println!("DIFFERENCE at call {i} of {calls:?}");
+    }
+    differs.into_iter().count() + bare_against_original("ours, linked", plan, &mut |c| rows(c))
+}
+
+#[cfg(not(feature = "linked"))]
+fn bare_linked(_: &Plan) -> usize {
+    0
+}
+
+fn bare_against_original(whose: &str, plan: &Plan, player: Player) -> usize {
+    let (tally, differs) = phases::bare_runs(plan.bare, plan.seed, player);
+    println!("bare slots ({whose}, against the original)\n{tally}");
     if let Some((calls, end)) = &differs {
         println!("DIFFERENCE: {calls:?}\n  {end:?}");
     }
     differs.into_iter().count()
+}
+
+fn bare(plan: &Plan) -> usize {
+    match plan.linked {
+        true => bare_linked(plan),
+        false => bare_against_original("the model's", plan, &mut |c| model_rows(c, plan.plant)),
+    }
 }
 
 fn lists(plan: &Plan) -> usize {
