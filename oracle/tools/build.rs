@@ -1,4 +1,4 @@
-//! With the feature `linked`: finds libbare.a, which host/archive writes beside libmboxalind.a.
+//! With the feature `linked`: finds libbare.a, which `host/archive --bare` writes beside libmboxalind.a.
 
 use std::env;
 use std::path::PathBuf;
@@ -19,7 +19,7 @@ fn main() {
     println!("cargo::rerun-if-changed={}", bare.display());
     if !bare.is_file() {
         let path = bare.display();
-        println!("cargo::error={path} is missing; host/archive writes it");
+        println!("cargo::error={path} is missing; host/archive --bare writes it");
         return;
     }
     let folder = bare.parent().expect("a file is in a folder");

@@ -6,6 +6,7 @@ pub mod beside;
 pub mod comparison;
 pub mod damage;
 pub mod every;
+pub mod figures;
 pub mod judge;
 pub mod known;
 #[cfg(feature = "linked")]
