@@ -141,6 +141,8 @@ The original is driven by `oracle/rune/src/v1/lean.rs`: its own `Scopes`, `Addre
 the same text and a plain writer of the same list. Buffers (its frames and list, our lent list of 32,768 bytes, cells and output) are
 made and written once before and used again; scopes and handles are made anew for each script on both sides. The original's
 collections are the standard library's, with a cheap hash for names.
+
+To print it again: `host/archive --bare`, then `bin/figures`, then `bin/figures gate LOG`, where LOG is what `.ci/run` printed.
 ";
 
 fn main() {

@@ -9,7 +9,7 @@ pub const KINDS: [Kind; 6] = [
     ("alloc and free, in turn", pairs),
     ("alloc, write, read, free", mix),
     ("scopes 8 deep with names", names),
-    ("look-ups from 63 scopes, 248 names", climbs),
+    ("look-ups through up to 63 scopes", climbs),
     ("a run and its freeing", runs),
     ("a run of 16, its freeing, a drain", drains),
 ];
