@@ -134,8 +134,8 @@ fn run() {
 const HEAD: &str = "\
 # Figures
 
-Printed by `bin/figures`. Ours are the proved functions, linked into the same program as the original; each number is the best of up to 25
-rounds (of 5 at least), in each of which every side has its turn. Before a figure is taken, both sides' results are compared: sums, list bytes, cells.
+Printed by `bin/figures`. Ours are the proved functions, linked into the same program as the original; each number is processor time, the best of up
+to 25 rounds (of 5 at least) in each of which every side has its turn. Before a figure is taken, both sides' results are compared: sums, list bytes, cells.
 
 The original is driven by `oracle/rune/src/v1/lean.rs`: its own `Scopes`, `Address` and `Linear` and nothing beside them, with a plain reader of
 the same text and a plain writer of the same list. Buffers (its frames and list, our lent list of 32,768 bytes, cells and output) are
