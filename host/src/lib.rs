@@ -123,6 +123,15 @@ mod tests {
     }
 
     #[test]
+    fn each_number_has_its_words() {
+        let known: Vec<u8> = (1..=20).chain([29]).collect();
+        for number in 0..=255 {
+            let told = words(number) != "a number that document 01 doesn't have";
+            assert_eq!(told, known.contains(&number));
+        }
+    }
+
+    #[test]
     fn a_refusal_speaks() {
         let answer = Answer::new((7 << 32) + 3);
         let said = answer.written().map_err(|r| r.to_string());

@@ -3,3 +3,4 @@ pub mod Bits
 pub mod Occupied
 pub mod Steps
 pub mod Unique
+pub mod Zeros

@@ -15,7 +15,7 @@ mod runtime;
 mod shared;
 mod v1;
 
-pub use v1::{drive, probe, Bare, Driven, Held, Shared, Stop};
+pub use v1::{drive, probe, Bare, Driven, Held, Lean, Shared, Stop};
 
 /// Stand-in: one source.
 #[derive(Clone, Copy, Debug)]

@@ -1,4 +1,4 @@
-//! The original's `Slots` by itself against the model's: every answer, L and H after each call.
+//! The original's `Slots` by itself against ours or the model's: every answer, L and H after each call.
 
 use crate::rng::Rng;
 use model::{Plant, Slots, SEGMENT, SLOTS};
@@ -48,47 +48,91 @@ impl fmt::Display for BareTally {
     }
 }
 
-fn answer(call: Call, ours: &mut Slots, theirs: &mut Bare) -> Option<(usize, usize)> {
-    Some(match call {
-        Call::Insert => (ours.insert()?, theirs.insert()),
-        Call::Push => (ours.push()?, theirs.push()),
-        Call::Remove(a) => (ours.remove(a).into(), theirs.remove(a).into()),
+/// What a call answered, and L and H after it.
+#[derive(Clone, Copy, Debug, PartialEq, Eq)]
+pub struct Row {
+    /// the address; yes 1, no 0; or a refusal: 65,536 and its number
+    pub answer: usize,
+    pub length: usize,
+    pub head: usize,
+}
+
+const REFUSED: usize = 65536;
+
+/// Plays a run from fresh slots: a row a call.
+pub type Player<'a> = &'a mut dyn FnMut(&[Call]) -> Vec<Row>;
+
+/// The model's rows, perhaps with a fault.
+pub fn model_rows(calls: &[Call], plant: Plant) -> Vec<Row> {
+    let mut slots = Slots::new(plant);
+    let row = |call: &Call| {
+        let answer = match call {
+            Call::Insert => slots.insert().unwrap_or(REFUSED + 7),
+            Call::Push => slots.push().unwrap_or(REFUSED + 7),
+            Call::Remove(a) => slots.remove(*a).into(),
+        };
+        Row {
+            answer,
+            length: slots.length(),
+            head: slots.head(),
+        }
+    };
+    calls.iter().map(row).collect()
+}
+
+/// The original's row, unless the call ends the run: no limit refuses it there.
+fn original_row(call: Call, ours: Row, theirs: &mut Bare) -> Result<Row, End> {
+    if call == Call::Insert && theirs.head() > theirs.length() {
+        return Err(End::HeadAboveLength);
+    }
+    if ours.answer == REFUSED + 7 {
+        return Err(End::Refused);
+    }
+    let answer = match call {
+        Call::Insert => theirs.insert(),
+        Call::Push => theirs.push(),
+        Call::Remove(a) => theirs.remove(a).into(),
+    };
+    Ok(Row {
+        answer,
+        length: theirs.length(),
+        head: theirs.head(),
     })
 }
 
-fn compared(call: Call, ours: &mut Slots, theirs: &mut Bare) -> Result<(), End> {
-    if call == Call::Insert && ours.head() > ours.length() {
-        return Err(End::HeadAboveLength);
-    }
-    let clear = matches!(call, Call::Remove(a) if a / SEGMENT < ours.length() && !ours.occupied(a));
-    let (a, b) = answer(call, ours, theirs).ok_or(End::Refused)?;
-    let (state, other) = (
-        (a, ours.length(), ours.head()),
-        (b, theirs.length(), theirs.head()),
-    );
-    match state == other {
+fn compared(call: Call, ours: Row, theirs: &mut Bare) -> Result<(), End> {
+    let clear =
+        matches!(call, Call::Remove(a) if a / SEGMENT < theirs.length() && !theirs.occupied(a));
+    let row = original_row(call, ours, theirs)?;
+    let but_head = Row {
+        head: ours.head,
+        ..row
+    };
+    match row == ours {
         true => Ok(()),
-        false if clear && a == b && ours.length() == theirs.length() => Err(End::ClearRemoved),
+        false if clear && but_head == ours => Err(End::ClearRemoved),
         false => Err(End::Differs(
             0,
-            format!("answer, L, H: ours {state:?}, the original {other:?}"),
+            format!("ours {ours:?}, the original {row:?}"),
         )),
     }
 }
 
-/// How the calls end, and how many went equally before.
-pub fn play(calls: &[Call], plant: Plant) -> (End, usize) {
-    let mut ours = Slots::new(plant);
+/// How the calls end, and how many went equally before. At the end every slot is removed: yes says that it was occupied.
+pub fn play(calls: &[Call], ours: Player) -> (End, usize) {
+    let mut whole = calls.to_vec();
+    whole.extend((0..SLOTS).map(Call::Remove));
+    let rows = ours(&whole);
     let mut theirs = Bare::default();
     for (i, call) in calls.iter().enumerate() {
-        match compared(*call, &mut ours, &mut theirs) {
+        match compared(*call, rows[i], &mut theirs) {
             Ok(()) => {}
             Err(End::Differs(_, why)) => return (End::Differs(i, why), i),
             Err(end) => return (end, i),
         }
     }
-    let differs = (0..SLOTS).find(|a| ours.occupied(*a) != theirs.occupied(*a));
-    match differs {
+    let held = |a: &usize| rows[calls.len() + a].answer == 1;
+    match (0..SLOTS).find(|a| held(a) != theirs.occupied(*a)) {
         None => (End::Equal, calls.len()),
         Some(a) => {
             let why = format!("slot {a} is occupied on one side only");

@@ -6,8 +6,13 @@ pub mod beside;
 pub mod comparison;
 pub mod damage;
 pub mod every;
+pub mod figures;
 pub mod judge;
 pub mod known;
+#[cfg(feature = "linked")]
+pub mod linked;
+#[cfg(feature = "linked")]
+pub mod linked_slots;
 pub mod lists;
 pub mod ours;
 pub mod phases;

@@ -4,7 +4,7 @@ use model::Plant;
 use std::io::Write;
 use std::process::{Child, Command, Stdio};
 
-/// The linked archive's translate becomes a third of these.
+/// The model, a program, or the linked functions (`linked`).
 pub trait Ours {
     /// What is printed for each script, in order.
     fn answers(&mut self, scripts: &[Vec<u8>]) -> Vec<Vec<u8>>;

@@ -1,11 +1,11 @@
 //! The phases of a comparison.
 
-use crate::bare::{self, BareTally, Call, End};
+use crate::bare::{self, BareTally, Call, End, Player};
 use crate::comparison::Comparison;
 use crate::ours::Ours;
 use crate::rng::Rng;
 use crate::{damage, every, lists, random};
-use model::{Frame, Plant};
+use model::Frame;
 use std::collections::BTreeMap;
 
 /// Every script of up to `longest` frames over the alphabet.
@@ -57,12 +57,12 @@ pub fn damaged_texts(comparison: &mut Comparison, count: u64, seed: u64) {
 }
 
 /// The original's `Slots` by itself. A difference is cut down to its shortest end.
-pub fn bare_runs(count: u64, seed: u64, plant: Plant) -> (BareTally, Option<(Vec<Call>, End)>) {
+pub fn bare_runs(count: u64, seed: u64, ours: Player) -> (BareTally, Option<(Vec<Call>, End)>) {
     let mut rng = Rng::new(seed);
     let mut tally = BareTally::default();
     for _ in 0..count {
         let calls = bare::calls(&mut rng);
-        let (end, equal) = bare::play(&calls, plant);
+        let (end, equal) = bare::play(&calls, ours);
         tally.runs += 1;
         tally.calls += equal as u64;
         match end {
@@ -70,29 +70,43 @@ pub fn bare_runs(count: u64, seed: u64, plant: Plant) -> (BareTally, Option<(Vec
             End::Refused => tally.refused += 1,
             End::HeadAboveLength => tally.head_above_length += 1,
             End::ClearRemoved => tally.clear_removed += 1,
-            End::Differs(..) => return (tally, Some(smallest(calls, plant))),
+            End::Differs(..) => return (tally, Some(smallest(calls, ours))),
         }
     }
     (tally, None)
 }
 
-fn smallest(mut calls: Vec<Call>, plant: Plant) -> (Vec<Call>, End) {
-    let differs = |calls: &[Call]| matches!(bare::play(calls, plant).0, End::Differs(..));
+fn smallest(mut calls: Vec<Call>, ours: Player) -> (Vec<Call>, End) {
     let mut size = calls.len();
     while size > 0 {
         let mut at = 0;
         while at < calls.len() {
             let mut fewer = calls.clone();
             fewer.drain(at..(at + size).min(calls.len()));
-            match differs(&fewer) {
-                true => calls = fewer,
-                false => at += size,
+            match bare::play(&fewer, ours).0 {
+                End::Differs(..) => calls = fewer,
+                _ => at += size,
             }
         }
         size /= 2;
     }
-    let end = bare::play(&calls, plant).0;
+    let end = bare::play(&calls, ours).0;
     (calls, end)
+}
+
+/// The same runs by the model, whole: past a refusal, where H > L, and with clear slots removed. The first that differs, at which call.
+pub fn bare_by_model(count: u64, seed: u64, ours: Player) -> (u64, Option<(Vec<Call>, usize)>) {
+    let mut rng = Rng::new(seed);
+    let mut equal = 0;
+    for _ in 0..count {
+        let calls = bare::calls(&mut rng);
+        let (rows, model) = (ours(&calls), bare::model_rows(&calls, None));
+        match (0..calls.len()).find(|i| rows[*i] != model[*i]) {
+            Some(i) => return (equal, Some((calls, i))),
+            None => equal += calls.len() as u64,
+        }
+    }
+    (equal, None)
 }
 
 /// Lists to a run program, by the model. The first list that it takes otherwise.

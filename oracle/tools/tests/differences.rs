@@ -1,6 +1,8 @@
-//! Each entry of docs/DIFFERENCES.md: its smallest script, what 01 says and what the original does.
+//! Each entry of docs/DIFFERENCES.md: its smallest script, what 01 says, what the original does; and, with the feature `linked`,
+//! what the proved functions do.
 
-use model::{Frame, Refusal, Slots};
+use model::{Frame, Refusal};
+use oracle::bare::{model_rows, Call, Row};
 use rune::{drive, Bare, Driven, Stop};
 
 fn frames(script: &str) -> Vec<Frame> {
@@ -12,11 +14,31 @@ fn list(lines: &str) -> Vec<u8> {
     (lines.replace(" / ", "\n") + "\n").into_bytes()
 }
 
+/// What 01 has printed for the script; ours is the same.
+#[track_caller]
+fn printed(frames: &[Frame]) -> Vec<u8> {
+    let script = Frame::script(frames);
+    let printed = model::translator(&script);
+    #[cfg(feature = "linked")]
+    {
+        use oracle::{linked::Translate, ours::Ours};
+        assert_eq!(Translate::default().answers(&[script])[0], printed);
+    }
+    printed
+}
+
 /// 01's list of the script.
 #[track_caller]
 fn ours(script: &str, lines: &str) {
-    let printed = model::translator(&Frame::script(&frames(script)));
-    assert_eq!(printed, list(lines));
+    assert_eq!(printed(&frames(script)), list(lines));
+}
+
+/// What 01 has a run of calls on bare slots show; ours is the same.
+fn rows(calls: &[Call]) -> Vec<Row> {
+    let rows = model_rows(calls, None);
+    #[cfg(feature = "linked")]
+    assert_eq!(oracle::linked_slots::rows(calls), rows);
+    rows
 }
 
 /// 01 refuses the last frame.
@@ -24,8 +46,8 @@ fn ours(script: &str, lines: &str) {
 fn refused(script: &str, number: u8) -> Driven {
     let frames = frames(script);
     let line = frames.len() - 1;
-    let refusal = model::play(&frames, None).1.err();
-    assert_eq!(refusal, Some(Refusal { number, line }));
+    let refusal = model::print_refusal(Refusal { number, line });
+    assert_eq!(printed(&frames), refusal);
     drive(&frames)
 }
 
@@ -107,6 +129,8 @@ fn d6_live_children() {
 
 #[test]
 fn d7_slots_that_are_not_held() {
+    refused("06 / 05 / 10000000ff", 14);
+    refused("06 / 110000", 15);
     taken("01 / 06 / 020001 / 06 / 0c0000", 14, "0c");
     refused_in_words(
         "01 / 06 / 020001 / 0c0000",
@@ -134,13 +158,15 @@ fn d8_room() {
 
 #[test]
 fn d9_removal_of_a_clear_slot() {
-    let (mut ours, mut theirs) = (Slots::new(None), Bare::default());
+    let mut calls = vec![Call::Push; 129];
+    calls.push(Call::Remove(129));
+    let ours = rows(&calls)[129];
+    let mut theirs = Bare::default();
     for _ in 0..129 {
-        ours.push();
         theirs.push();
     }
-    assert_eq!((ours.remove(129), theirs.remove(129)), (false, false));
-    assert_eq!((ours.head(), theirs.head()), (0, 1));
+    assert_eq!((ours.answer, theirs.remove(129)), (0, false));
+    assert_eq!((ours.head, theirs.head()), (0, 1));
 }
 
 #[test]

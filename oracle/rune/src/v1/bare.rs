@@ -34,4 +34,20 @@ impl Bare {
     pub fn occupied(&self, key: usize) -> bool {
         self.0.segment(key / 128) >> (key % 128) & 1 == 1
     }
+
+    /// The sum of the addresses that n pairs give over a half-full frame: slot a is removed and one inserted, then slot
+    /// (a + stride) mod 512, and so on from slot 0. It stands here so that the compiler may inline the calls.
+    pub fn pairs(n: usize, stride: u16) -> u64 {
+        let mut slots = Bare::default();
+        for _ in 0..512 {
+            slots.insert();
+        }
+        let (mut a, mut sum) = (0, 0u64);
+        for _ in 0..n {
+            slots.remove(a);
+            sum = sum.wrapping_add(slots.insert() as u64);
+            a = (a + usize::from(stride)) % 512;
+        }
+        sum
+    }
 }

@@ -43,9 +43,64 @@ pub(super) struct Books {
     pub(super) shared: Option<Shared>,
 }
 
+/// Who is told of each call beside the original.
+pub(super) trait Beside {
+    /// An insert was made: what the second `Slots` gave.
+    fn insert(&mut self, line: usize) -> Option<usize>;
+
+    /// n pushes were made.
+    fn push(&mut self, first: usize, n: usize);
+
+    fn gain(&mut self, line: usize, scope: ScopeId, address: usize, handle: usize);
+
+    /// The slot of this handle went back.
+    fn give_back(&mut self, line: usize, handle: usize);
+
+    /// The scope was popped.
+    fn close(&mut self, line: usize, scope: ScopeId);
+
+    /// The number of a scope, of which so many were opened before.
+    fn number(&self, id: ScopeId, before: usize) -> usize;
+}
+
+/// Nobody is told: the original by itself, for measurements.
+pub(super) struct Nobody;
+
+impl Beside for Nobody {
+    fn insert(&mut self, _: usize) -> Option<usize> {
+        None
+    }
+
+    fn push(&mut self, _: usize, _: usize) {}
+
+    fn gain(&mut self, _: usize, _: ScopeId, _: usize, _: usize) {}
+
+    fn give_back(&mut self, _: usize, _: usize) {}
+
+    fn close(&mut self, _: usize, _: ScopeId) {}
+
+    fn number(&self, _: ScopeId, before: usize) -> usize {
+        before
+    }
+}
+
 impl Books {
-    /// An insert is about to be made.
-    pub(super) fn insert(&mut self, line: usize) -> Option<usize> {
+    fn removed(&mut self, line: usize, gone: &[Owned]) {
+        for Owned {
+            address, handle, ..
+        } in gone
+        {
+            self.holders[*address] = None;
+            self.held[*handle].until = Some(line);
+            if self.head_above_length.is_none() {
+                assert!(self.beside.remove(*address), "the books are wrong");
+            }
+        }
+    }
+}
+
+impl Beside for Books {
+    fn insert(&mut self, line: usize) -> Option<usize> {
         if self.beside.head() > self.beside.length() {
             self.head_above_length.get_or_insert(line);
         }
@@ -55,8 +110,7 @@ impl Books {
         }
     }
 
-    /// n pushes were made.
-    pub(super) fn push(&mut self, first: usize, n: usize) {
+    fn push(&mut self, first: usize, n: usize) {
         for address in first..first + n {
             if self.head_above_length.is_none() {
                 assert_eq!(self.beside.push(), address, "the books are wrong");
@@ -64,7 +118,7 @@ impl Books {
         }
     }
 
-    pub(super) fn gain(&mut self, line: usize, scope: ScopeId, address: usize, handle: usize) {
+    fn gain(&mut self, line: usize, scope: ScopeId, address: usize, handle: usize) {
         if self.holders.len() <= address {
             self.holders.resize(address + 1, None);
         }
@@ -89,34 +143,26 @@ impl Books {
         });
     }
 
-    fn removed(&mut self, line: usize, gone: &[Owned]) {
-        for Owned {
-            address, handle, ..
-        } in gone
-        {
-            self.holders[*address] = None;
-            self.held[*handle].until = Some(line);
-            if self.head_above_length.is_none() {
-                assert!(self.beside.remove(*address), "the books are wrong");
-            }
-        }
-    }
-
-    /// The slot of this handle went back.
-    pub(super) fn give_back(&mut self, line: usize, handle: usize) {
+    fn give_back(&mut self, line: usize, handle: usize) {
         if let Some(place) = self.owned.iter().position(|o| o.handle == handle) {
             let gone = self.owned.remove(place);
             self.removed(line, &[gone]);
         }
     }
 
-    /// The scope was popped.
-    pub(super) fn close(&mut self, line: usize, scope: ScopeId) {
+    fn close(&mut self, line: usize, scope: ScopeId) {
         let (gone, kept) = std::mem::take(&mut self.owned)
             .into_iter()
             .partition(|o| o.scope == scope);
         self.owned = kept;
         let gone: Vec<Owned> = gone;
         self.removed(line, &gone);
+    }
+
+    /// An id shows itself as `index:number`.
+    fn number(&self, id: ScopeId, _: usize) -> usize {
+        let shown = id.to_string();
+        let number = shown.split(':').nth(1).and_then(|n| n.parse().ok());
+        number.expect("the number of an id")
     }
 }

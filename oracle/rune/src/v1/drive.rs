@@ -2,7 +2,7 @@
 
 use model::Frame;
 
-use super::books::{Books, Held, Shared};
+use super::books::{Beside, Books, Held, Shared};
 use super::{Address, Any, DanglingScope, ScopeHandle, ScopeId, Scopes};
 use crate::alloc::Vec as List;
 use crate::ast::Span;
@@ -45,16 +45,16 @@ struct Handle<'a> {
     address: Option<Address<'a, 'static>>,
 }
 
-struct Driver<'a> {
+pub(super) struct Driver<'a, B> {
     scopes: &'a Scopes<'static>,
     query: Query<'static, 'static>,
     /// by number
     ids: Vec<ScopeId>,
     handles: Vec<Handle<'a>>,
-    books: Books,
+    books: B,
     root_closed: bool,
     root_freed_late: Option<usize>,
-    line: usize,
+    pub(super) line: usize,
 }
 
 static SPAN: Span = Span;
@@ -65,23 +65,31 @@ impl From<compile::Error> for Stop {
     }
 }
 
-type Step = Result<Vec<usize>, Stop>;
+/// The numbers of a line.
+pub(super) enum Shown {
+    Nothing,
+    One(usize),
+    Two(usize, usize),
+    Drained(List<InstAddress>),
+}
 
-impl<'a> Driver<'a> {
-    fn new(scopes: &'a Scopes<'static>) -> Self {
+type Step = Result<Shown, Stop>;
+
+impl<'a, B: Beside> Driver<'a, B> {
+    pub(super) fn new(scopes: &'a Scopes<'static>, books: B) -> Self {
         Driver {
             scopes,
             query: Query::default(),
             ids: vec![scopes.top_id()],
             handles: Vec::new(),
-            books: Books::default(),
+            books,
             root_closed: false,
             root_freed_late: None,
             line: 0,
         }
     }
 
-    fn step(&mut self, frame: Frame) -> Step {
+    pub(super) fn step(&mut self, frame: Frame) -> Step {
         match frame {
             Frame::Child => self.child(),
             Frame::Pop(s) => self.pop(s),
@@ -94,21 +102,21 @@ impl<'a> Driver<'a> {
             Frame::Define { name, handle } => self.define(name, handle),
             Frame::Get(name) | Frame::ReadName(name) => {
                 let var = self.scopes.get(&mut self.query, &SPAN, Variable(name))?;
-                Ok(vec![var.addr.offset()])
+                Ok(Shown::One(var.addr.offset()))
             }
             Frame::Take(name) => {
                 let var = self.scopes.take(&mut self.query, &SPAN, Variable(name))?;
-                Ok(vec![var.addr.offset()])
+                Ok(Shown::One(var.addr.offset()))
             }
             Frame::Free(h) => self.free(h, true),
             Frame::FreeQuietly(h) => self.free(h, false),
             Frame::Forget(h) => {
                 self.spend(h)?.1.forget()?;
-                Ok(vec![])
+                Ok(Shown::Nothing)
             }
             Frame::Drain => self.drain(),
             Frame::Write { handle, value } => self.write(handle, value),
-            Frame::Read(h) => Ok(vec![self.handle(h)?.slot]),
+            Frame::Read(h) => Ok(Shown::One(self.handle(h)?.slot)),
         }
     }
 
@@ -131,39 +139,37 @@ impl<'a> Driver<'a> {
         }
     }
 
-    /// An id shows itself as `index:number`.
     fn child(&mut self) -> Step {
         let ScopeHandle { id } = self.scopes.child(&SPAN)?;
+        let number = self.books.number(id, self.ids.len());
         self.ids.push(id);
-        let shown = id.to_string();
-        let number = shown.split(':').nth(1).and_then(|n| n.parse().ok());
-        Ok(vec![number.expect("the number of an id")])
+        Ok(Shown::One(number))
     }
 
     fn pop(&mut self, number: u16) -> Step {
         let id = self.id(number)?;
         self.scopes.pop(&SPAN, ScopeHandle { id })?;
         self.books.close(self.line, id);
-        Ok(vec![])
+        Ok(Shown::Nothing)
     }
 
     fn pop_last(&mut self) -> Step {
         self.scopes.pop_last(&SPAN)?;
         self.books.close(self.line, self.ids[0]);
         self.root_closed = true;
-        Ok(vec![])
+        Ok(Shown::Nothing)
     }
 
     fn dangle(&mut self, number: u16) -> Step {
         let id = self.id(number)?;
         let _handle = self.scopes.dangle(&SPAN, ScopeHandle { id })?;
-        Ok(vec![])
+        Ok(Shown::Nothing)
     }
 
     fn restore(&mut self, number: u16) -> Step {
         let id = self.id(number)?;
         let _handle = self.scopes.restore(DanglingScope { id });
-        Ok(vec![])
+        Ok(Shown::Nothing)
     }
 
     fn hand_out(&mut self, owner: ScopeId, scope: Option<ScopeId>, address: Address<'a, 'static>) {
@@ -190,7 +196,7 @@ impl<'a> Driver<'a> {
         let slot = address.addr().offset();
         self.inserted(slot);
         self.hand_out(owner, None, address);
-        Ok(vec![slot])
+        Ok(Shown::One(slot))
     }
 
     /// The original reaches `alloc_in` through a deferred need.
@@ -202,7 +208,7 @@ impl<'a> Driver<'a> {
         let slot = address.addr().offset();
         self.inserted(slot);
         self.hand_out(id, Some(id), address);
-        Ok(vec![slot])
+        Ok(Shown::One(slot))
     }
 
     fn linear(&mut self, n: usize) -> Step {
@@ -210,14 +216,14 @@ impl<'a> Driver<'a> {
         let run = self.scopes.linear(&SPAN, n)?;
         let first = run.addr().offset();
         match n {
-            0 => return Ok(vec![0xffff]),
+            0 => return Ok(Shown::One(0xffff)),
             1 => self.inserted(first),
             _ => self.books.push(first, n),
         }
         for address in run {
             self.hand_out(owner, None, address);
         }
-        Ok(vec![first])
+        Ok(Shown::One(first))
     }
 
     /// Where there is no address to hand over, another one asks whether there is a top at all.
@@ -226,7 +232,7 @@ impl<'a> Driver<'a> {
         let found = self.handle(handle).map(|h| h.address.as_ref());
         if let Ok(Some(address)) = found {
             scopes.define(&SPAN, Variable(name), address)?;
-            return Ok(vec![]);
+            return Ok(Shown::Nothing);
         }
         let other = Address::assigned(&SPAN, scopes, InstAddress::new(0));
         scopes.define(&SPAN, Variable(name), &other)?;
@@ -246,7 +252,7 @@ impl<'a> Driver<'a> {
         if goes_back {
             self.books.give_back(self.line, handle.into());
         }
-        Ok(vec![])
+        Ok(Shown::Nothing)
     }
 
     fn drain(&mut self) -> Step {
@@ -254,9 +260,7 @@ impl<'a> Driver<'a> {
         self.scopes
             .drain_dangling_into(&mut drained)
             .map_err(compile::Error::from)?;
-        let mut shown = vec![drained.len()];
-        shown.extend(drained.iter().map(|a| a.offset()));
-        Ok(shown)
+        Ok(Shown::Drained(drained))
     }
 
     fn write(&mut self, handle: u16, value: u16) -> Step {
@@ -264,14 +268,33 @@ impl<'a> Driver<'a> {
         if let Some(address) = &mut found.address {
             address.alloc_addr()?;
         }
-        Ok(vec![found.slot, value.into()])
+        Ok(Shown::Two(found.slot, value.into()))
     }
 }
 
-fn write_line(opcode: u8, shown: &[usize], list: &mut Vec<u8>) {
-    list.extend_from_slice(format!("{opcode:02x}").as_bytes());
-    for number in shown {
-        list.extend_from_slice(format!("{number:04x}").as_bytes());
+const DIGITS: &[u8; 16] = b"0123456789abcdef";
+
+fn write_number(number: usize, list: &mut Vec<u8>) {
+    let digit = |place: usize| DIGITS[number >> place & 15];
+    list.extend_from_slice(&[digit(12), digit(8), digit(4), digit(0)]);
+}
+
+pub(super) fn write_line(opcode: u8, shown: &Shown, list: &mut Vec<u8>) {
+    let digit = |n: u8| DIGITS[usize::from(n)];
+    list.extend_from_slice(&[digit(opcode >> 4), digit(opcode & 15)]);
+    match shown {
+        Shown::Nothing => {}
+        Shown::One(a) => write_number(*a, list),
+        Shown::Two(a, b) => {
+            write_number(*a, list);
+            write_number(*b, list);
+        }
+        Shown::Drained(addresses) => {
+            write_number(addresses.len(), list);
+            addresses
+                .iter()
+                .for_each(|a| write_number(a.offset(), list));
+        }
     }
     list.push(b'\n');
 }
@@ -279,7 +302,7 @@ fn write_line(opcode: u8, shown: &[usize], list: &mut Vec<u8>) {
 /// Drives the original through all frames, or up to the first that it doesn't take.
 pub fn drive(frames: &[Frame]) -> Driven {
     let scopes = Scopes::new(SourceId).expect("growth never fails here");
-    let mut driver = Driver::new(&scopes);
+    let mut driver = Driver::new(&scopes, Books::default());
     let mut list = Vec::new();
     let mut stop = None;
     for (line, frame) in frames.iter().enumerate() {
@@ -293,7 +316,7 @@ pub fn drive(frames: &[Frame]) -> Driven {
         }
     }
     if stop.is_none() {
-        write_line(0x90, &[scopes.size()], &mut list);
+        write_line(0x90, &Shown::One(scopes.size()), &mut list);
     }
     Driven {
         list,

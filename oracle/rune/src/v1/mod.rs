@@ -7,12 +7,14 @@ mod books;
 mod ctxt;
 mod display_named;
 mod drive;
+mod lean;
 pub mod probe;
 mod slab;
 
 pub use self::bare::Bare;
 pub use self::books::{Held, Shared};
 pub use self::drive::{drive, Driven, Stop};
+pub use self::lean::Lean;
 
 use self::ctxt::Ctxt;
 use self::display_named::DisplayNamed;

@@ -2,6 +2,7 @@
 
 use model::{Fault, Frame, Plant};
 use oracle::args::Args;
+use oracle::bare::{model_rows, Player};
 use oracle::comparison::{Comparison, Found};
 use oracle::judge::{Against, ORIGINAL_FAULTS};
 use oracle::known::known;
@@ -15,6 +16,7 @@ struct Plan {
     against: Against,
     program: Option<String>,
     runner: Option<String>,
+    linked: bool,
     every: usize,
     wide: usize,
     random: u64,
@@ -48,6 +50,7 @@ fn plan(args: &Args) -> Plan {
         },
         program,
         runner: args.value("--runner").map(String::from),
+        linked: args.flag("--linked"),
         every: args.number("--every", every) as usize,
         wide: args.number("--wide", every - 1) as usize,
         random: args.number("--random", random),
@@ -91,11 +94,42 @@ fn every_script(comparison: &mut Comparison, name: &str, alphabet: &[Frame], lon
     comparison.tally = Default::default();
 }
 
-fn scripts(plan: &Plan) -> usize {
-    let ours: Box<dyn Ours> = match &plan.program {
+/// The two linked functions.
+#[cfg(feature = "linked")]
+fn linked() -> [Box<dyn Ours>; 2] {
+    use oracle::linked::{Run, Translate};
+    [Box::new(Translate::default()), Box::new(Run)]
+}
+
+#[cfg(not(feature = "linked"))]
+fn linked() -> [Box<dyn Ours>; 2] {
+    panic!("--linked needs the archive: cargo run --release --features linked")
+}
+
+fn translator(plan: &Plan) -> Box<dyn Ours> {
+    match &plan.program {
+        _ if plan.linked => {
+            let [translate, _] = linked();
+            translate
+        }
         Some(command) => Box::new(Program::new(command)),
         None => Box::new(Model(plan.plant)),
-    };
+    }
+}
+
+fn runner(plan: &Plan) -> Option<Box<dyn Ours>> {
+    match &plan.runner {
+        _ if plan.linked => {
+            let [_, run] = linked();
+            Some(run)
+        }
+        Some(command) => Some(Box::new(Program::new(command))),
+        None => None,
+    }
+}
+
+fn scripts(plan: &Plan) -> usize {
+    let ours = translator(plan);
     println!("ours: {}; seed {}", ours.name(), plan.seed);
     let mut comparison = Comparison::new(ours, plan.against);
     every_script(&mut comparison, "small", &every::alphabet(), plan.every);
@@ -106,7 +140,7 @@ fn scripts(plan: &Plan) -> usize {
     println!("by chance, {} s, {profiles:?}", begun.elapsed().as_secs());
     println!("{}", comparison.tally);
 
-    if plan.program.is_some() || plan.plant.is_some() {
+    if plan.linked || plan.program.is_some() || plan.plant.is_some() {
         comparison.tally = Default::default();
         phases::damaged_texts(&mut comparison, plan.damaged, plan.seed);
         println!("damaged texts, by the model only");
@@ -115,21 +149,44 @@ fn scripts(plan: &Plan) -> usize {
     report(&comparison.found)
 }
 
-fn bare(plan: &Plan) -> usize {
-    let (tally, differs) = phases::bare_runs(plan.bare, plan.seed, plan.plant);
-    println!("bare slots (the model's, against the original)\n{tally}");
+/// Our slots, linked; by the model too, which goes on where the original is not compared.
+#[cfg(feature = "linked")]
+fn bare_linked(plan: &Plan) -> usize {
+    use oracle::linked_slots::rows;
+    let (equal, differs) = phases::bare_by_model(plan.bare, plan.seed, &mut |c| rows(c));
+    println!("bare slots (ours, linked, against the model)\n{equal} calls equal");
+    if let Some((calls, i)) = &differs {
+        println!("DIFFERENCE at call {i} of {calls:?}");
+    }
+    differs.into_iter().count() + bare_against_original("ours, linked", plan, &mut |c| rows(c))
+}
+
+#[cfg(not(feature = "linked"))]
+fn bare_linked(_: &Plan) -> usize {
+    0
+}
+
+fn bare_against_original(whose: &str, plan: &Plan, player: Player) -> usize {
+    let (tally, differs) = phases::bare_runs(plan.bare, plan.seed, player);
+    println!("bare slots ({whose}, against the original)\n{tally}");
     if let Some((calls, end)) = &differs {
         println!("DIFFERENCE: {calls:?}\n  {end:?}");
     }
     differs.into_iter().count()
 }
 
+fn bare(plan: &Plan) -> usize {
+    match plan.linked {
+        true => bare_linked(plan),
+        false => bare_against_original("the model's", plan, &mut |c| model_rows(c, plan.plant)),
+    }
+}
+
 fn lists(plan: &Plan) -> usize {
-    let Some(command) = &plan.runner else {
+    let Some(mut runner) = runner(plan) else {
         return 0;
     };
-    let mut runner = Program::new(command);
-    let differs = phases::lists_run(&mut runner, plan.lists, plan.seed);
+    let differs = phases::lists_run(runner.as_mut(), plan.lists, plan.seed);
     println!("{} lists to {}", plan.lists, runner.name());
     if let Some(list) = &differs {
         let printed = runner.answers(std::slice::from_ref(list)).remove(0);

@@ -1,6 +1,7 @@
 //! Plants each fault in turn, in the model or in the original's answers, and says who finds it. Fails if one isn't found.
 
 use model::{Fault, FAULTS};
+use oracle::bare;
 use oracle::comparison::Comparison;
 use oracle::every::alphabet;
 use oracle::judge::{Against, ORIGINAL_FAULTS};
@@ -48,7 +49,7 @@ fn model_fault(name: &str, fault: Fault) -> bool {
     let said = |s: &Option<String>| s.clone().unwrap_or("nothing".into());
     println!("{name}\n  original: {}", said(&by_original));
     println!("  model: {}", said(&by_model));
-    let bare = phases::bare_runs(300, SEED, Some(fault)).1;
+    let bare = phases::bare_runs(300, SEED, &mut |c| bare::model_rows(c, Some(fault))).1;
     let calls = bare.as_ref().map(|(calls, _)| calls.len());
     println!(
         "  bare slots: {}",

@@ -1,0 +1,158 @@
+//! Prints docs/FIGURES.md's tables: ours, linked, beside the original in the same run. See oracle/README.md.
+
+use mboxalind::Answer;
+use model::Frame;
+use oracle::args::Args;
+use oracle::figures::work::{self, KINDS, LENGTHS};
+use oracle::figures::{clock, plain::Machine, setting};
+use oracle::linked_slots::{pairs_by_value, pairs_lent};
+use rune::{Bare, Lean};
+use std::hint::black_box;
+
+const PAIRS: usize = 1_000_000;
+
+/// A number of nanoseconds with three digits that count.
+fn ns(taken: f64) -> String {
+    match taken {
+        t if t < 10.0 => format!("{t:.2}"),
+        t if t < 100.0 => format!("{t:.1}"),
+        t => format!("{t:.0}"),
+    }
+}
+
+fn ratio(ours: f64, theirs: f64) -> String {
+    format!("{:.2}", ours / theirs)
+}
+
+fn pairs() {
+    println!("\n## A million insert and remove pairs over a half-full frame\n");
+    println!("Nanoseconds a pair: an occupied slot is removed and one inserted; in brackets, times the original. By value each operation is a");
+    println!("call of the public entry (`slots::remove`, `slots::insert`), which checks the state first. Lent: the state goes in by value");
+    println!("once, and a loop lends its halves to the same leaves. Both sums are proved to be the rules' (crate `bare`).\n");
+    println!("| slots in turn | original | ours, a call by value for each | ours, halves lent |");
+    println!("|---|---|---|---|");
+    for (stride, name) in [
+        (0, "slot 0"),
+        (1, "0, 1, 2 .. 511"),
+        (37, "0, 37, 74 .. modulo 512"),
+        (128, "0, 128, 256, 384"),
+    ] {
+        let sum = Bare::pairs(PAIRS, stride);
+        assert_eq!(sum, pairs_by_value(PAIRS, stride), "the sums differ");
+        assert_eq!(sum, pairs_lent(PAIRS, stride), "the sums differ");
+        let best = clock::best(&mut [
+            &mut || Bare::pairs(PAIRS, black_box(stride)),
+            &mut || pairs_by_value(PAIRS, black_box(stride)),
+            &mut || pairs_lent(PAIRS, black_box(stride)),
+        ]);
+        let each: Vec<f64> = best.iter().map(|t| t / PAIRS as f64).collect();
+        let [theirs, value, lent] = each[..] else {
+            unreachable!()
+        };
+        println!(
+            "| {name} | {} | {} ({}) | {} ({}) |",
+            ns(theirs),
+            ns(value),
+            ratio(value, theirs),
+            ns(lent),
+            ratio(lent, theirs)
+        );
+    }
+}
+
+fn bytes(answer: Answer) -> u64 {
+    answer.written().expect("ours takes the text") as u64
+}
+
+/// Nanoseconds of a translation: the original's and ours. Both lists have to be equal.
+fn translated(script: &[u8], lean: &mut Lean, list: &mut [u8]) -> (f64, f64) {
+    let theirs = lean
+        .translate(script)
+        .expect("the original takes the script")
+        .to_vec();
+    let written = bytes(mboxalind::translate(script, list)) as usize;
+    assert!(theirs == list[..written], "the lists differ");
+    let best = clock::best(&mut [
+        &mut || {
+            lean.translate(black_box(script))
+                .map_or(0, |l| l.len() as u64)
+        },
+        &mut || bytes(mboxalind::translate(black_box(script), list)),
+    ]);
+    (best[0], best[1])
+}
+
+fn translation() {
+    let (mut lean, mut list) = (Lean::default(), vec![0; model::BUFFER]);
+    let (theirs, ours) = translated(b"", &mut lean, &mut list);
+    println!("\n## Translation\n");
+    println!("Nanoseconds a frame: original / ours, and the ratio. An empty script takes {} and {} nanoseconds in all.\n", ns(theirs), ns(ours));
+    let heads: Vec<String> = LENGTHS.iter().map(|n| format!(" {n} frames |")).collect();
+    println!("| script |{}", heads.concat());
+    println!("|---|{}", "---|".repeat(LENGTHS.len()));
+    for (name, frames) in KINDS {
+        let mut row = format!("| {name} |");
+        for n in LENGTHS {
+            let script = Frame::script(&frames(n));
+            let (theirs, ours) = translated(&script, &mut lean, &mut list);
+            let each = n as f64;
+            row += &format!(
+                " {} / {}, {} |",
+                ns(theirs / each),
+                ns(ours / each),
+                ratio(ours, theirs)
+            );
+        }
+        println!("{row}");
+    }
+}
+
+fn run() {
+    let list = work::list();
+    let (mut cells, mut out) = (vec![0; 2048], vec![0; model::BUFFER]);
+    let (mut theirs, mut other) = (cells.clone(), out.clone());
+    let mut machine = Machine::default();
+    let plain = machine.run(&list, &mut theirs, &mut other);
+    let written = bytes(mboxalind::run(&list, &mut cells, &mut out));
+    assert_eq!(plain, Some(written as usize));
+    assert!(cells == theirs && out == other, "the runs differ");
+    let best = clock::best(&mut [
+        &mut || {
+            machine
+                .run(black_box(&list), &mut theirs, &mut other)
+                .unwrap_or(0) as u64
+        },
+        &mut || bytes(mboxalind::run(black_box(&list), &mut cells, &mut out)),
+    ]);
+    let (plain, ours) = (best[0] / 2048.0, best[1] / 2048.0);
+    println!("\n## A run of 2,048 lines, a store and a load in turn\n");
+    println!("The original has no frame machine; the other side is one in plain Rust (`oracle/tools/src/figures/plain.rs`).\n");
+    println!("| plain Rust, ns a line | ours | ratio |\n|---|---|---|");
+    println!("| {} | {} | {} |", ns(plain), ns(ours), ratio(ours, plain));
+}
+
+const HEAD: &str = "\
+# Figures
+
+Printed by `bin/figures`. Ours are the proved functions, linked into the same program as the original; each number is processor time, the best of up
+to 25 rounds (of 5 at least) in each of which every side has its turn. Before a figure is taken, both sides' results are compared: sums, list bytes, cells.
+
+The original is driven by `oracle/rune/src/v1/lean.rs`: its own `Scopes`, `Address` and `Linear` and nothing beside them, with a plain reader of
+the same text and a plain writer of the same list. Buffers (its frames and list, our lent list of 32,768 bytes, cells and output) are
+made and written once before and used again; scopes and handles are made anew for each script on both sides. The original's
+collections are the standard library's, with a cheap hash for names.
+
+To print it again: `host/archive --bare`, then `bin/figures`, then `bin/figures gate LOG`, where LOG is what `.ci/run` printed.
+";
+
+fn main() {
+    println!("{HEAD}");
+    println!("- load of the machine when it began: {}", setting::load());
+    setting::lines().iter().for_each(|line| println!("{line}"));
+    if !Args::new().flag("--no-pairs") {
+        pairs();
+    }
+    translation();
+    run();
+    println!("\nLoad of the machine when it ended: {}.", setting::load());
+}

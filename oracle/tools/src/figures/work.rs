@@ -1,0 +1,121 @@
+//! Scripts of several kinds, of a given number of frames, and a list of stores and loads.
+
+use model::Frame::{self, *};
+
+/// A kind's name, and its script of n frames.
+pub type Kind = (&'static str, fn(usize) -> Vec<Frame>);
+
+pub const KINDS: [Kind; 6] = [
+    ("alloc and free, in turn", pairs),
+    ("alloc, write, read, free", mix),
+    ("scopes 8 deep with names", names),
+    ("look-ups through up to 63 scopes", climbs),
+    ("a run and its freeing", runs),
+    ("a run of 16, its freeing, a drain", drains),
+];
+
+/// 64, 128 .. 2,048.
+pub const LENGTHS: [usize; 6] = [64, 128, 256, 512, 1024, 2048];
+
+fn pairs(n: usize) -> Vec<Frame> {
+    let frame = |i: usize| match i % 2 {
+        0 => Alloc,
+        _ => Free((i / 2) as u16),
+    };
+    (0..n).map(frame).collect()
+}
+
+fn mix(n: usize) -> Vec<Frame> {
+    let frame = |i: usize| {
+        let handle = (i / 4) as u16;
+        match i % 4 {
+            0 => Alloc,
+            1 => Write {
+                handle,
+                value: i as u16,
+            },
+            2 => Read(handle),
+            _ => Free(handle),
+        }
+    };
+    (0..n).map(frame).collect()
+}
+
+const OUTER: u16 = 1000;
+
+/// Each scope binds a name and looks up its own and root's; eight are opened, then closed.
+fn names(n: usize) -> Vec<Frame> {
+    let define = |name| Define { name, handle: 0 };
+    let mut frames = vec![Alloc, define(OUTER)];
+    let mut number = 0;
+    while frames.len() < n {
+        for depth in 0..8 {
+            frames.extend([Child, define(depth), Get(depth), Get(OUTER)]);
+        }
+        frames.extend((number + 1..number + 9).rev().map(Pop));
+        number += 8;
+    }
+    frames.truncate(n);
+    frames
+}
+
+/// As many scopes and names as half the frames have room for, then root's name is looked up from the innermost.
+fn climbs(n: usize) -> Vec<Frame> {
+    let mut frames = vec![
+        Alloc,
+        Define {
+            name: OUTER,
+            handle: 0,
+        },
+    ];
+    for scope in 0..62 {
+        if frames.len() + 5 > n / 2 {
+            break;
+        }
+        frames.push(Child);
+        frames.extend((0..4).map(|i| Define {
+            name: 4 * scope + i,
+            handle: 0,
+        }));
+    }
+    frames.resize(n, Get(OUTER));
+    frames
+}
+
+/// Twice: a run of half as many slots as there are frames, but for one, and each of them freed, the last first.
+fn runs(n: usize) -> Vec<Frame> {
+    let slots = (n / 2 - 1) as u16;
+    let mut frames = Vec::new();
+    for first in [0, slots] {
+        frames.push(Linear(slots));
+        frames.extend((first..first + slots).rev().map(Free));
+    }
+    frames
+}
+
+fn drains(n: usize) -> Vec<Frame> {
+    let mut frames = Vec::new();
+    let mut first = 0;
+    while frames.len() < n {
+        frames.push(Linear(16));
+        frames.extend((first..first + 16).map(Free));
+        frames.push(Drain);
+        first += 16;
+    }
+    frames.truncate(n);
+    frames
+}
+
+/// 2,048 lines, a store and a load in turn, over 1,024 cells; then the size.
+pub fn list() -> Vec<u8> {
+    let line = |i: usize| {
+        let cell = i / 2 * 37 % 1024;
+        match i % 2 {
+            0 => format!("10{cell:04x}{i:04x}\n"),
+            _ => format!("11{cell:04x}\n"),
+        }
+    };
+    let mut list: String = (0..2048).map(line).collect();
+    list += "900400\n";
+    list.into_bytes()
+}

@@ -1,0 +1,116 @@
+//! The proved functions themselves, linked: a call a text, with no process between.
+
+use crate::ours::Ours;
+use mboxalind::Answer;
+use model::{print_refusal, Refusal, BUFFER, SLOTS};
+
+/// What lent memory holds before a call.
+const LENT: u8 = 0x5a;
+
+/// The longest list stays below this, and so do 2,048 loads.
+const ROOM: usize = BUFFER;
+
+fn refusal(number: u8, line: u32) -> Vec<u8> {
+    let line = line as usize;
+    print_refusal(Refusal { number, line })
+}
+
+/// What a program over the function would print; a word instead where lent memory was touched beyond the answer.
+fn printed(answer: Answer, lent: &[u8]) -> Vec<u8> {
+    let written = match answer {
+        Answer::Written(bytes) => bytes,
+        Answer::Refused(_) => 0,
+    };
+    if lent[written..].iter().any(|b| *b != LENT) {
+        return b"lent memory was written past the answer".to_vec();
+    }
+    match answer {
+        Answer::Written(bytes) => lent[..bytes].to_vec(),
+        Answer::Refused(r) => refusal(r.number, r.line),
+    }
+}
+
+/// `translate`.
+pub struct Translate {
+    list: Vec<u8>,
+    asked: u64,
+}
+
+impl Default for Translate {
+    fn default() -> Self {
+        let list = vec![LENT; ROOM];
+        Translate { list, asked: 0 }
+    }
+}
+
+impl Translate {
+    fn ask(&mut self, script: &[u8]) -> Vec<u8> {
+        if script.len() > BUFFER {
+            return refusal(17, 0);
+        }
+        let answer = mboxalind::translate(script, &mut self.list);
+        let shown = printed(answer, &self.list);
+        self.list.fill(LENT);
+        self.asked += 1;
+        match answer {
+            Answer::Written(bytes) if self.asked % 8 == 0 => self.ask_short(script, bytes, shown),
+            _ => shown,
+        }
+    }
+
+    /// "lent memory too short for the answer": by one byte, and nothing is written.
+    fn ask_short(&mut self, script: &[u8], bytes: usize, shown: Vec<u8>) -> Vec<u8> {
+        let answer = mboxalind::translate(script, &mut self.list[..bytes - 1]);
+        match printed(answer, &self.list) == refusal(17, 0) {
+            true => shown,
+            false => b"one byte too few was not refused by 17".to_vec(),
+        }
+    }
+}
+
+impl Ours for Translate {
+    fn answers(&mut self, scripts: &[Vec<u8>]) -> Vec<Vec<u8>> {
+        scripts.iter().map(|script| self.ask(script)).collect()
+    }
+
+    fn name(&self) -> String {
+        "translate, linked".into()
+    }
+
+    fn batch(&self) -> usize {
+        1024
+    }
+}
+
+/// `run`.
+pub struct Run;
+
+impl Run {
+    fn ask(&self, list: &[u8]) -> Vec<u8> {
+        if list.len() > BUFFER {
+            return refusal(17, 0);
+        }
+        let (mut cells, mut out) = ([LENT; 2 * SLOTS], [LENT; ROOM]);
+        let answer = mboxalind::run(list, &mut cells, &mut out);
+        let (mut theirs, mut other) = ([LENT; 2 * SLOTS], [LENT; ROOM]);
+        let _ = model::run(list, &mut theirs, &mut other);
+        match cells == theirs {
+            true => printed(answer, &out),
+            false => b"the cells are not the model's".to_vec(),
+        }
+    }
+}
+
+impl Ours for Run {
+    fn answers(&mut self, lists: &[Vec<u8>]) -> Vec<Vec<u8>> {
+        lists.iter().map(|list| self.ask(list)).collect()
+    }
+
+    fn name(&self) -> String {
+        "run, linked".into()
+    }
+
+    fn batch(&self) -> usize {
+        1024
+    }
+}
