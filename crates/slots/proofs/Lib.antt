@@ -3,4 +3,3 @@ pub mod Bits
 pub mod Occupied
 pub mod Steps
 pub mod Unique
-pub mod Zeros

@@ -27,16 +27,30 @@ pub fn clear_bit(h: u64, i: u64) -> u64
     (h | (1 << i)) ^ (1 << i)
 }
 
-// The lowest clear bit, or 64: the zeros below the lowest set bit of the half turned over.
+// The lowest clear bit, or 64.
 pub fn lowest_clear(h: u64) -> u64
     ensures { λ r. ⌜ r ≡ firstClear (bit h) 0 64 ⌝ }
 {
-    u64::trailing_zeros(h ^ 0xffff_ffff_ffff_ffff) as u64
+    let mut i: u64 = 0;
+    while i < 64 {
+        if !test_bit(h, i) {
+            return i;
+        }
+        i += 1;
+    }
+    i
 }
 
 // One past the highest set bit, or 0.
 pub fn past_highest(h: u64) -> u64
     ensures { λ r. ⌜ r ≡ pastLast (bit h) 64 ⌝ }
 {
-    64 - (u64::leading_zeros(h) as u64)
+    let mut i: u64 = 64;
+    while 0 < i {
+        if test_bit(h, i - 1) {
+            return i;
+        }
+        i -= 1;
+    }
+    i
 }
