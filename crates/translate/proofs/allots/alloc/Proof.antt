@@ -1,15 +1,12 @@
 -- 06 alloc. Assumes nothing.
 use native.Mathlib.Omega.{arith}
-use mathlib.Core.Path.{_≡_, refl, sym, ap, subst, _∙_}
 use Rattle.rules.specs.Frames as frame
-use Rattle.rules.specs.Sizes.{base}
 use Rattle.scopes.specs.Lent.{withSlots}
 use Rattle.scopes.specs.declared.Scopes.{Scopes}
 use Rattle.scopes.specs.declared.Outcome.{Outcome}
 use Rattle.needs.specs.declared.AddressKind.the-variants as kind
 use Rattle.translate.proofs.Allotting.{answered-below}
 use Rattle.translate.proofs.Allocations.{reached-is, made-is, top, alloc-3, alloc-16, alloc-seen, alloc-step, works-refused, works-granted}
-use borrow.Author.Needs.{needs}
 use Rattle.translate.proofs.allots.alloc.Statement.{statement}
 use Rattle.translate.proofs.allots.alloc.Tie as tie
 
@@ -17,19 +14,19 @@ abbrev outcome : tie.After-alloc → Scopes → Outcome
 outcome c s = record { state = withSlots s (c .alloc .last .0) (c .alloc .last .1 .0) (c .alloc .last .1 .1 .0) (c .alloc .result .numbers); reply = c .alloc .result .reply }
 
 refused-requires : tie.Need-refused-requires
-refused-requires c κs = search needs
+refused-requires c κs = tt
 
 returns : tie.Need-returns
 returns c = λ s stands. works-refused _ _ _ _ stands frame.alloc 0x06 3 _ (reached-is (c .refused .ensures)) (alloc-3 _ _ _ _ stands (c .before .if1 .taken))
 
 refused-requires-2 : tie.Need-refused-requires-2
-refused-requires-2 c κs = search needs
+refused-requires-2 c κs = tt
 
 returns-2 : tie.Need-returns-2
 returns-2 c = λ s stands. works-refused _ _ _ _ stands frame.alloc 0x06 16 _ (reached-is (c .refused2 .ensures)) (alloc-16 _ _ _ _ stands (c .before .before .if1 .left) (c .before .if2 .taken))
 
 alloc-requires : tie.Need-alloc-requires
-alloc-requires c κs = search needs
+alloc-requires c κs = let p = c .before .before .before .before .before .pre in (p .0, p .1 .whole)
 
 granted-requires : tie.Need-granted-requires
 granted-requires c κs =

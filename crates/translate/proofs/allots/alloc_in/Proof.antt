@@ -1,9 +1,6 @@
 -- 07 alloc in. Assumes nothing.
 use native.Mathlib.Omega.{arith}
-use mathlib.Core.Path.{_≡_, refl, sym, ap, subst, _∙_}
 use Rattle.rules.specs.Frames as frame
-use Rattle.rules.specs.Sizes.{base}
-use Rattle.scopes.specs.Lent.{made}
 use Rattle.scopes.specs.declared.Scopes.{Scopes}
 use Rattle.scopes.specs.declared.Outcome.{Outcome}
 use Rattle.needs.specs.declared.AddressKind.the-variants as kind
@@ -11,7 +8,6 @@ use Rattle.translate.proofs.Allotting.{answered-below}
 use Rattle.translate.specs.Steps.{onAllots}
 use Rattle.translate.proofs.Meant.{meant-some}
 use Rattle.translate.proofs.Allocations.{reached-is, made-is, alloc-in-4, alloc-in-16, alloc-in-seen, alloc-in-step, works-refused, works-granted}
-use borrow.Author.Needs.{needs}
 use Rattle.translate.proofs.allots.alloc_in.Statement.{statement}
 use Rattle.translate.proofs.allots.alloc_in.Tie as tie
 
@@ -23,10 +19,10 @@ abbrev outcome : tie.After-alloc-in → Scopes → Outcome
 outcome c s = record { state = onAllots s (c .alloc-in .last .0) (c .alloc-in .last .1 .0) (c .alloc-in .last .1 .1 .0) (c .before .before .before .before .before .before .before .before .args .live .now) (c .before .before .before .before .before .before .before .before .args .number .now) (c .alloc-in .result .numbers); reply = c .alloc-in .result .reply }
 
 meant-requires : tie.Need-meant-requires
-meant-requires c κs = search needs
+meant-requires c κs = tt
 
 refused-requires : tie.Need-refused-requires
-refused-requires c κs = search needs
+refused-requires c κs = tt
 
 returns : tie.Need-returns
 returns c = λ s stands.
@@ -34,7 +30,7 @@ returns c = λ s stands.
     works-refused _ _ _ _ stands (frame.allocIn (m .before .args .k)) 0x07 4 _ (reached-is (c .refused .ensures)) (alloc-in-4 _ _ _ _ stands (m .before .args .k) (m .meant .result) (m .meant .ensures (state (m .before) s) .is) (c .before .if1 .taken))
 
 refused-requires-2 : tie.Need-refused-requires-2
-refused-requires-2 c κs = search needs
+refused-requires-2 c κs = tt
 
 returns-2 : tie.Need-returns-2
 returns-2 c = λ s stands.
@@ -44,7 +40,7 @@ returns-2 c = λ s stands.
     works-refused _ _ _ _ stands (frame.allocIn (m .before .args .k)) 0x07 16 _ (reached-is (c .refused2 .ensures)) (alloc-in-16 _ _ _ _ stands (m .before .args .k) (m .meant .result) (e .is) (k .0) (k .1) (c .before .if2 .taken))
 
 alloc-in-requires : tie.Need-alloc-in-requires
-alloc-in-requires c κs = search needs
+alloc-in-requires c κs = let p = c .before .before .before .before .before .before .before .pre in (p .0, p .1 .whole)
 
 granted-requires : tie.Need-granted-requires
 granted-requires c κs =

@@ -1,18 +1,15 @@
 -- Handles for the slots that were given. Assumes nothing.
-use native.Mathlib.Omega.{arith}
-use mathlib.Core.Path.{_≡_, refl, sym, ap, subst, _∙_}
-use Rattle.rules.specs.Frames as frame
-use Rattle.rules.specs.Sizes.{base}
+use mathlib.Core.Path.{refl}
 use Rattle.translate.proofs.Allotting.{slot-fits, grants-at, grants-none}
 use borrow.Author.Needs.{needs}
 use Rattle.translate.proofs.allots.granted.Statement.{statement}
 use Rattle.translate.proofs.allots.granted.Tie as tie
 
 adds-of-requires : tie.Need-adds-of-requires
-adds-of-requires c κs = search needs
+adds-of-requires c κs = tt
 
 slot-or-requires : tie.Need-slot-or-requires
-slot-or-requires c κs = search needs
+slot-or-requires c κs = tt
 
 grant-requires : tie.Need-grant-requires
 grant-requires c κs =

@@ -1,15 +1,12 @@
 -- 08 linear. Assumes nothing.
 use native.Mathlib.Omega.{arith}
-use mathlib.Core.Path.{_≡_, refl, sym, ap, subst, _∙_}
 use Rattle.rules.specs.Frames as frame
 use Rattle.rules.specs.Sizes.{base}
 use Rattle.scopes.specs.Lent.{withSlots}
 use Rattle.scopes.specs.declared.Scopes.{Scopes}
 use Rattle.scopes.specs.declared.Outcome.{Outcome}
-use Rattle.needs.specs.declared.AddressKind.the-variants as kind
 use Rattle.translate.proofs.Allotting.{answered-below}
 use Rattle.translate.proofs.Allocations.{reached-is, made-is, has-top, linear-3, linear-0, linear-16, linear-seen, linear-step, works-refused, works-granted}
-use borrow.Author.Needs.{needs}
 use Rattle.translate.proofs.allots.linear.Statement.{statement}
 use Rattle.translate.proofs.allots.linear.Tie as tie
 
@@ -17,7 +14,7 @@ abbrev outcome : tie.After-alloc-run → Scopes → Outcome
 outcome c s = record { state = withSlots s (c .alloc-run .last .0) (c .alloc-run .last .1 .0) (c .alloc-run .last .1 .1 .0) (c .alloc-run .result .numbers); reply = c .alloc-run .result .reply }
 
 refused-requires : tie.Need-refused-requires
-refused-requires c κs = search needs
+refused-requires c κs = tt
 
 returns : tie.Need-returns
 returns c = λ s stands. let k = c .before .before .args .k in works-refused _ _ _ _ stands (frame.linear k) 0x08 3 _ (reached-is (c .refused .ensures)) (linear-3 _ _ _ _ stands k (c .before .if1 .taken))
@@ -30,16 +27,16 @@ unfolding base
 add-if3 c = omega (arith, c .before .before .pre .1 .state .handles .few)
 
 refused-requires-2 : tie.Need-refused-requires-2
-refused-requires-2 c κs = search needs
+refused-requires-2 c κs = tt
 
 returns-3 : tie.Need-returns-3
 returns-3 c = λ s stands. let k = c .before .before .before .before .args .k in works-refused _ _ _ _ stands (frame.linear k) 0x08 16 _ (reached-is (c .refused2 .ensures)) (linear-16 _ _ _ _ stands k (c .before .before .if2 .left) (c .before .before .before .if1 .left) (c .before .if3 .taken))
 
 alloc-run-requires : tie.Need-alloc-run-requires
-alloc-run-requires c κs = search needs
+alloc-run-requires c κs = let p = c .before .before .before .before .before .before .pre in (p .0, p .1 .whole)
 
 run-kind-requires : tie.Need-run-kind-requires
-run-kind-requires c κs = search needs
+run-kind-requires c κs = tt
 
 granted-requires : tie.Need-granted-requires
 granted-requires c κs =

@@ -3,15 +3,11 @@ use Rattle.rules.specs.Notation.{if_then_else_}
 use Rattle.rules.specs.Needs.{runKind}
 use Rattle.translate.proofs.allots.run_kind.Statement.{statement}
 use Rattle.translate.proofs.allots.run_kind.Tie as tie
-use Rattle.translate.proofs.allots.run_kind.Reads as reads
-use Rattle.translate.proofs.allots.run_kind.Lts as lts
 
--- src/allots.rt:107:9
 returns : tie.Need-returns
 unfolding runKind if_then_else_
 returns c = rw (c .if1 .taken)
 
--- src/allots.rt:103:1
 returns-2 : tie.Need-returns-2
 unfolding runKind if_then_else_
 returns-2 c = rw (ne-eqb (c .before .args .n) 1 (c .if1 .left), runKind, if_then_else_)

@@ -1,7 +1,6 @@
 -- The load of a handle: 14, 15. Assumes nothing.
 use native.Mathlib.Omega.{arith}
-use mathlib.Core.Path.{_≡_, refl, sym, ap, subst, _∙_}
-use Rattle.rules.specs.Frames as frame
+use mathlib.Core.Path.{refl, _∙_}
 use Rattle.rules.specs.Sizes.{base}
 use borrow.Author.Tests.{not-true, not-false}
 use Rattle.translate.proofs.Allocations.{works-refused}
@@ -24,7 +23,7 @@ unfolding base
 element-copy-out-unpacked c = omega (arith, c .before .pre .1, c .before .pre .0 .1 .state .handles .few)
 
 unpacked-requires : tie.Need-unpacked-requires
-unpacked-requires c κs = search needs
+unpacked-requires c κs = tt
 
 cast-a : tie.Need-cast-a
 cast-a c = search needs

@@ -1,8 +1,6 @@
 -- 11 read. Assumes nothing.
-use native.Mathlib.Omega.{arith}
-use mathlib.Core.Path.{_≡_, refl, sym, ap, subst, _∙_}
+use mathlib.Core.Path.{refl}
 use Rattle.rules.specs.Frames as frame
-use Rattle.rules.specs.Sizes.{base}
 use Rattle.translate.proofs.Allocations.{works-refused}
 use Rattle.translate.proofs.Handling.{read-unknown, read-loads}
 use borrow.Author.Needs.{needs}
@@ -16,7 +14,7 @@ returns : tie.Need-returns
 returns c = λ s stands. let a = c .before .before .args in works-refused _ _ _ _ stands (frame.read (a .h .0)) 0x11 13 _ refl (read-unknown _ (a .h .0) (c .if1 .taken))
 
 load-requires : tie.Need-load-requires
-load-requires c κs = search needs
+load-requires c κs = (c .before .before .pre, c .if1 .left)
 
 returns-2 : tie.Need-returns-2
 returns-2 c = λ s stands.

@@ -1,6 +1,6 @@
 -- 12 read name: 3, 10, 11, 14, 15. Assumes nothing.
 use native.Mathlib.Omega.{arith}
-use mathlib.Core.Path.{_≡_, refl, sym, ap, subst, _∙_}
+use mathlib.Core.Path.{sym}
 use Rattle.rules.specs.Frames as frame
 use Rattle.rules.specs.Sizes.{base}
 use Rattle.scopes.specs.declared.Scopes.{Scopes}
@@ -18,13 +18,13 @@ get-requires : tie.Need-get-requires
 get-requires c κs = (state c (c .pre .0), c .pre .1 .whole)
 
 handle-or-requires : tie.Need-handle-or-requires
-handle-or-requires c κs = search needs
+handle-or-requires c κs = tt
 
 cast-i : tie.Need-cast-i
 cast-i c = search needs
 
 adds-of-requires : tie.Need-adds-of-requires
-adds-of-requires c κs = search needs
+adds-of-requires c κs = tt
 
 returns : tie.Need-returns
 returns c = λ s stands.

@@ -1,6 +1,6 @@
 -- 10 write. Assumes nothing.
 use native.Mathlib.Omega.{arith}
-use mathlib.Core.Path.{_≡_, refl, sym, ap, subst, _∙_}
+use mathlib.Core.Path.{refl, sym, ap, subst, _∙_}
 use borrow.Author.Tests.{not-true, not-false}
 use Rattle.rules.specs.Frames as frame
 use Rattle.rules.specs.Sizes.{base}
@@ -29,7 +29,7 @@ unfolding base
 element-copy-out-unpacked c = omega (arith, c .before .before .pre .1 .state .handles .few)
 
 unpacked-requires : tie.Need-unpacked-requires
-unpacked-requires c κs = search needs
+unpacked-requires c κs = tt
 
 cast-a : tie.Need-cast-a
 cast-a c = search needs
@@ -52,7 +52,7 @@ returns-2 c = λ s stands.
     (held-is _ _ _ _ stands (st .args .h .0) (k .unpacked .result) (k .unpacked .ensures) _ (c .before .is-held .result) refl (c .before .is-held .ensures) ∙ not-true _ (c .if2 .taken)))
 
 allocated-requires : tie.Need-allocated-requires
-allocated-requires c κs = search needs
+allocated-requires c κs = tt
 
 packed-requires : tie.Need-packed-requires
 packed-requires c κs =

@@ -1,11 +1,9 @@
 -- 06 to 08. Assumes nothing.
 use native.Mathlib.Omega.{arith}
-use mathlib.Core.Path.{_≡_, refl, sym, ap, subst, _∙_}
+use mathlib.Core.Path.{_≡_}
 use Rattle.rules.specs.Frames as frame
-use Rattle.rules.specs.Sizes.{base}
 use Rattle.translate.specs.Steps.{onAllots}
 use Rattle.translate.proofs.Opcodes.{works-as, is-alloc, is-alloc-in, is-linear}
-use borrow.Author.Needs.{needs}
 use Rattle.translate.proofs.dispatch.allot_step.Statement.{statement}
 use Rattle.translate.proofs.dispatch.allot_step.Tie as tie
 
@@ -16,7 +14,7 @@ returns : tie.Need-returns
 returns c = λ g q s stands drained. let st = c .before .before .before .before .before .before .before .before in works-as (st .args .f) 0x06 frame.alloc g (c .before .before .before .before .before .before .if1 .taken) (is-alloc (st .args .f) (c .before .before .before .before .before .before .if1 .taken)) q (c .alloc .ensures (onAllots s (st .args .halves .now) (st .args .links .now) (st .args .owner .now) (st .args .live .now) (st .args .number .now) (st .args .n)) stands drained)
 
 alloc-in-requires : tie.Need-alloc-in-requires
-alloc-in-requires c κs = search needs
+alloc-in-requires c κs = c .before .before .before .before .before .before .before .before .before .pre .0
 
 returns-2 : tie.Need-returns-2
 returns-2 c = λ g q s stands drained. let st = c .before .before .before .before .before .before .before .before .before .before in works-as (st .args .f) 0x07 (frame.allocIn (st .args .f .a)) g (c .before .before .before .before .before .before .if2 .taken) (is-alloc-in (st .args .f) (c .before .before .before .before .before .before .if2 .taken)) q (c .alloc-in .ensures s stands drained)

@@ -1,11 +1,8 @@
 -- 10 to 12. Assumes nothing.
 use native.Mathlib.Omega.{arith}
-use mathlib.Core.Path.{_≡_, refl, sym, ap, subst, _∙_}
 use Rattle.rules.specs.Frames as frame
-use Rattle.rules.specs.Sizes.{base}
 use Rattle.translate.specs.Steps.{onCells}
 use Rattle.translate.proofs.Opcodes.{works-as, no-frame, is-high, is-write, is-read, is-read-name}
-use borrow.Author.Needs.{needs}
 use Rattle.translate.proofs.dispatch.cell_step.Statement.{statement}
 use Rattle.translate.proofs.dispatch.cell_step.Tie as tie
 
@@ -22,7 +19,7 @@ returns-2 : tie.Need-returns-2
 returns-2 c = λ g q s stands drained. let st = c .before .before .before .before .before .before in works-as (st .args .f) 0x11 (frame.read (st .args .f .a)) g (c .before .before .if2 .taken) (is-read (st .args .f) (c .before .before .if2 .taken)) q (c .read .ensures (onCells s (st .args .halves .now) (st .args .live .now) (st .args .parent .now) (st .args .bindings .now) (st .args .n)) stands drained)
 
 read-name-requires : tie.Need-read-name-requires
-read-name-requires c κs = search needs
+read-name-requires c κs = c .before .before .before .before .before .before .before .pre .0
 
 returns-3 : tie.Need-returns-3
 returns-3 c = λ g q s stands drained. let st = c .before .before .before .before .before .before .before .before in works-as (st .args .f) 0x12 (frame.readName (st .args .f .a)) g (c .before .before .if3 .taken) (is-read-name (st .args .f) (c .before .before .if3 .taken)) q (c .read-name .ensures s stands drained)

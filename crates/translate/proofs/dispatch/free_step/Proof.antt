@@ -1,21 +1,20 @@
 -- 0c to 0e. Assumes nothing.
 use native.Mathlib.Omega.{arith}
-use mathlib.Core.Path.{_≡_, refl, sym, ap, subst, _∙_}
+use mathlib.Core.Path.{_≡_}
 use Rattle.rules.specs.Frames as frame
 use Rattle.rules.specs.Sizes.{base}
 use Rattle.translate.proofs.Opcodes.{works-as, is-free, is-free-quietly, is-forget}
-use borrow.Author.Needs.{needs}
 use Rattle.translate.proofs.dispatch.free_step.Statement.{statement}
 use Rattle.translate.proofs.dispatch.free_step.Tie as tie
 
 free-requires : tie.Need-free-requires
-free-requires c κs = search needs
+free-requires c κs = c .before .before .before .before .before .before .pre .0
 
 returns : tie.Need-returns
 returns c = λ g q s stands drained. let st = c .before .before .before .before .before .before .before in works-as (st .args .f) 0x0c (frame.free (st .args .f .a)) g (c .before .before .before .before .before .if1 .taken) (is-free (st .args .f) (c .before .before .before .before .before .if1 .taken)) q (c .free .ensures s stands drained)
 
 free-requires-2 : tie.Need-free-requires-2
-free-requires-2 c κs = search needs
+free-requires-2 c κs = c .before .before .before .before .before .before .before .before .pre .0
 
 returns-2 : tie.Need-returns-2
 returns-2 c = λ g q s stands drained. let st = c .before .before .before .before .before .before .before .before .before in works-as (st .args .f) 0x0d (frame.freeQuietly (st .args .f .a)) g (c .before .before .before .before .before .if2 .taken) (is-free-quietly (st .args .f) (c .before .before .before .before .before .if2 .taken)) q (c .free2 .ensures s stands drained)

@@ -1,12 +1,10 @@
 -- 09 to 0b. Assumes nothing.
 use native.Mathlib.Omega.{arith}
-use mathlib.Core.Path.{_≡_, refl, sym, ap, subst, _∙_}
+use mathlib.Core.Path.{_≡_}
 use Rattle.rules.specs.Frames as frame
-use Rattle.rules.specs.Sizes.{base}
 use Rattle.scopes.specs.declared.Scopes.{Scopes}
 use Rattle.translate.specs.Steps.{onNames}
 use Rattle.translate.proofs.Opcodes.{works-as, is-define, is-get, is-take}
-use borrow.Author.Needs.{needs}
 use Rattle.translate.proofs.dispatch.name_step.Statement.{statement}
 use Rattle.translate.proofs.dispatch.name_step.Tie as tie
 

@@ -1,13 +1,10 @@
 -- One step, by its opcode. Assumes nothing.
 use native.Mathlib.Omega.{arith}
-use mathlib.Core.Path.{_≡_, refl, sym, ap, subst, _∙_}
 use Rattle.rules.specs.Frames as frame
-use Rattle.rules.specs.Sizes.{base}
 use Rattle.scopes.specs.Lent.{made}
 use Rattle.scopes.specs.declared.Scopes.{Scopes}
 use Rattle.translate.proofs.Reading.{drain-works}
 use Rattle.translate.proofs.Opcodes.{works-as, is-drain}
-use borrow.Author.Needs.{needs}
 use Rattle.translate.proofs.dispatch.step.Statement.{statement}
 use Rattle.translate.proofs.dispatch.step.Tie as tie
 
@@ -15,7 +12,7 @@ abbrev state : tie.Start → Scopes
 state st = made (st .args .halves .now) (st .args .links .now) (st .args .owner .now) (st .args .live .now) (st .args .dangled .now) (st .args .parent .now) (st .args .number .now) (st .args .bindings .now) (st .args .n)
 
 scope-step-requires : tie.Need-scope-step-requires
-scope-step-requires c κs = search needs
+scope-step-requires c κs = (c .before .before .before .before .before .before .before .before .before .before .pre .0 .whole, c .before .before .before .before .before .before .before .before .if1 .taken)
 
 returns : tie.Need-returns
 returns c = let st = c .before .before .before .before .before .before .before .before .before .before .before in (λ g q. c .scope-step .ensures g q _ _ (st .pre .0) _, st .pre .1)

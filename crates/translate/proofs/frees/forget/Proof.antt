@@ -1,7 +1,6 @@
 -- 0e forget. Assumes nothing.
 use native.Mathlib.Omega.{arith}
-use mathlib.Core.Path.{_≡_, refl, sym, ap, subst, _∙_}
-use borrow.Author.Tests.{not-true, not-false}
+use mathlib.Core.Path.{refl, sym, _∙_}
 use Rattle.rules.specs.Frames as frame
 use Rattle.rules.specs.Sizes.{base}
 use Rattle.translate.proofs.Allocations.{works-refused}
@@ -26,10 +25,10 @@ element-copy-out-unpacked : tie.Need-element-copy-out-unpacked
 element-copy-out-unpacked c = search needs
 
 unpacked-requires : tie.Need-unpacked-requires
-unpacked-requires c κs = search needs
+unpacked-requires c κs = tt
 
 is-freed-requires : tie.Need-is-freed-requires
-is-freed-requires c κs = search needs
+is-freed-requires c κs = tt
 
 returns-2 : tie.Need-returns-2
 returns-2 c = λ s holders stands.

@@ -1,7 +1,6 @@
 -- 0c free, 0d free without dangling: 13, then where the slot goes back 14, 12. Assumes nothing.
 use native.Mathlib.Omega.{arith}
-use mathlib.Core.Path.{_≡_, refl, sym, ap, subst, _∙_}
-use Rattle.rules.specs.Frames as frame
+use mathlib.Core.Path.{sym, _∙_}
 use Rattle.rules.specs.Sizes.{base}
 use Rattle.scopes.specs.declared.Scopes.{Scopes}
 use Rattle.needs.proofs.Tops.{back-from}
@@ -23,7 +22,7 @@ cast-i : tie.Need-cast-i
 cast-i c = search needs
 
 refused-requires : tie.Need-refused-requires
-refused-requires c κs = search needs
+refused-requires c κs = tt
 
 returns : tie.Need-returns
 returns c = λ s stands.
@@ -38,13 +37,13 @@ unfolding base
 element-copy-out-unpacked c = omega (arith, c .before .before .pre .1 .state .handles .few)
 
 unpacked-requires : tie.Need-unpacked-requires
-unpacked-requires c κs = search needs
+unpacked-requires c κs = tt
 
 is-freed-requires : tie.Need-is-freed-requires
-is-freed-requires c κs = search needs
+is-freed-requires c κs = tt
 
 refused-requires-2 : tie.Need-refused-requires-2
-refused-requires-2 c κs = search needs
+refused-requires-2 c κs = tt
 
 returns-2 : tie.Need-returns-2
 returns-2 c = λ s stands.
@@ -54,7 +53,7 @@ returns-2 c = λ s stands.
     (free-freed _ _ _ _ stands (a .h .0) (k .unpacked .result) (k .unpacked .ensures) (a .dangles) (sym (c .before .before .is-freed .ensures) ∙ c .before .if2 .taken))
 
 goes-back-requires : tie.Need-goes-back-requires
-goes-back-requires c κs = search needs
+goes-back-requires c κs = tt
 
 hand-back-requires : tie.Need-hand-back-requires
 hand-back-requires c κs =

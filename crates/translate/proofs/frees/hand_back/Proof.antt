@@ -1,7 +1,6 @@
 -- The slot of a handle goes back: 14, 12. Assumes nothing.
 use native.Mathlib.Omega.{arith}
-use mathlib.Core.Path.{_≡_, refl, sym, ap, subst, _∙_}
-use Rattle.rules.specs.Frames as frame
+use mathlib.Core.Path.{refl, sym, _∙_}
 use Rattle.rules.specs.Sizes.{base}
 use borrow.Author.Tests.{not-true, not-false}
 use Rattle.scopes.specs.Lent.{withSlots}
@@ -34,7 +33,7 @@ is-held-requires : tie.Need-is-held-requires
 is-held-requires c κs = search needs
 
 refused-requires : tie.Need-refused-requires
-refused-requires c κs = search needs
+refused-requires c κs = tt
 
 returns : tie.Need-returns
 returns c = λ s back stands.
@@ -45,13 +44,13 @@ returns c = λ s back stands.
     (held-is _ _ _ _ stands (st .args .h .0) (st .args .x) (st .pre .2) _ (k .is-held .result) refl (k .is-held .ensures) ∙ not-true _ (c .before .if1 .taken)))
 
 give-back-requires : tie.Need-give-back-requires
-give-back-requires c κs = search needs
+give-back-requires c κs = let p = c .before .before .before .before .before .before .before .before .before .before .pre .0 in (p .0, p .1 .whole)
 
 is-done-requires : tie.Need-is-done-requires
-is-done-requires c κs = search needs
+is-done-requires c κs = tt
 
 ended-requires : tie.Need-ended-requires
-ended-requires c κs = search needs
+ended-requires c κs = tt
 
 returns-2 : tie.Need-returns-2
 returns-2 c = λ s back stands.

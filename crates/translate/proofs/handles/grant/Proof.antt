@@ -1,5 +1,5 @@
 use Prim.Native.Nat.{_≤_, _-_}
-use mathlib.Core.Path.{_≡_, refl, sym, ap, _∙_}
+use mathlib.Core.Path.{_≡_}
 use native.Mathlib.Omega.{arith}
 use borrow.Author.Needs.{needs}
 use lib.ListN.{length, length-set}
@@ -8,9 +8,6 @@ use Rattle.translate.specs.Handles.{Hands}
 use Rattle.translate.proofs.Grants.{hands-more, hands-none, hands-all}
 use Rattle.translate.proofs.handles.grant.Statement.{statement}
 use Rattle.translate.proofs.handles.grant.Tie as tie
-use Rattle.translate.proofs.handles.grant.Reads as reads
-use Rattle.translate.proofs.handles.grant.Lts as lts
-use Rattle.translate.proofs.handles.packed.Reads as packed-reads
 
 abbrev Inv-loop : tie.InvT-loop
 Inv-loop handles₀ holders₀ handed n a kind i₀ handles holders i = (i ≤ n) × Hands handles₀ handles holders₀ holders handed i a (kindOf kind) × (length handles ≡ 2048) × (length holders ≡ 1024)

@@ -3,8 +3,6 @@ use Rattle.translate.specs.Handles.{idOfKind}
 use borrow.Author.Needs.{needs}
 use Rattle.translate.proofs.handles.id_of.Statement.{statement}
 use Rattle.translate.proofs.handles.id_of.Tie as tie
-use Rattle.translate.proofs.handles.id_of.Reads as reads
-use Rattle.translate.proofs.handles.id_of.Lts as lts
 
 -- src/handles.rt:41:31
 enum-told : tie.Need-enum-told

@@ -2,9 +2,6 @@ use mathlib.Core.Path.{sym, _∙_}
 use borrow.Author.Needs.{needs}
 use Rattle.translate.proofs.handles.is_held.Statement.{statement}
 use Rattle.translate.proofs.handles.is_held.Tie as tie
-use Rattle.translate.proofs.handles.is_held.Reads as reads
-use Rattle.translate.proofs.handles.is_held.Lts as lts
-use Rattle.slots.proofs.halves.occupied.Reads as occupied-reads
 
 -- src/handles.rt:118:8
 occupied-requires : tie.Need-occupied-requires

@@ -1,8 +1,6 @@
 use Rattle.translate.proofs.Packing.{no-code}
 use Rattle.translate.proofs.handles.kind_from.Statement.{statement}
 use Rattle.translate.proofs.handles.kind_from.Tie as tie
-use Rattle.translate.proofs.handles.kind_from.Reads as reads
-use Rattle.translate.proofs.handles.kind_from.Lts as lts
 
 -- src/handles.rt:65:9
 returns : tie.Need-returns

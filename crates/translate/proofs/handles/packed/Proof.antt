@@ -3,11 +3,6 @@ use Rattle.translate.proofs.Packing.{code-small, packs}
 use borrow.Author.Needs.{needs}
 use Rattle.translate.proofs.handles.packed.Statement.{statement}
 use Rattle.translate.proofs.handles.packed.Tie as tie
-use Rattle.translate.proofs.handles.packed.Reads as reads
-use Rattle.translate.proofs.handles.packed.Lts as lts
-use Rattle.translate.proofs.handles.code_of.Reads as code-of-reads
-use Rattle.translate.proofs.handles.id_of.Reads as id-of-reads
-use Rattle.translate.proofs.handles.one_if.Reads as one-if-reads
 
 -- src/handles.rt:92:16
 cast-slot : tie.Need-cast-slot
@@ -15,7 +10,7 @@ cast-slot c = search needs
 
 -- src/handles.rt:93:9
 id-of-requires : tie.Need-id-of-requires
-id-of-requires c κs = search needs
+id-of-requires c κs = tt
 
 -- src/handles.rt:94:19
 cast-place : tie.Need-cast-place
@@ -47,7 +42,7 @@ mul-result c = search needs
 
 -- src/handles.rt:95:18
 code-of-requires : tie.Need-code-of-requires
-code-of-requires c κs = search needs
+code-of-requires c κs = tt
 
 -- src/handles.rt:95:6
 add-result : tie.Need-add-result
@@ -59,7 +54,7 @@ mul-result-2 c = let l = code-small (c .before .before .before .before .before .
 
 -- src/handles.rt:95:39
 one-if-requires : tie.Need-one-if-requires
-one-if-requires c κs = search needs
+one-if-requires c κs = tt
 
 -- src/handles.rt:95:5
 add-result-2 : tie.Need-add-result-2

@@ -2,9 +2,6 @@ use mathlib.Core.Path.{refl, sym}
 use borrow.Author.Needs.{needs}
 use Rattle.translate.proofs.handles.unpacked.Statement.{statement}
 use Rattle.translate.proofs.handles.unpacked.Tie as tie
-use Rattle.translate.proofs.handles.unpacked.Reads as reads
-use Rattle.translate.proofs.handles.unpacked.Lts as lts
-use Rattle.translate.proofs.handles.kind_from.Reads as kind-from-reads
 
 -- src/handles.rt:100:16
 cast-t7 : tie.Need-cast-t7
@@ -16,7 +13,7 @@ cast-t10 c = search needs
 
 -- src/handles.rt:103:9
 kind-from-requires : tie.Need-kind-from-requires
-kind-from-requires c κs = search needs
+kind-from-requires c κs = tt
 
 -- src/handles.rt:104:28
 cast-t11 : tie.Need-cast-t11

@@ -1,6 +1,6 @@
 -- 09 define: 3, 13, 9. Assumes nothing.
 use native.Mathlib.Omega.{arith}
-use mathlib.Core.Path.{_≡_, refl, sym, ap, subst, _∙_}
+use mathlib.Core.Path.{sym, _∙_}
 use Rattle.rules.specs.Frames as frame
 use Rattle.rules.specs.Sizes.{base}
 use Rattle.scopes.specs.Lent.{withNames}
@@ -16,7 +16,7 @@ abbrev outcome : tie.After-define → Scopes → Outcome
 outcome c s = record { state = withNames s (c .define .last .0) (c .define .result .numbers); reply = c .define .result .reply }
 
 refused-requires : tie.Need-refused-requires
-refused-requires c κs = search needs
+refused-requires c κs = tt
 
 returns : tie.Need-returns
 returns c = λ s holders stands. let a = c .before .before .args in works-refused _ _ _ _ stands (frame.define (a .name) (a .h .0)) 0x09 3 _ (reached-is (c .refused .ensures)) (define-3 _ _ _ _ stands (a .name) (a .h .0) (c .before .if1 .taken))
@@ -25,7 +25,7 @@ cast-i : tie.Need-cast-i
 cast-i c = search needs
 
 refused-requires-2 : tie.Need-refused-requires-2
-refused-requires-2 c κs = search needs
+refused-requires-2 c κs = tt
 
 returns-2 : tie.Need-returns-2
 returns-2 c = λ s holders stands. let a = c .before .before .before .before .args in works-refused _ _ _ _ stands (frame.define (a .name) (a .h .0)) 0x09 13 _ (reached-is (c .refused2 .ensures)) (define-unknown _ _ _ _ stands (a .name) (a .h .0) (c .before .before .before .if1 .left) (c .before .if2 .taken))
@@ -38,13 +38,13 @@ unfolding base
 element-copy-out-unpacked c = omega (arith, c .before .before .before .pre .1 .1 .state .handles .few)
 
 unpacked-requires : tie.Need-unpacked-requires
-unpacked-requires c κs = search needs
+unpacked-requires c κs = tt
 
 is-freed-requires : tie.Need-is-freed-requires
-is-freed-requires c κs = search needs
+is-freed-requires c κs = tt
 
 refused-requires-3 : tie.Need-refused-requires-3
-refused-requires-3 c κs = search needs
+refused-requires-3 c κs = tt
 
 returns-3 : tie.Need-returns-3
 returns-3 c = λ s holders stands.
@@ -54,10 +54,10 @@ returns-3 c = λ s holders stands.
     (define-freed _ _ _ _ stands (a .name) (a .h .0) (k .before .before .before .before .if1 .left) (k .unpacked .result) (k .unpacked .ensures) (sym (c .before .before .is-freed .ensures) ∙ c .before .if3 .taken))
 
 define-requires : tie.Need-define-requires
-define-requires c κs = search needs
+define-requires c κs = let p = c .before .before .before .before .before .before .before .before .before .pre in (p .0, p .1 .1 .whole)
 
 ended-requires : tie.Need-ended-requires
-ended-requires c κs = search needs
+ended-requires c κs = tt
 
 returns-4 : tie.Need-returns-4
 returns-4 c = λ s holders stands.

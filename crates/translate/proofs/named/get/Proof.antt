@@ -1,18 +1,13 @@
 -- 0a get. Assumes nothing.
-use native.Mathlib.Omega.{arith}
-use mathlib.Core.Path.{_≡_, refl, sym, ap, subst, _∙_}
-use Rattle.rules.specs.Frames as frame
-use Rattle.rules.specs.Sizes.{base}
 use Rattle.translate.proofs.Reading.{get-works}
-use borrow.Author.Needs.{needs}
 use Rattle.translate.proofs.named.get.Statement.{statement}
 use Rattle.translate.proofs.named.get.Tie as tie
 
 get-requires : tie.Need-get-requires
-get-requires c κs = search needs
+get-requires c κs = c .pre
 
 adds-of-requires : tie.Need-adds-of-requires
-adds-of-requires c κs = search needs
+adds-of-requires c κs = tt
 
 returns : tie.Need-returns
 returns c = λ s handles holders handed stands drained. get-works _ _ _ _ stands (c .before .before .args .name) (c .before .get .result) (c .adds-of .result) drained (c .before .get .ensures s (stands .whole)) (c .adds-of .ensures)

@@ -1,8 +1,5 @@
 -- 0b take. Assumes nothing.
-use native.Mathlib.Omega.{arith}
-use mathlib.Core.Path.{_≡_, refl, sym, ap, subst, _∙_}
 use Rattle.rules.specs.Frames as frame
-use Rattle.rules.specs.Sizes.{base}
 use Rattle.scopes.specs.View.{view}
 use Rattle.translate.specs.Steps.{onNames}
 use Rattle.scopes.specs.declared.Scopes.{Scopes}
@@ -10,7 +7,6 @@ use Rattle.scopes.specs.declared.Outcome.{Outcome}
 use Rattle.translate.proofs.Allocations.{reached-is}
 use Rattle.translate.proofs.Moving.{ended-works}
 use Rattle.translate.proofs.Reading.{take-does}
-use borrow.Author.Needs.{needs}
 use Rattle.translate.proofs.named.take.Statement.{statement}
 use Rattle.translate.proofs.named.take.Tie as tie
 
@@ -18,10 +14,10 @@ abbrev outcome : tie.After-take → Scopes → Outcome
 outcome c s = record { state = onNames s (c .before .before .args .live .now) (c .before .before .args .parent .now) (c .take .last .1 .1 .0) (c .take .result .numbers); reply = c .take .result .reply }
 
 take-requires : tie.Need-take-requires
-take-requires c κs = search needs
+take-requires c κs = c .before .pre
 
 ended-requires : tie.Need-ended-requires
-ended-requires c κs = search needs
+ended-requires c κs = tt
 
 returns : tie.Need-returns
 returns c = λ s handles holders stands drained.

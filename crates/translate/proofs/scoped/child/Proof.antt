@@ -1,15 +1,11 @@
 -- 01 child. Assumes nothing.
-use native.Mathlib.Omega.{arith}
-use mathlib.Core.Path.{_≡_, refl, sym, ap, subst, _∙_}
 use Rattle.rules.specs.Frames as frame
-use Rattle.rules.specs.Sizes.{base}
 use Rattle.scopes.specs.View.{view}
 use Rattle.scopes.specs.Lent.{withScopes}
 use Rattle.scopes.specs.declared.Scopes.{Scopes}
 use Rattle.scopes.specs.declared.Outcome.{Outcome}
 use Rattle.translate.proofs.Allocations.{reached-is}
 use Rattle.translate.proofs.Moving.{child-does, ended-works}
-use borrow.Author.Needs.{needs}
 use Rattle.translate.proofs.scoped.child.Statement.{statement}
 use Rattle.translate.proofs.scoped.child.Tie as tie
 
@@ -17,10 +13,10 @@ abbrev outcome : tie.After-child → Scopes → Outcome
 outcome c s = record { state = withScopes s (c .child .last .0) (s .dangled) (c .child .last .1 .0) (c .child .last .1 .1 .0) (c .child .result .numbers); reply = c .child .result .reply }
 
 child-requires : tie.Need-child-requires
-child-requires c κs = search needs
+child-requires c κs = c .before .before .before .pre
 
 ended-requires : tie.Need-ended-requires
-ended-requires c κs = search needs
+ended-requires c κs = tt
 
 returns : tie.Need-returns
 returns c = λ s handles holders stands drained.

@@ -1,15 +1,11 @@
 -- 02 pop. Assumes nothing.
-use native.Mathlib.Omega.{arith}
-use mathlib.Core.Path.{_≡_, refl, sym, ap, subst, _∙_}
 use Rattle.rules.specs.Frames as frame
-use Rattle.rules.specs.Sizes.{base}
 use Rattle.scopes.specs.View.{view}
 use Rattle.scopes.specs.Lent.{made}
 use Rattle.scopes.specs.declared.Scopes.{Scopes}
 use Rattle.scopes.specs.declared.Outcome.{Outcome}
 use Rattle.translate.proofs.Allocations.{reached-is}
 use Rattle.translate.proofs.Moving.{pop-does, ended-works}
-use borrow.Author.Needs.{needs}
 use Rattle.translate.proofs.scoped.pop.Statement.{statement}
 use Rattle.translate.proofs.scoped.pop.Tie as tie
 
@@ -21,13 +17,13 @@ abbrev outcome : tie.After-pop → Outcome
 outcome c = record { state = made (c .pop .last .0) (c .pop .last .1 .0) (c .pop .last .1 .1 .0) (c .pop .last .1 .1 .1 .0) (c .pop .last .1 .1 .1 .1 .0) (c .pop .last .1 .1 .1 .1 .1 .0) (c .pop .last .1 .1 .1 .1 .1 .1 .0) (c .pop .last .1 .1 .1 .1 .1 .1 .1 .0) (c .pop .result .numbers); reply = c .pop .result .reply }
 
 meant-requires : tie.Need-meant-requires
-meant-requires c κs = search needs
+meant-requires c κs = tt
 
 pop-requires : tie.Need-pop-requires
-pop-requires c κs = search needs
+pop-requires c κs = c .before .before .before .before .before .before .before .before .before .before .before .pre
 
 ended-requires : tie.Need-ended-requires
-ended-requires c κs = search needs
+ended-requires c κs = tt
 
 returns : tie.Need-returns
 returns c = λ handles holders stands drained.

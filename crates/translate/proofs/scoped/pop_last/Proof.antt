@@ -1,15 +1,10 @@
 -- 05 pop last. Assumes nothing.
-use native.Mathlib.Omega.{arith}
-use mathlib.Core.Path.{_≡_, refl, sym, ap, subst, _∙_}
 use Rattle.rules.specs.Frames as frame
-use Rattle.rules.specs.Sizes.{base}
 use Rattle.scopes.specs.View.{view}
 use Rattle.scopes.specs.Lent.{made}
-use Rattle.scopes.specs.declared.Scopes.{Scopes}
 use Rattle.scopes.specs.declared.Outcome.{Outcome}
 use Rattle.translate.proofs.Allocations.{reached-is}
 use Rattle.translate.proofs.Moving.{pop-last-does, ended-works}
-use borrow.Author.Needs.{needs}
 use Rattle.translate.proofs.scoped.pop_last.Statement.{statement}
 use Rattle.translate.proofs.scoped.pop_last.Tie as tie
 
@@ -17,10 +12,10 @@ abbrev outcome : tie.After-pop-last → Outcome
 outcome c = record { state = made (c .pop-last .last .0) (c .pop-last .last .1 .0) (c .pop-last .last .1 .1 .0) (c .pop-last .last .1 .1 .1 .0) (c .pop-last .last .1 .1 .1 .1 .0) (c .pop-last .last .1 .1 .1 .1 .1 .0) (c .pop-last .last .1 .1 .1 .1 .1 .1 .0) (c .pop-last .last .1 .1 .1 .1 .1 .1 .1 .0) (c .pop-last .result .numbers); reply = c .pop-last .result .reply }
 
 pop-last-requires : tie.Need-pop-last-requires
-pop-last-requires c κs = search needs
+pop-last-requires c κs = c .before .before .before .before .before .before .before .before .pre
 
 ended-requires : tie.Need-ended-requires
-ended-requires c κs = search needs
+ended-requires c κs = tt
 
 returns : tie.Need-returns
 returns c = λ handles holders stands drained.

@@ -3,8 +3,6 @@ use Rattle.translate.specs.Steps.{addsOf}
 use borrow.Author.Needs.{needs}
 use Rattle.translate.proofs.steps.adds_of.Statement.{statement}
 use Rattle.translate.proofs.steps.adds_of.Tie as tie
-use Rattle.translate.proofs.steps.adds_of.Reads as reads
-use Rattle.translate.proofs.steps.adds_of.Lts as lts
 
 -- src/steps.rt:36:24
 enum-told : tie.Need-enum-told

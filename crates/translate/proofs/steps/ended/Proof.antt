@@ -1,13 +1,9 @@
-use borrow.Author.Needs.{needs}
 use Rattle.translate.proofs.steps.ended.Statement.{statement}
 use Rattle.translate.proofs.steps.ended.Tie as tie
-use Rattle.translate.proofs.steps.ended.Reads as reads
-use Rattle.translate.proofs.steps.ended.Lts as lts
-use Rattle.translate.proofs.steps.adds_of.Reads as adds-of-reads
 
 -- src/steps.rt:67:15
 adds-of-requires : tie.Need-adds-of-requires
-adds-of-requires c κs = search needs
+adds-of-requires c κs = tt
 
 -- src/steps.rt:59:1
 returns : tie.Need-returns

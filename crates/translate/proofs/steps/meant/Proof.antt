@@ -1,18 +1,15 @@
 -- The id of the scope that a number means. Assumes nothing.
 use native.Mathlib.Omega.{arith}
-use mathlib.Core.Path.{_≡_, refl, sym, ap, subst, _∙_}
-use Rattle.rules.specs.Frames as frame
-use Rattle.rules.specs.Sizes.{base}
+use mathlib.Core.Path.{refl}
 use Rattle.scopes.specs.View.{view}
 use Rattle.scopes.proofs.Finds.{numbered-none, numbered-is, number-small}
 use Rattle.translate.specs.Steps.{onNumbered}
 use Rattle.translate.proofs.Meant.{meant-is, meant-none}
-use borrow.Author.Needs.{needs}
 use Rattle.translate.proofs.steps.meant.Statement.{statement}
 use Rattle.translate.proofs.steps.meant.Tie as tie
 
 with-number-requires : tie.Need-with-number-requires
-with-number-requires c κs = search needs
+with-number-requires c κs = tt
 
 returns : tie.Need-returns
 returns c = λ s.
