@@ -41,11 +41,11 @@ use Rattle.text.proofs.Splits.{split-end}
 use Rattle.text.proofs.Rows.{frame-code}
 use Rattle.text.proofs.Bounds.{ScriptIn, script-in}
 use Rattle.text.proofs.Over.{over-nothing, next}
-use Rattle.translate.specs.Handles.{stateOf}
-use Rattle.translate.specs.Steps.{stepped, Few, Stands, Works, Reached}
+use Rattle.frames.specs.Handles.{stateOf}
+use Rattle.frames.specs.Steps.{stepped, Few, Stands, Works, Reached}
 use Rattle.translate.specs.Whole.{frameIn, linesOf, linesText, onwardOf, Read, Ends, listed, refused as told}
-use Rattle.translate.specs.declared.steps.Adds.{Adds}
-use Rattle.translate.specs.declared.steps.Adds.the-variants.{Nothing, One, Store, Load, Drained, Refused}
+use Rattle.frames.specs.declared.steps.Adds.{Adds}
+use Rattle.frames.specs.declared.steps.Adds.the-variants.{Nothing, One, Store, Load, Drained, Refused}
 use Rattle.translate.specs.declared.whole.Onward.the-variants.{Go, Stop}
 use Rattle.translate.specs.declared.whole.Ended.the-variants as ended
 use Rattle.translate.proofs.Written.{lines-length, lines-on, list-on, Put}

@@ -1,14 +1,3 @@
-pub mod Changes
-pub mod Packing
-pub mod Grants
-pub mod Moving
-pub mod Meant
-pub mod Allotting
-pub mod Allocations
-pub mod Handling
-pub mod Reading
-pub mod Freeing
-pub mod Opcodes
 pub mod Written
 pub mod Going
 pub mod Left

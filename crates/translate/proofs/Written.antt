@@ -11,10 +11,10 @@ use Rattle.rules.proofs.Lengths.{line-length}
 use Rattle.rules.proofs.Pages.{linesLength}
 use Rattle.text.specs.Writing.{over}
 use Rattle.text.proofs.Over.{over-nothing}
-use Rattle.translate.specs.Steps.{Few}
+use Rattle.frames.specs.Steps.{Few}
 use Rattle.translate.specs.Whole.{linesOf, linesText}
-use Rattle.translate.specs.declared.steps.Adds.{Adds}
-use Rattle.translate.specs.declared.steps.Adds.the-variants.{Drained, Refused}
+use Rattle.frames.specs.declared.steps.Adds.{Adds}
+use Rattle.frames.specs.declared.steps.Adds.the-variants.{Drained, Refused}
 
 -- ---- lines one after another
 

@@ -1,3 +1,1 @@
-pub mod Handles
-pub mod Steps
 pub mod Whole

@@ -12,8 +12,8 @@ use Rattle.text.specs.Shapes.{frame}
 use Rattle.text.specs.declared.lines.Frame.{Frame}
 use Rattle.text.specs.declared.lines.Reading.{Reading}
 use Rattle.text.specs.declared.lines.Reading.the-variants as reading
-use Rattle.translate.specs.declared.steps.Adds.{Adds}
-use Rattle.translate.specs.declared.steps.Adds.the-variants.{Nothing, One, Store, Load, Drained, Refused}
+use Rattle.frames.specs.declared.steps.Adds.{Adds}
+use Rattle.frames.specs.declared.steps.Adds.the-variants.{Nothing, One, Store, Load, Drained, Refused}
 use Rattle.translate.specs.declared.whole.Onward.{Onward}
 use Rattle.translate.specs.declared.whole.Onward.the-variants as onward
 use Rattle.translate.specs.declared.whole.Ended.{Ended}

@@ -1,34 +1,19 @@
-// Scripts into lists: handles, one step for each frame, and translate.
+// Scripts into lists: the steps of all frames, the page, and translate.
+use text::refusal::refuse;
 use text::whole::Checked;
 use text::whole::check_script;
 use whole::Ended;
 use whole::steps as whole_steps;
 ghost use mathlib.Core.Path.{_≡_};
 ghost use mathlib.Core.List.{_++_};
-ghost use Prim.Native.Nat.{_+_, _*_, _^_, _≤_};
+ghost use Prim.Native.Nat.{_≤_};
 ghost use lib.ListN.{length, take, drop};
 ghost use Rattle.rules.specs.Sizes.{base};
 ghost use Rattle.rules.specs.Slots.{edition1};
-ghost use Rattle.rules.specs.Entries.{refusalAnswer, translateEntry};
+ghost use Rattle.rules.specs.Entries.{translateEntry};
 ghost use Rattle.translate.specs.Whole.{Leaves, Read};
 
-pub mod handles; // handles as numbers of a table
-pub mod steps; // what a step is
-pub mod scoped; // 01 to 05
-pub mod allots; // 06 to 08
-pub mod named; // 09 to 0b
-pub mod frees; // 0c to 0e
-pub mod cells; // 10 to 12
-pub mod dispatch; // one step, by its opcode; 0f
 pub mod whole; // all steps of a script, and the page
-
-// The answer of a refusal: its number in the high 32 bits, its line in the low 32.
-fn refuse(number: u8, line: usize) -> u64
-    requires { ⌜ line ≤ 2 ^ 63 ⌝ }
-    ensures { λ r. ⌜ r ≡ refusalAnswer number line ⌝ }
-{
-    (number as u64) * 4294967296 + (line as u64)
-}
 
 // The first n bytes of the page go to the start of the list.
 fn copy(page: &[u8], list: &mut [u8], n: usize)

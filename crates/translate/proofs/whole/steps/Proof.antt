@@ -6,7 +6,7 @@ use lib.ListN.{length}
 use borrow.Author.Needs.{needs}
 use Rattle.rules.specs.Sizes.{base}
 use Rattle.scopes.specs.Lent.{made}
-use Rattle.translate.specs.Steps.{Reached}
+use Rattle.frames.specs.Steps.{Reached}
 use Rattle.translate.proofs.Going.{Going, going-fresh, going-stop, going-few, going-room, going-on, going-size, going-last, going-end}
 use Rattle.translate.proofs.whole.steps.Statement.{statement}
 use Rattle.translate.proofs.whole.steps.Tie as tie

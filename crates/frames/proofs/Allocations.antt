@@ -1,0 +1,222 @@
+-- 06 alloc, 07 alloc in and 08 linear, case by case: 3 or 4, 16, and what was granted. Assumes nothing.
+use mathlib.Core.Path.{_≡_, refl, sym, ap, subst, _∙_}
+use mathlib.Core.Logic.{_⊎_, ⊎-elim, inl, inr}
+use mathlib.Core.Bool.{Bool, true, false, _&&_}
+use mathlib.Core.Option.{Option, none, some}
+use mathlib.Core.List.{List, [], _∷_}
+use Prim.Native.Nat.{ℕ, zero, suc, _+_, _≤_, _<_}
+use native.Mathlib.Omega.{arith}
+use lib.Dec.{eqb, ltb}
+use borrow.Author.Tests.{lt-ltb, eqb-true}
+use Rattle.rules.specs.Notation.{Answer, given, refused, _>>=_, refuse_when_, refuse_unless_}
+use Rattle.rules.specs.Sizes.{base}
+use Rattle.rules.specs.Slots.{edition1}
+use Rattle.rules.specs.Scopes as rule
+use Rattle.rules.specs.Scopes.{Found, Id, allocate, topScope, byId, byNumber}
+use Rattle.rules.specs.Needs.{Kind, local, scope, runKind}
+use Rattle.rules.specs.Frames.{State, Frame, alloc, allocIn, linear, shows, oneLine, Step, allot, step}
+use Rattle.rules.proofs.Chains.{none-some}
+use Rattle.rules.proofs.Tells.{tells-and, tells-lt, tells-true, clash}
+use Rattle.rules.proofs.Naming.{found-at}
+use Rattle.rules.proofs.Exact.{top-found}
+use Rattle.scopes.specs.View.{view, index, idOf, at, atFirst, Seen, seen, told}
+use Rattle.scopes.specs.Lent.{made, Whole}
+use Rattle.scopes.specs.declared.Scopes.{Scopes}
+use Rattle.scopes.specs.declared.ScopeId.{ScopeId}
+use Rattle.scopes.specs.declared.Numbers.{Numbers}
+use Rattle.scopes.specs.declared.Outcome.{Outcome}
+use Rattle.scopes.specs.declared.Reply.the-variants as reply
+use Rattle.needs.specs.Kinds.{kindOf}
+use Rattle.needs.specs.declared.AddressKind.{AddressKind}
+use Rattle.frames.specs.Handles.{stateOf}
+use Rattle.frames.specs.Steps.{stepped, Few, Stands, Works, Grants, Reached}
+use Rattle.frames.specs.declared.steps.Adds.{Adds}
+use Rattle.frames.specs.declared.steps.Adds.the-variants.{One, Refused}
+use Rattle.frames.specs.declared.steps.Stepped.{Stepped}
+use Rattle.frames.proofs.Meant.{no-scope-there}
+use Rattle.frames.proofs.Moving.{few-reply}
+use Rattle.frames.proofs.Allotting.{allots}
+
+-- ---- one link of a chain of refusals
+
+module _ {A B : Type 0} {o : Option A} (n : ℕ) (f : A → Answer B) where
+  pub unless-some : {a : A} → o ≡ some a → ((refuse n unless o) >>= f) ≡ f a
+  unfolding _>>=_ refuse_unless_
+  unless-some e = ap (λ (x : Option A). (refuse n unless x) >>= f) e
+
+  pub unless-none : o ≡ none → ((refuse n unless o) >>= f) ≡ refused n
+  unfolding _>>=_ refuse_unless_
+  unless-none e = ap (λ (x : Option A). (refuse n unless x) >>= f) e
+
+module _ {B : Type 0} {b : Bool} (n : ℕ) (f : Unit {0} → Answer B) where
+  pub when-true : b ≡ true → ((refuse n when b) >>= f) ≡ refused n
+  unfolding _>>=_ refuse_when_
+  when-true e = ap (λ (x : Bool). (refuse n when x) >>= f) e
+
+  pub when-false : b ≡ false → ((refuse n when b) >>= f) ≡ f tt
+  unfolding _>>=_ refuse_when_
+  when-false e = ap (λ (x : Bool). (refuse n when x) >>= f) e
+
+pub refused-on : {A B : Type 0} {m : Answer A} (n : ℕ) (f : A → Answer B) → m ≡ refused n → (m >>= f) ≡ refused n
+unfolding _>>=_
+refused-on {A} n f e = ap (λ (x : Answer A). x >>= f) e
+
+-- ---- the top, and the scope of an id
+
+module _ (s : Scopes) where
+  pub no-top : s .top ≡ 64 → topScope (view s) ≡ none
+  unfolding topScope
+  no-top e = ap (λ (n : ℕ). elim (index n) [ none ↦ none | some i ↦ rule.found i (view s .live i) ]) e
+
+  pub has-top : {handles holders : List ℕ} {handed : ℕ} → Stands s handles holders handed → (s .top ≡ 64 → ⊥) → (t : Found) × (topScope (view s) ≡ some t)
+  has-top stands ne =
+      ⊎-elim
+      (λ l. top-found base (view s) (stands .state .scopes) (s .top) (ap (λ (b : Bool). elim b [ true ↦ some (s .top) | false ↦ none ]) (lt-ltb (s .top) 64 (l .0))))
+      (λ l. absurd (ne (l .0)))
+      (stands .whole .sound .rooted .topped)
+
+id-is : (c : rule.Scopes) (id : Id) (k : Found) → byId base c id ≡ some k → id ≡ rule.idOf k
+unfolding byId
+id-is c id k e = go (ltb (id .index) (base .scopes) && rule.hasNumber (id .number) (c .live (id .index))) refl
+  where
+    go : (b : Bool) → (ltb (id .index) (base .scopes) && rule.hasNumber (id .number) (c .live (id .index))) ≡ b → id ≡ rule.idOf k
+    go false q = none-some (rw (q, byId) at e)
+    go true q =
+        let f = found-at (c .live) (id .index) k (rw (q, byId) at e) in
+        let t = tells-and (tells-lt (id .index) (base .scopes)) (tells-true (rule.hasNumber (id .number) (c .live (id .index)))) .holds q .1 in
+        let at : c .live (id .index) ≡ some (k .scope) = ap (c .live) (sym (f .0)) ∙ f .1 in
+        let n : k .scope .number ≡ id .number = eqb-true (k .scope .number) (id .number) (sym (ap (rule.hasNumber (id .number)) at) ∙ t) in
+        λ u. record { index = sym (f .0) u; number = sym n u }
+
+abbrev runStart : ℕ × rule.Scopes → Option ℕ × rule.Scopes
+runStart r = (some (r .0), r .1)
+
+-- ---- what the code says of a step over lent arrays, as where it leads
+
+pub reached-is : {halves links owner : List ℕ} {live dangled : List Bool} {parent number bindings : List ℕ} {n : Numbers} {handed : ℕ} {adds : Adds} {r : Stepped} → r ≡ record { numbers = n; handed = handed; adds = adds }
+    → _≡_ {A = Reached} (record { state = made halves links owner live dangled parent number bindings (r .numbers); handed = r .handed; adds = r .adds }) (record { state = made halves links owner live dangled parent number bindings n; handed = handed; adds = adds })
+reached-is {halves} {links} {owner} {live} {dangled} {parent} {number} {bindings} e = λ t. record { state = made halves links owner live dangled parent number bindings (e t .numbers); handed = e t .handed; adds = e t .adds }
+
+pub made-is : {halves links owner : List ℕ} {live dangled : List Bool} {parent number bindings : List ℕ} {n m : Numbers} → n ≡ m → made halves links owner live dangled parent number bindings n ≡ made halves links owner live dangled parent number bindings m
+made-is {halves} {links} {owner} {live} {dangled} {parent} {number} {bindings} e = λ t. made halves links owner live dangled parent number bindings (e t)
+
+-- ---- refused, and granted
+
+module _ (s : Scopes) (handles holders : List ℕ) (handed : ℕ) (stands : Stands s handles holders handed) where
+  abbrev c : rule.Scopes
+  c = view s
+
+  abbrev standing : State
+  standing = stateOf c handles holders handed
+
+  pub works-refused : (f : Frame) (op n : ℕ) (r : Reached) → r ≡ record { state = s; handed = handed; adds = Refused n } → step base (edition1 (base .segments)) standing f ≡ refused n → (drained : List ℕ) → Works f op s handles holders handed r handles holders drained
+  works-refused f op n r is e drained =
+      subst (λ (x : Reached). Works f op s handles holders handed x handles holders drained) (sym is)
+      (record { does = e; whole = stands .whole; few = tt; handles-length = stands .handles-length; holders-length = stands .holders-length })
+
+  pub works-granted : (f : Frame) (op : ℕ) (k : Found) (kind : AddressKind) (n : ℕ) (o : Outcome) (r : Reached) (handles′ holders′ : List ℕ) → handed + n ≤ 2048
+      → seen o ≡ told at c (allocate (edition1 (base .segments)) k n c) → Whole (o .state) → r .state ≡ o .state → Grants (o .reply) handed n kind (r .handed) (r .adds) handles handles′ holders holders′
+      → step base (edition1 (base .segments)) standing f ≡ (allot base (edition1 (base .segments)) k (kindOf kind) n standing >>= λ x. oneLine (shows op (x .0 ∷ [])) (x .1))
+      → (drained : List ℕ) → Works f op s handles holders handed r handles′ holders′ drained
+  works-granted f op k kind n o r handles′ holders′ fits e ok same g q drained = record {
+    does = q ∙ allots s handles holders handed stands k kind n o r handles′ holders′ drained fits e same g op;
+    whole = subst Whole (sym same) ok;
+    few = subst Few (sym (g .says)) (few-reply (o .reply));
+    handles-length = g .handles-length;
+    holders-length = g .holders-length;
+  }
+
+  full : (k : Found) (kind : Kind) (n : ℕ) → 2048 < handed + n → allot base (edition1 (base .segments)) k kind n standing ≡ refused 16
+  unfolding allot base
+  full k kind n l = when-true 16 _ (lt-ltb 2048 (handed + n) l)
+
+  -- ---- alloc
+
+  pub alloc-3 : s .top ≡ 64 → step base (edition1 (base .segments)) standing alloc ≡ refused 3
+  unfolding step
+  alloc-3 e = unless-none 3 _ (no-top s e)
+
+  pub alloc-16 : (s .top ≡ 64 → ⊥) → 2048 ≤ handed → step base (edition1 (base .segments)) standing alloc ≡ refused 16
+  unfolding step
+  alloc-16 ne l = let t = has-top s stands ne in unless-some 3 _ (t .1) ∙ refused-on 16 _ (full (t .0) local 1 (omega arith))
+
+  module _ (ne : s .top ≡ 64 → ⊥) where
+    abbrev pub top : Found
+    top = has-top s stands ne .0
+
+    pub alloc-seen : (o : Outcome) → seen o ≡ told at c (rule.allocTop (edition1 (base .segments)) c) → seen o ≡ told at c (allocate (edition1 (base .segments)) top 1 c)
+    unfolding rule.allocTop
+    alloc-seen o e = e ∙ ap (told at c) (unless-some 3 _ (has-top s stands ne .1))
+
+    pub alloc-step : step base (edition1 (base .segments)) standing alloc ≡ (allot base (edition1 (base .segments)) top local 1 standing >>= λ x. oneLine (shows 0x06 (x .0 ∷ [])) (x .1))
+    unfolding step
+    alloc-step = unless-some 3 _ (has-top s stands ne .1)
+
+  -- ---- alloc in: `id` is the id that the number n means
+
+  module _ (n : ℕ) (id : ScopeId) (is : byId base c (idOf id) ≡ byNumber base c n) where
+    pub alloc-in-4 : id .index ≡ 255 → step base (edition1 (base .segments)) standing (allocIn n) ≡ refused 4
+    unfolding step base byId
+    alloc-in-4 e =
+        let nobody : byId base c (idOf id) ≡ none = ap (λ (i : ℕ). byId base c (record { index = i; number = id .number })) e in
+        unless-none 4 _ (sym is ∙ nobody)
+
+    -- the scope that is meant, if there is one
+    module _ (k : Found) (e : byNumber base c n ≡ some k) where
+      pub alloc-in-16 : 2048 ≤ handed → step base (edition1 (base .segments)) standing (allocIn n) ≡ refused 16
+      unfolding step
+      alloc-in-16 l = unless-some 4 _ e ∙ refused-on 16 _ (full k (scope (rule.idOf k)) 1 (omega arith))
+
+      pub alloc-in-seen : (o : Outcome) → seen o ≡ told at c (rule.allocIn (edition1 (base .segments)) (byId base c (idOf id)) c) → seen o ≡ told at c (allocate (edition1 (base .segments)) k 1 c)
+      unfolding rule.allocIn
+      alloc-in-seen o q = q ∙ ap (told at c) (unless-some 4 _ (is ∙ e))
+
+      pub alloc-in-step : step base (edition1 (base .segments)) standing (allocIn n) ≡ (allot base (edition1 (base .segments)) k (scope (idOf id)) 1 standing >>= λ x. oneLine (shows 0x07 (x .0 ∷ [])) (x .1))
+      unfolding step
+      alloc-in-step = unless-some 4 _ e ∙ λ t. allot base (edition1 (base .segments)) k (scope (sym (id-is c (idOf id) k (is ∙ e)) t)) 1 standing >>= λ x. oneLine (shows 0x07 (x .0 ∷ [])) (x .1)
+
+  -- ---- linear
+
+  pub linear-3 : (n : ℕ) → s .top ≡ 64 → step base (edition1 (base .segments)) standing (linear n) ≡ refused 3
+  unfolding step
+  linear-3 zero e = unless-none 3 _ (no-top s e)
+  linear-3 (suc n) e = unless-none 3 _ (no-top s e)
+
+  pub linear-16 : (n : ℕ) → (n ≡ 0 → ⊥) → (s .top ≡ 64 → ⊥) → 2048 < handed + n → step base (edition1 (base .segments)) standing (linear n) ≡ refused 16
+  unfolding step
+  linear-16 zero pos ne l = absurd (pos refl)
+  linear-16 (suc n) pos ne l = let t = has-top s stands ne in unless-some 3 _ (t .1) ∙ refused-on 16 _ (full (t .0) (runKind (suc n)) (suc n) l)
+
+  pub linear-0 : (n : ℕ) → n ≡ 0 → (s .top ≡ 64 → ⊥) → (drained : List ℕ) → Works (linear n) 0x08 s handles holders handed (record { state = s; handed = handed; adds = One 0xffff }) handles holders drained
+  unfolding step
+  linear-0 n e ne drained = record {
+    does = ap (λ (m : ℕ). step base (edition1 (base .segments)) standing (linear m)) e ∙ unless-some 3 _ (has-top s stands ne .1);
+    whole = stands .whole;
+    few = tt;
+    handles-length = stands .handles-length;
+    holders-length = stands .holders-length;
+  }
+
+  -- the first address of a run, as an address
+  first-is : (m : Answer (ℕ × rule.Scopes)) → told atFirst c (m >>= λ r. given (runStart r)) ≡ told at c m
+  unfolding _>>=_
+  first-is (given x) = refl
+  first-is (refused n) = refl
+
+  module _ (n : ℕ) (pos : n ≡ 0 → ⊥) (ne : s .top ≡ 64 → ⊥) where
+    pub linear-seen : (o : Outcome) → seen o ≡ told atFirst c (rule.allocRun (edition1 (base .segments)) n c) → seen o ≡ told at c (allocate (edition1 (base .segments)) (has-top s stands ne .0) n c)
+    unfolding rule.allocRun
+    linear-seen o e = go n pos e
+      where
+        go : (m : ℕ) → (m ≡ 0 → ⊥) → seen o ≡ told atFirst c (rule.allocRun (edition1 (base .segments)) m c) → seen o ≡ told at c (allocate (edition1 (base .segments)) (has-top s stands ne .0) m c)
+        go zero p q = absurd (p refl)
+        go (suc m) p q = q ∙ ap (told atFirst c) (unless-some 3 _ (has-top s stands ne .1)) ∙ first-is (allocate (edition1 (base .segments)) (has-top s stands ne .0) (suc m) c)
+
+    pub linear-step : (kind : AddressKind) → kindOf kind ≡ runKind n
+        → step base (edition1 (base .segments)) standing (linear n) ≡ (allot base (edition1 (base .segments)) (has-top s stands ne .0) (kindOf kind) n standing >>= λ x. oneLine (shows 0x08 (x .0 ∷ [])) (x .1))
+    unfolding step
+    linear-step kind e = go n pos e
+      where
+        go : (m : ℕ) → (m ≡ 0 → ⊥) → kindOf kind ≡ runKind m → step base (edition1 (base .segments)) standing (linear m) ≡ (allot base (edition1 (base .segments)) (has-top s stands ne .0) (kindOf kind) m standing >>= λ x. oneLine (shows 0x08 (x .0 ∷ [])) (x .1))
+        go zero p q = absurd (p refl)
+        go (suc m) p q = unless-some 3 _ (has-top s stands ne .1) ∙ λ t. allot base (edition1 (base .segments)) (has-top s stands ne .0) (sym q t) (suc m) standing >>= λ x. oneLine (shows 0x08 (x .0 ∷ [])) (x .1)

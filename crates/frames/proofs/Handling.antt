@@ -1,0 +1,190 @@
+-- One handle, known by its number in the table: whether it is spent, whether it is held, and what the table's handles are once its number
+-- is another one. Assumes nothing.
+use mathlib.Core.Path.{_≡_, refl, sym, ap, subst, _∙_}
+use mathlib.Core.Bool.{Bool, true, false, not, _&&_, _||_}
+use mathlib.Core.List.{List, [], _∷_}
+use Prim.Native.Nat.{ℕ, _%_, _≤_, _<_}
+use native.Mathlib.Omega.{arith}
+use lib.Dec.{eqb, leb}
+use lib.ListN.{length, getD, set, length-set}
+use borrow.Author.Tests.{le-leb, lt-leb}
+use Rattle.rules.specs.Notation.{Answer, given, refused, _>>=_, refuse_when_, _▹_, put}
+use Rattle.rules.specs.Sizes.{base}
+use Rattle.rules.specs.Slots.{edition1}
+use Rattle.rules.specs.Scopes as rule
+use Rattle.rules.specs.Needs.{Kind, Address, address, freed, allocatedKind, isFreed}
+use Rattle.rules.specs.Frames.{State, Handle, kind≔, written≔, Frame, define, forget, write, read, shows, stores, loads, oneLine, unknown, spent, setHandle, step}
+use Rattle.slots.specs.Halves.{occ}
+use Rattle.scopes.specs.View.{view}
+use Rattle.scopes.specs.Sound.{Sound}
+use Rattle.scopes.specs.declared.Scopes.{Scopes}
+use Rattle.needs.specs.Kinds.{kindOf, addressOf}
+use Rattle.frames.specs.Handles.{slotIn, kindIn, handleAt, stateOf, Coded, freedAs}
+use Rattle.frames.specs.Steps.{stepped, loading, LoadsOf, Stands, Works}
+use Rattle.frames.specs.declared.handles.Handle.{Handle as Known}
+use Rattle.frames.specs.declared.steps.Adds.the-variants.{Nothing, Store, Load}
+use Rattle.frames.proofs.Changes.{recoding}
+use Rattle.frames.proofs.Allocations.{when-true, when-false}
+
+-- ---- 13
+
+module _ (t : State) (h : ℕ) where
+  pub spent-unknown : t .handed ≤ h → spent t h ≡ true
+  unfolding spent unknown
+  spent-unknown l = ap (λ (b : Bool). b || isFreed (t .handles h .kind)) (le-leb (t .handed) h l)
+
+  pub spent-freed : isFreed (t .handles h .kind) ≡ true → spent t h ≡ true
+  unfolding spent
+  spent-freed e = either (unknown t h) (isFreed (t .handles h .kind)) e
+    where
+      either : (a b : Bool) → b ≡ true → (a || b) ≡ true
+      either true b q = refl
+      either false b q = q
+
+  pub unspent : h < t .handed → isFreed (t .handles h .kind) ≡ false → spent t h ≡ false
+  unfolding spent unknown
+  unspent l e = ap (λ (b : Bool). b || isFreed (t .handles h .kind)) (lt-leb (t .handed) h l) ∙ e
+
+  pub is-unknown : t .handed ≤ h → unknown t h ≡ true
+  unfolding unknown
+  is-unknown l = le-leb (t .handed) h l
+
+  pub is-known : h < t .handed → unknown t h ≡ false
+  unfolding unknown
+  is-known l = lt-leb (t .handed) h l
+
+-- ---- a handle that is known as x
+
+module _ (s : Scopes) (handles holders : List ℕ) (handed : ℕ) (stands : Stands s handles holders handed) (h : ℕ) (x : Known) (coded : Coded (getD handles h 0) x) where
+  abbrev c : rule.Scopes
+  c = view s
+
+  abbrev standing : State
+  standing = stateOf c handles holders handed
+
+  abbrev slot : ℕ
+  slot = x .address .slot .0
+
+  -- its slot is a slot
+  pub slot-low : slot < 1024
+  slot-low = subst (λ (a : ℕ). a < 1024) (coded .slot) (low (getD handles h 0))
+    where
+      low : (b : ℕ) → slotIn b < 1024
+      low b = omega arith
+
+  pub held-is : (holder : ℕ) (q : Bool) → holder ≡ getD holders slot 0 → q ≡ (occ (s .halves) slot && eqb holder h) → standing .handles h .held ≡ q
+  held-is holder q e p =
+      (λ t. occ (s .halves) (coded .slot t) && eqb (getD holders (coded .slot t) 0) h)
+      ∙ (λ t. occ (s .halves) slot && eqb (sym e t) h)
+      ∙ sym p
+
+  -- ---- another number for the same slot
+
+  module _ (b : ℕ) (y : Known) (new : Coded b y) (same : y .address .slot .0 ≡ slot) (known : h < length handles) where
+    slots : slotIn b ≡ slotIn (getD handles h 0)
+    slots = new .slot ∙ same ∙ sym (coded .slot)
+
+    pub changed : (k : Kind) (w : Bool) → kindOf (y .address .kind) ≡ k → y .written ≡ w
+        → handleAt (c .slots .occupied) (set handles h b) holders ≡ put (standing .handles) h (record { address = standing .handles h .address; kind = k; held = standing .handles h .held; written = w })
+    changed k w p q =
+        recoding (c .slots .occupied) handles holders h b known slots
+        ∙ λ t. put (standing .handles) h (record {
+          address = slots t;
+          kind = (new .kind ∙ p) t;
+          held = c .slots .occupied (slots t) && eqb (getD holders (slots t) 0) h;
+          written = (new .written ∙ q) t;
+        })
+
+    abbrev after : State
+    after = stateOf c (set handles h b) holders handed
+
+    -- the state with the handle h changed
+    pub set-changed : (k : Kind) (w : Bool) → kindOf (y .address .kind) ≡ k → y .written ≡ w
+        → setHandle h (record { address = standing .handles h .address; kind = k; held = standing .handles h .held; written = w }) standing ≡ after
+    unfolding setHandle
+    set-changed k w p q = λ t. record { scopes = c; handles = sym (changed k w p q) t; handed = handed }
+
+    pub now-long : length (set handles h b) ≡ 2048
+    now-long = simp length-set (stands .handles-length)
+
+  -- ---- freed, its slot kept
+
+  module _ (b : ℕ) (new : Coded b (freedAs x)) (l : h < handed) (known : h < length handles) (live : isFreed (kindOf (x .address .kind)) ≡ false) where
+    pub live-kind : isFreed (standing .handles h .kind) ≡ false
+    live-kind = ap isFreed (coded .kind) ∙ live
+
+    pub set-freed : setHandle h (standing .handles h ▹ kind≔ freed) standing ≡ stateOf c (set handles h b) holders handed
+    set-freed = set-changed b (freedAs x) new refl known freed (standing .handles h .written) refl (sym (coded .written))
+
+    pub forget-works : (drained : List ℕ) → Works (forget h) 0x0e s handles holders handed (record { state = s; handed = handed; adds = Nothing }) (set handles h b) holders drained
+    unfolding step
+    forget-works drained = record {
+      does = when-false 13 _ (unspent standing h l live-kind) ∙ ap (oneLine (shows 0x0e [])) set-freed;
+      whole = stands .whole;
+      few = tt;
+      handles-length = now-long b (freedAs x) new refl known;
+      holders-length = stands .holders-length;
+    }
+
+  pub forget-13 : isFreed (kindOf (x .address .kind)) ≡ true → step base (edition1 (base .segments)) standing (forget h) ≡ refused 13
+  unfolding step
+  forget-13 e = when-true 13 _ (spent-freed standing h (ap isFreed (coded .kind) ∙ e))
+
+  -- ---- written
+
+  module _ (v b : ℕ) (y : Known) (new : Coded b y) (is : addressOf (y .address) ≡ address slot (allocatedKind (kindOf (x .address .kind)))) (written : y .written ≡ true) (l : h < handed) (known : h < length handles)
+      (held : standing .handles h .held ≡ true) where
+    pub write-works : (drained : List ℕ) → Works (write h v) 0x10 s handles holders handed (record { state = s; handed = handed; adds = Store (x .address .slot) v }) (set handles h b) holders drained
+    unfolding step
+    write-works drained = record {
+      does =
+          when-false 13 _ (is-known standing h l) ∙ when-false 14 _ (ap not held)
+          ∙ λ t. oneLine (stores (coded .slot t) v) (set-changed b y new (ap (λ (a : Address). a .slot) is) known (allocatedKind (standing .handles h .kind)) true
+          (ap (λ (a : Address). a .kind) is ∙ ap allocatedKind (sym (coded .kind))) written t);
+      whole = stands .whole;
+      few = tt;
+      handles-length = now-long b y new (ap (λ (a : Address). a .slot) is) known;
+      holders-length = stands .holders-length;
+    }
+
+  pub write-14 : (v : ℕ) → h < handed → standing .handles h .held ≡ false → step base (edition1 (base .segments)) standing (write h v) ≡ refused 14
+  unfolding step
+  write-14 v l e = when-false 13 _ (is-known standing h l) ∙ when-true 14 _ (ap not e)
+
+  -- ---- loaded
+
+  module _ (f : Frame) (o : ℕ) (loads-it : LoadsOf f o s handles holders handed h) where
+    pub load-14 : standing .handles h .held ≡ false → step base (edition1 (base .segments)) standing f ≡ refused 14
+    load-14 e = loads-it ∙ when-true 14 _ (ap not e)
+
+    pub load-15 : standing .handles h .held ≡ true → x .written ≡ false → step base (edition1 (base .segments)) standing f ≡ refused 15
+    load-15 e w = loads-it ∙ when-false 14 _ (ap not e) ∙ when-true 15 _ (ap not (coded .written ∙ w))
+
+    pub load-works : standing .handles h .held ≡ true → x .written ≡ true → (drained : List ℕ) → Works f o s handles holders handed (record { state = s; handed = handed; adds = Load (x .address .slot) }) handles holders drained
+    load-works e w drained = record {
+      does = loads-it ∙ when-false 14 _ (ap not e) ∙ when-false 15 _ (ap not (coded .written ∙ w)) ∙ λ t. oneLine (loads o (coded .slot t)) standing;
+      whole = stands .whole;
+      few = tt;
+      handles-length = stands .handles-length;
+      holders-length = stands .holders-length;
+    }
+
+-- ---- of a handle that was never handed out
+
+module _ (t : State) (h : ℕ) (l : t .handed ≤ h) where
+  pub forget-unknown : step base (edition1 (base .segments)) t (forget h) ≡ refused 13
+  unfolding step
+  forget-unknown = when-true 13 _ (spent-unknown t h l)
+
+  pub write-unknown : (v : ℕ) → step base (edition1 (base .segments)) t (write h v) ≡ refused 13
+  unfolding step
+  write-unknown v = when-true 13 _ (is-unknown t h l)
+
+  pub read-unknown : step base (edition1 (base .segments)) t (read h) ≡ refused 13
+  unfolding step
+  read-unknown = when-true 13 _ (is-unknown t h l)
+
+-- read of a handle that was handed out is its load
+pub read-loads : {s : Scopes} {handles holders : List ℕ} {handed : ℕ} → Stands s handles holders handed → (h : ℕ) → h < handed → LoadsOf (read h) 0x11 s handles holders handed h
+unfolding step
+read-loads {s} {handles} {holders} {handed} stands h l = when-false 13 _ (is-known (stateOf (view s) handles holders handed) h l)

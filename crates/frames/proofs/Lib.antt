@@ -1,0 +1,11 @@
+pub mod Changes
+pub mod Packing
+pub mod Grants
+pub mod Moving
+pub mod Meant
+pub mod Allotting
+pub mod Allocations
+pub mod Handling
+pub mod Reading
+pub mod Freeing
+pub mod Opcodes

@@ -1,0 +1,168 @@
+-- One step of the code as a step of the rules: what it adds to the list, and where the script stands then. Assumes nothing.
+use mathlib.Core.Path.{_≡_}
+use mathlib.Core.Bool.{Bool, true, false, not}
+use mathlib.Core.Option.{none}
+use mathlib.Core.List.{List, [], _∷_}
+use Prim.Native.Nat.{ℕ, _+_, _%_, _≤_, _<_}
+use lib.ListN.{length, take}
+use Rattle.rules.specs.Notation.{refused, _>>=_, refuse_when_}
+use Rattle.rules.specs.Sizes.{base}
+use Rattle.rules.specs.Slots.{edition1}
+use Rattle.rules.specs.Scopes as scope
+use Rattle.rules.specs.Frames as rules
+use Rattle.rules.specs.Frames.{stores, loads, shows, oneLine}
+use Rattle.rules.proofs.Sound.{StateSound}
+use Rattle.scopes.specs.declared.Scopes.{Scopes}
+use Rattle.scopes.specs.declared.ScopeId.{ScopeId}
+use Rattle.scopes.specs.declared.Numbers.{Numbers}
+use Rattle.scopes.specs.declared.Reply.{Reply}
+use Rattle.scopes.specs.declared.Reply.the-variants as reply
+use Rattle.scopes.specs.View.{view, idOf}
+use Rattle.scopes.specs.Lent.{numbersOf, made, Whole}
+use Rattle.slots.specs.declared.SlotAddress.{SlotAddress}
+use Rattle.needs.specs.Kinds.{kindOf}
+use Rattle.needs.specs.declared.AddressKind.{AddressKind}
+use Rattle.frames.specs.Handles.{stateOf, Hands}
+use Rattle.frames.specs.declared.steps.Adds.{Adds}
+use Rattle.frames.specs.declared.steps.Adds.the-variants.{Nothing, One, Store, Load, Drained, Refused}
+use Rattle.frames.specs.declared.steps.Stepped.{Stepped}
+
+-- ---- what a step adds to the list, of opcode o; a drain's addresses are the first of `drained`
+
+abbrev pub stepped : ℕ → Adds → rules.State → List ℕ → rules.Step
+stepped o Nothing t drained = oneLine (shows o []) t
+stepped o (One a) t drained = oneLine (shows o (a ∷ [])) t
+stepped o (Store a v) t drained = oneLine (stores (a .0) v) t
+stepped o (Load a) t drained = oneLine (loads o (a .0)) t
+stepped o (Drained n) t drained = oneLine (shows 0x0f (n ∷ take n drained)) t
+stepped o (Refused n) t drained = refused n
+
+-- "01 adds its number; 06, 07, 0a, 0b add the address; 08 the first address or `ffff`"; a script's numbers are below 65,536
+abbrev pub addsOf : Reply → Adds
+addsOf reply.Done = Nothing
+addsOf (reply.At a) = One (a .0)
+addsOf reply.Empty = One 0xffff
+addsOf (reply.Opened i) = One (i .number % 65536)
+addsOf (reply.Found b) = One (b .address .0)
+addsOf (reply.Refused n) = Refused n
+
+-- the slot that was answered, or a number that no slot has
+abbrev pub slotOr : Reply → ℕ
+slotOr reply.Done = 65535
+slotOr (reply.At a) = a .0
+slotOr reply.Empty = 65535
+slotOr (reply.Opened i) = 65535
+slotOr (reply.Found b) = 65535
+slotOr (reply.Refused n) = 65535
+
+-- the handle that was answered, or a number that no handle has
+abbrev pub handleOr : Reply → ℕ
+handleOr reply.Done = 65535
+handleOr (reply.At a) = 65535
+handleOr reply.Empty = 65535
+handleOr (reply.Opened i) = 65535
+handleOr (reply.Found b) = b .handle .0
+handleOr (reply.Refused n) = 65535
+
+-- a drain's addresses stand in a table of 1,024
+abbrev pub Few : Adds → Type 0
+Few Nothing = Unit {0}
+Few (One a) = Unit {0}
+Few (Store a v) = Unit {0}
+Few (Load a) = Unit {0}
+Few (Drained n) = n ≤ 1024
+Few (Refused n) = Unit {0}
+
+-- ---- steps
+
+-- freeing with dangling is 0c, without it 0d
+abbrev pub freeing : Bool → ℕ → rules.Frame
+freeing true h = rules.free h
+freeing false h = rules.freeQuietly h
+
+abbrev pub freeCode : Bool → ℕ
+freeCode true = 0x0c
+freeCode false = 0x0d
+
+-- where a script stands
+pub record Stands (s : Scopes) (handles holders : List ℕ) (handed : ℕ) : Type 0 where
+  pub whole : Whole s
+  pub state : StateSound base (stateOf (view s) handles holders handed)
+  pub counted : s .counter < 65536
+  pub handles-length : length handles ≡ 2048
+  pub holders-length : length holders ≡ 1024
+
+-- where a step leads: the state, how many handles were handed out, and what its line adds
+pub record Reached : Type 0 where
+  pub state : Scopes
+  pub handed : ℕ
+  pub adds : Adds
+
+-- The frame f, of opcode o, leads from the state and the tables before it to r and the tables after it, as the rules say. After a
+-- refusal nothing is said of them: the translation ends.
+pub record Works (f : rules.Frame) (o : ℕ) (s : Scopes) (handles holders : List ℕ) (handed : ℕ) (r : Reached) (handles′ holders′ drained : List ℕ) : Type 0 where
+  pub does : rules.step base (edition1 (base .segments)) (stateOf (view s) handles holders handed) f
+      ≡ stepped o (r .adds) (stateOf (view (r .state)) handles′ holders′ (r .handed)) drained
+  pub whole : Whole (r .state)
+  pub few : Few (r .adds)
+  pub handles-length : length handles′ ≡ 2048
+  pub holders-length : length holders′ ≡ 1024
+
+-- ---- what the functions over lent arrays promise, of any state s that has those arrays
+
+-- the state s, with the arrays that a group of frames is lent
+abbrev pub onHalves : Scopes → List ℕ → Scopes
+onHalves s halves = made halves (s .links) (s .owner) (s .live) (s .dangled) (s .parent) (s .number) (s .bindings) (numbersOf s)
+
+abbrev pub onNumbered : Scopes → List Bool → List ℕ → Scopes
+onNumbered s live number = made (s .halves) (s .links) (s .owner) live (s .dangled) (s .parent) number (s .bindings) (numbersOf s)
+
+abbrev pub onAllots : Scopes → (halves links owner : List ℕ) (live : List Bool) (number : List ℕ) → Numbers → Scopes
+onAllots s halves links owner live number n = made halves links owner live (s .dangled) (s .parent) number (s .bindings) n
+
+abbrev pub onFrees : Scopes → (halves links owner number : List ℕ) → Numbers → Scopes
+onFrees s halves links owner number n = made halves links owner (s .live) (s .dangled) (s .parent) number (s .bindings) n
+
+abbrev pub onNames : Scopes → List Bool → (parent bindings : List ℕ) → Numbers → Scopes
+onNames s live parent bindings n = made (s .halves) (s .links) (s .owner) live (s .dangled) parent (s .number) bindings n
+
+abbrev pub onCells : Scopes → List ℕ → List Bool → (parent bindings : List ℕ) → Numbers → Scopes
+onCells s halves live parent bindings n = made halves (s .links) (s .owner) live (s .dangled) parent (s .number) bindings n
+
+-- what is asked where the state doesn't matter
+pub record Tables (handles : List ℕ) (handed : ℕ) : Type 0 where
+  pub most : handed ≤ 2048
+  pub long : length handles ≡ 2048
+
+-- the state becomes t
+abbrev pub Leads : rules.Frame → ℕ → Scopes → Scopes → List ℕ → List ℕ → ℕ → Stepped → List ℕ → List ℕ → Type 0
+Leads f o s t handles holders handed r handles′ holders′ =
+    Stands s handles holders handed → (drained : List ℕ) → Works f o s handles holders handed (record { state = t; handed = r .handed; adds = r .adds }) handles′ holders′ drained
+
+-- the state, the holders and the count of handles stay
+abbrev pub Stays : rules.Frame → ℕ → Scopes → List ℕ → List ℕ → ℕ → Adds → List ℕ → Type 0
+Stays f o s handles holders handed adds handles′ =
+    Stands s handles holders handed → (drained : List ℕ) → Works f o s handles holders handed (record { state = s; handed = handed; adds = adds }) handles′ holders drained
+
+-- by the id r the rules find what they find by the number n; there is none where its index is 255
+pub record Means (s : Scopes) (n : ℕ) (r : ScopeId) : Type 0 where
+  pub is : scope.byId base (view s) (idOf r) ≡ scope.byNumber base (view s) n
+  pub nowhere : scope.byNumber base (view s) n ≡ none → r .index ≡ 255
+
+-- 14, 15, then the load
+abbrev pub loading : ℕ → rules.State → ℕ → rules.Step
+loading o t h = do
+  _ ← refuse 14 when (not (t .handles h .held))
+  _ ← refuse 15 when (not (t .handles h .written))
+  oneLine (loads o (t .handles h .address)) t
+
+-- n slots were asked for, and y was answered: their handles, all of one kind
+pub record Grants (y : Reply) (handed n : ℕ) (k : AddressKind) (handed′ : ℕ) (adds : Adds) (handles handles′ holders holders′ : List ℕ) : Type 0 where
+  pub says : adds ≡ addsOf y
+  pub hands : (a : SlotAddress) → y ≡ reply.At a → (handed′ ≡ handed + n) × Hands handles handles′ holders holders′ handed n (a .0) (kindOf k)
+  pub handles-length : length handles′ ≡ 2048
+  pub holders-length : length holders′ ≡ 1024
+
+-- the frame f, of opcode o, loads what handle h holds: 14, 15
+abbrev pub LoadsOf : rules.Frame → ℕ → Scopes → List ℕ → List ℕ → ℕ → ℕ → Type 0
+LoadsOf f o s handles holders handed h = rules.step base (edition1 (base .segments)) (stateOf (view s) handles holders handed) f ≡ loading o (stateOf (view s) handles holders handed) h

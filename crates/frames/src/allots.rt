@@ -1,0 +1,159 @@
+// 06 alloc, 07 alloc in, 08 linear: slots and their handles. 3 or 4, then 16, then 7.
+ghost use mathlib.Core.Path.{_≡_};
+ghost use Prim.Native.Nat.{ℕ, _+_, _≤_, _<_};
+ghost use lib.ListN.{length};
+ghost use Rattle.rules.specs.Needs.{runKind};
+ghost use Rattle.rules.specs.Frames as frame;
+ghost use Rattle.scopes.specs.Lent.{withSlots};
+ghost use Rattle.needs.specs.Kinds.{kindOf};
+ghost use Rattle.frames.specs.Steps.{slotOr, onAllots, Stands, Leads, Grants};
+use crate::handles::grant;
+use crate::steps::Adds;
+use crate::steps::Stepped;
+use crate::steps::adds_of;
+use crate::steps::meant;
+use crate::steps::refused;
+use needs::AddressKind;
+use scopes::LentOutcome;
+use scopes::Numbers;
+use scopes::Reply;
+use scopes::Scopes;
+use scopes::lent::place;
+use slots::SlotAddress;
+
+// The slot that was answered; 65,535 where there is none.
+fn slot_or(reply: Reply) -> usize
+    ensures { λ r. ⌜ r ≡ slotOr reply ⌝ }
+{
+    match reply {
+        Reply::At(a) => a.0 as usize,
+        Reply::Done => 65535,
+        Reply::Empty => 65535,
+        Reply::Opened(_) => 65535,
+        Reply::Found(_) => 65535,
+        Reply::Refused(_) => 65535,
+    }
+}
+
+// Slots were asked for, `many` of them: where they were given, as many handles go out.
+fn granted(
+    o: LentOutcome,
+    handles: &mut [u64; 2048],
+    holders: &mut [u16; 1024],
+    handed: usize,
+    many: usize,
+    kind: AddressKind,
+) -> Stepped
+    requires { ⌜ (handed + many ≤ 2048) × (length (now handles) ≡ 2048) × (length (now holders) ≡ 1024) ⌝ }
+    requires { ⌜ ((a : SlotAddress) → o .reply ≡ Reply.At a → (a .0 < 1024) × (a .0 + many ≤ 1024)) ⌝ }
+    ensures { λ r. ⌜ (r .numbers ≡ o .numbers) × Grants (o .reply) handed many kind (r .handed) (r .adds) (now (handles .entry)) (now (handles .exit)) (now (holders .entry)) (now (holders .exit)) ⌝ }
+{
+    let n = o.numbers;
+    let reply = o.reply;
+    let adds = adds_of(reply);
+    let first = slot_or(reply);
+    if first < 1024 {
+        grant(handles, holders, handed, many, first, kind);
+        return Stepped {
+            numbers: n,
+            handed: handed + many,
+            adds,
+        };
+    }
+    Stepped {
+        numbers: n,
+        handed,
+        adds,
+    }
+}
+
+pub fn alloc(
+    halves: &mut [u64; 16],
+    links: &mut [u16; 2178],
+    owner: &mut [u8; 1024],
+    n: Numbers,
+    handles: &mut [u64; 2048],
+    holders: &mut [u16; 1024],
+    handed: usize,
+) -> Stepped
+    requires { ⌜ ((s : Scopes) × Stands (withSlots s (now halves) (now links) (now owner) n) (now handles) (now holders) handed) ⌝ }
+    ensures { λ r. ⌜ ((s : Scopes) → Leads frame.alloc 0x06 (withSlots s (now (halves .entry)) (now (links .entry)) (now (owner .entry)) n) (withSlots s (now (halves .exit)) (now (links .exit)) (now (owner .exit)) (r .numbers)) (now (handles .entry)) (now (holders .entry)) handed r (now (handles .exit)) (now (holders .exit))) ⌝ }
+{
+    let top = n.top;
+    if top == 64 {
+        return refused(n, handed, 3);
+    }
+    if 2048 <= handed {
+        return refused(n, handed, 16);
+    }
+    let o = place::alloc(halves, links, owner, n);
+    granted(o, handles, holders, handed, 1, AddressKind::Local)
+}
+
+pub fn alloc_in<'a>(
+    halves: &mut [u64; 16],
+    links: &mut [u16; 2178],
+    owner: &mut [u8; 1024],
+    live: &'a [bool; 64],
+    number: &'a [u32; 64],
+    n: Numbers,
+    handles: &mut [u64; 2048],
+    holders: &mut [u16; 1024],
+    handed: usize,
+    k: u16,
+) -> Stepped
+    requires { ⌜ ((s : Scopes) × Stands (onAllots s (now halves) (now links) (now owner) (now live) (now number) n) (now handles) (now holders) handed) ⌝ }
+    ensures { λ r. ⌜ ((s : Scopes) → Leads (frame.allocIn k) 0x07 (onAllots s (now (halves .entry)) (now (links .entry)) (now (owner .entry)) (now (live .entry)) (now (number .entry)) n) (onAllots s (now (halves .exit)) (now (links .exit)) (now (owner .exit)) (now (live .entry)) (now (number .entry)) (r .numbers)) (now (handles .entry)) (now (holders .entry)) handed r (now (handles .exit)) (now (holders .exit))) ⌝ }
+{
+    let id = meant(live, number, k);
+    if id.index == 255 {
+        return refused(n, handed, 4);
+    }
+    if 2048 <= handed {
+        return refused(n, handed, 16);
+    }
+    let o = place::alloc_in(halves, links, owner, live, number, n, id);
+    granted(o, handles, holders, handed, 1, AddressKind::Scope(id))
+}
+
+// "a run of n ≥ 2 Dangling, a run of 1 Local"
+fn run_kind(n: u16) -> AddressKind
+    ensures { λ r. ⌜ kindOf r ≡ runKind n ⌝ }
+{
+    if n == 1 {
+        return AddressKind::Local;
+    }
+    AddressKind::Dangling
+}
+
+pub fn linear(
+    halves: &mut [u64; 16],
+    links: &mut [u16; 2178],
+    owner: &mut [u8; 1024],
+    n: Numbers,
+    handles: &mut [u64; 2048],
+    holders: &mut [u16; 1024],
+    handed: usize,
+    k: u16,
+) -> Stepped
+    requires { ⌜ ((s : Scopes) × Stands (withSlots s (now halves) (now links) (now owner) n) (now handles) (now holders) handed) ⌝ }
+    ensures { λ r. ⌜ ((s : Scopes) → Leads (frame.linear k) 0x08 (withSlots s (now (halves .entry)) (now (links .entry)) (now (owner .entry)) n) (withSlots s (now (halves .exit)) (now (links .exit)) (now (owner .exit)) (r .numbers)) (now (handles .entry)) (now (holders .entry)) handed r (now (handles .exit)) (now (holders .exit))) ⌝ }
+{
+    let top = n.top;
+    if top == 64 {
+        return refused(n, handed, 3);
+    }
+    if k == 0 {
+        return Stepped {
+            numbers: n,
+            handed,
+            adds: Adds::One(0xffff),
+        };
+    }
+    let many = k as usize;
+    if 2048 < handed + many {
+        return refused(n, handed, 16);
+    }
+    let o = place::alloc_run(halves, links, owner, n, k);
+    granted(o, handles, holders, handed, many, run_kind(k))
+}

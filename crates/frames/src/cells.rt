@@ -1,0 +1,133 @@
+// 10 write, 11 read, 12 read name: frames that leave the state alone.
+ghost use mathlib.Core.Path.{_≡_};
+ghost use Prim.Native.Nat.{ℕ, _<_};
+ghost use Rattle.rules.specs.Frames as frame;
+ghost use Rattle.frames.specs.Steps.{handleOr, onHalves, onCells, Stands, Stays, LoadsOf};
+use crate::handles::Handle;
+use crate::handles::is_held;
+use crate::handles::packed;
+use crate::handles::unpacked;
+use crate::steps::Adds;
+use crate::steps::adds_of;
+use needs::addresses::allocated;
+use scopes::HandleNumber;
+use scopes::Numbers;
+use scopes::Reply;
+use scopes::Scopes;
+use scopes::lent::names;
+
+// 13, 14. A write makes a Dangling handle Local.
+pub fn write(
+    halves: &[u64; 16],
+    handles: &mut [u64; 2048],
+    holders: &[u16; 1024],
+    handed: usize,
+    h: HandleNumber,
+    v: u16,
+) -> Adds
+    requires { ⌜ ((s : Scopes) × Stands (onHalves s (now halves)) (now handles) (now holders) handed) ⌝ }
+    ensures { λ r. ⌜ ((s : Scopes) → Stays (frame.write (h .0) v) 0x10 (onHalves s (now (halves .entry))) (now (handles .entry)) (now (holders .entry)) handed r (now (handles .exit))) ⌝ }
+{
+    let i = h.0 as usize;
+    if handed <= i {
+        return Adds::Refused(13);
+    }
+    let x = unpacked(handles[i]);
+    let address = x.address;
+    let slot = address.slot;
+    let a = slot.0 as usize;
+    let holder = holders[a];
+    if !is_held(halves, a, holder, h.0) {
+        return Adds::Refused(14);
+    }
+    handles[i] = packed(Handle {
+        address: allocated(address),
+        written: true,
+    });
+    Adds::Store(slot, v)
+}
+
+// The load of handle h, which is known: 14, 15.
+fn load(
+    halves: &[u64; 16],
+    handles: &[u64; 2048],
+    holders: &[u16; 1024],
+    handed: usize,
+    h: HandleNumber,
+) -> Adds
+    requires { ⌜ ((s : Scopes) × Stands (onHalves s (now halves)) (now handles) (now holders) handed) × (h .0 < handed) ⌝ }
+    ensures { λ r. ⌜ ((f : frame.Frame) (o : ℕ) (s : Scopes) → LoadsOf f o (onHalves s (now (halves .entry))) (now (handles .entry)) (now (holders .entry)) handed (h .0) → Stays f o (onHalves s (now (halves .entry))) (now (handles .entry)) (now (holders .entry)) handed r (now (handles .entry))) ⌝ }
+{
+    let i = h.0 as usize;
+    let x = unpacked(handles[i]);
+    let address = x.address;
+    let slot = address.slot;
+    let a = slot.0 as usize;
+    let holder = holders[a];
+    if !is_held(halves, a, holder, h.0) {
+        return Adds::Refused(14);
+    }
+    if x.written {
+        return Adds::Load(slot);
+    }
+    Adds::Refused(15)
+}
+
+// 13, 14, 15.
+pub fn read(
+    halves: &[u64; 16],
+    handles: &[u64; 2048],
+    holders: &[u16; 1024],
+    handed: usize,
+    h: HandleNumber,
+) -> Adds
+    requires { ⌜ ((s : Scopes) × Stands (onHalves s (now halves)) (now handles) (now holders) handed) ⌝ }
+    ensures { λ r. ⌜ ((s : Scopes) → Stays (frame.read (h .0)) 0x11 (onHalves s (now (halves .entry))) (now (handles .entry)) (now (holders .entry)) handed r (now (handles .entry))) ⌝ }
+{
+    let i = h.0 as usize;
+    if handed <= i {
+        return Adds::Refused(13);
+    }
+    load(halves, handles, holders, handed, h)
+}
+
+// The handle of the binding that was answered; 65,535 where there is none.
+fn handle_or(reply: Reply) -> u16
+    ensures { λ r. ⌜ r ≡ handleOr reply ⌝ }
+{
+    match reply {
+        Reply::Found(b) => {
+            let h = b.handle;
+            h.0
+        }
+        Reply::Done => 65535,
+        Reply::At(_) => 65535,
+        Reply::Empty => 65535,
+        Reply::Opened(_) => 65535,
+        Reply::Refused(_) => 65535,
+    }
+}
+
+// 3, 10, 11, 14, 15.
+pub fn read_name<'a>(
+    halves: &[u64; 16],
+    live: &'a [bool; 64],
+    parent: &'a [u8; 64],
+    bindings: &'a [u64; 256],
+    n: Numbers,
+    handles: &[u64; 2048],
+    holders: &[u16; 1024],
+    handed: usize,
+    name: u16,
+) -> Adds
+    requires { ⌜ ((s : Scopes) × Stands (onCells s (now halves) (now live) (now parent) (now bindings) n) (now handles) (now holders) handed) ⌝ }
+    ensures { λ r. ⌜ ((s : Scopes) → Stays (frame.readName name) 0x12 (onCells s (now (halves .entry)) (now (live .entry)) (now (parent .entry)) (now (bindings .entry)) n) (now (handles .entry)) (now (holders .entry)) handed r (now (handles .entry))) ⌝ }
+{
+    let reply = names::get(live, parent, bindings, n, name);
+    let k = handle_or(reply);
+    let i = k as usize;
+    if handed <= i {
+        return adds_of(reply);
+    }
+    load(halves, handles, holders, handed, HandleNumber(k))
+}

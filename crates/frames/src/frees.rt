@@ -1,0 +1,151 @@
+// 0c free, 0d free without dangling, 0e forget.
+ghost use mathlib.Core.Path.{_≡_};
+ghost use mathlib.Core.Bool.{true, false};
+ghost use mathlib.Core.List.{List};
+ghost use Prim.Native.Nat.{ℕ, _<_};
+ghost use lib.ListN.{getD};
+ghost use Rattle.rules.specs.Needs.{isFreed, goesBack};
+ghost use Rattle.rules.specs.Frames as frame;
+ghost use Rattle.scopes.specs.View.{view};
+ghost use Rattle.scopes.specs.Lent.{withSlots};
+ghost use Rattle.needs.specs.Kinds.{kindOf};
+ghost use Rattle.frames.specs.Handles.{Coded, freedAs};
+ghost use Rattle.frames.specs.Steps.{freeing, freeCode, onFrees, Tables, Stands, Leads, Stays};
+use crate::handles::Handle;
+use crate::handles::is_held;
+use crate::handles::packed;
+use crate::handles::unpacked;
+use crate::steps::Adds;
+use crate::steps::Stepped;
+use crate::steps::ended;
+use crate::steps::refused;
+use needs::Address;
+use needs::AddressKind;
+use needs::addresses::goes_back;
+use needs::addresses::is_done;
+use needs::addresses::is_freed;
+use scopes::HandleNumber;
+use scopes::Numbers;
+use scopes::Scopes;
+use scopes::lent::place;
+
+// The same handle, with its kind Freed, in one number.
+fn forgotten(x: Handle) -> u64
+    requires { ⌜ x .address .slot .0 < 1024 ⌝ }
+    ensures { λ r. ⌜ Coded r (freedAs x) ⌝ }
+{
+    let address = x.address;
+    let slot = address.slot;
+    packed(Handle {
+        address: Address {
+            slot,
+            kind: AddressKind::Freed,
+        },
+        written: x.written,
+    })
+}
+
+// The slot of h, which is known as x, goes back: 14, 12.
+fn hand_back(
+    halves: &mut [u64; 16],
+    links: &mut [u16; 2178],
+    owner: &mut [u8; 1024],
+    n: Numbers,
+    handles: &mut [u64; 2048],
+    holders: &[u16; 1024],
+    handed: usize,
+    h: HandleNumber,
+    x: Handle,
+    dangles: bool,
+) -> Stepped
+    requires { ⌜ ((s : Scopes) × Stands (withSlots s (now halves) (now links) (now owner) n) (now handles) (now holders) handed) × (h .0 < handed) × Coded (getD (now handles) (h .0) 0) x × (isFreed (kindOf (x .address .kind)) ≡ false) ⌝ }
+    ensures { λ r. ⌜ ((s : Scopes) → goesBack (view (withSlots s (now (halves .entry)) (now (links .entry)) (now (owner .entry)) n)) (kindOf (x .address .kind)) ≡ true → Leads (freeing dangles (h .0)) (freeCode dangles) (withSlots s (now (halves .entry)) (now (links .entry)) (now (owner .entry)) n) (withSlots s (now (halves .exit)) (now (links .exit)) (now (owner .exit)) (r .numbers)) (now (handles .entry)) (now (holders .entry)) handed r (now (handles .exit)) (now (holders .entry))) ⌝ }
+{
+    let address = x.address;
+    let slot = address.slot;
+    let a = slot.0 as usize;
+    let holder = holders[a];
+    if !is_held(halves, a, holder, h.0) {
+        return refused(n, handed, 14);
+    }
+    let o = place::give_back(halves, links, owner, n, slot, dangles);
+    let m = o.numbers;
+    let reply = o.reply;
+    if !is_done(reply) {
+        return ended(o, handed);
+    }
+    let i = h.0 as usize;
+    handles[i] = forgotten(x);
+    Stepped {
+        numbers: m,
+        handed,
+        adds: Adds::Nothing,
+    }
+}
+
+// 13, then where the slot goes back 14, 12.
+pub fn free(
+    halves: &mut [u64; 16],
+    links: &mut [u16; 2178],
+    owner: &mut [u8; 1024],
+    number: &[u32; 64],
+    n: Numbers,
+    handles: &mut [u64; 2048],
+    holders: &[u16; 1024],
+    handed: usize,
+    h: HandleNumber,
+    dangles: bool,
+) -> Stepped
+    requires { ⌜ ((s : Scopes) × Stands (onFrees s (now halves) (now links) (now owner) (now number) n) (now handles) (now holders) handed) ⌝ }
+    ensures { λ r. ⌜ ((s : Scopes) → Leads (freeing dangles (h .0)) (freeCode dangles) (onFrees s (now (halves .entry)) (now (links .entry)) (now (owner .entry)) (now (number .entry)) n) (onFrees s (now (halves .exit)) (now (links .exit)) (now (owner .exit)) (now (number .entry)) (r .numbers)) (now (handles .entry)) (now (holders .entry)) handed r (now (handles .exit)) (now (holders .entry))) ⌝ }
+{
+    let i = h.0 as usize;
+    if handed <= i {
+        return refused(n, handed, 13);
+    }
+    let x = unpacked(handles[i]);
+    let address = x.address;
+    let kind = address.kind;
+    if is_freed(kind) {
+        return refused(n, handed, 13);
+    }
+    if goes_back(number, n.top, kind) {
+        return hand_back(
+            halves,
+            links,
+            owner,
+            n,
+            handles,
+            holders,
+            handed,
+            h,
+            x,
+            dangles,
+        );
+    }
+    handles[i] = forgotten(x);
+    Stepped {
+        numbers: n,
+        handed,
+        adds: Adds::Nothing,
+    }
+}
+
+// 13.
+pub fn forget(handles: &mut [u64; 2048], handed: usize, h: HandleNumber) -> Adds
+    requires { ⌜ Tables (now handles) handed ⌝ }
+    ensures { λ r. ⌜ ((s : Scopes) (holders : List ℕ) → Stays (frame.forget (h .0)) 0x0e s (now (handles .entry)) holders handed r (now (handles .exit))) ⌝ }
+{
+    let i = h.0 as usize;
+    if handed <= i {
+        return Adds::Refused(13);
+    }
+    let x = unpacked(handles[i]);
+    let address = x.address;
+    let kind = address.kind;
+    if is_freed(kind) {
+        return Adds::Refused(13);
+    }
+    handles[i] = forgotten(x);
+    Adds::Nothing
+}

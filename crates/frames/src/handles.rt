@@ -1,0 +1,156 @@
+// The handles of a script: each in one number of a table, and for each slot the handle that took it last.
+ghost use mathlib.Core.Path.{_≡_};
+ghost use mathlib.Core.Bool.{_&&_};
+ghost use Prim.Native.Nat.{ℕ, _+_, _≤_, _<_};
+ghost use lib.Dec.{eqb};
+ghost use lib.ListN.{length};
+ghost use Rattle.slots.specs.Halves.{occ};
+ghost use Rattle.scopes.specs.View.{idOf};
+ghost use Rattle.needs.specs.Kinds.{kindOf};
+ghost use Rattle.frames.specs.Handles.{Coded, kindCoded, codeOfKind, idOfKind, Hands};
+use needs::Address;
+use needs::AddressKind;
+use scopes::ScopeId;
+use slots::SlotAddress;
+use slots::halves;
+
+// An allocation, as its handle knows it; whether it is held, the slot tells.
+pub struct Handle {
+    pub address: Address,
+    pub written: bool,
+}
+
+// ---- a handle in one number
+
+fn code_of(kind: AddressKind) -> u64
+    ensures { λ r. ⌜ r ≡ codeOfKind kind ⌝ }
+{
+    match kind {
+        AddressKind::Local => 1,
+        AddressKind::Dangling => 2,
+        AddressKind::Assigned => 3,
+        AddressKind::Freed => 0,
+        AddressKind::Scope(_) => 4,
+    }
+}
+
+fn id_of(kind: AddressKind) -> ScopeId
+    ensures { λ r. ⌜ r ≡ idOfKind kind ⌝ }
+{
+    match kind {
+        AddressKind::Local => ScopeId {
+            index: 0,
+            number: 0,
+        },
+        AddressKind::Dangling => ScopeId {
+            index: 0,
+            number: 0,
+        },
+        AddressKind::Assigned => ScopeId {
+            index: 0,
+            number: 0,
+        },
+        AddressKind::Freed => ScopeId {
+            index: 0,
+            number: 0,
+        },
+        AddressKind::Scope(id) => id,
+    }
+}
+
+fn kind_from(code: u64, id: ScopeId) -> AddressKind
+    ensures { λ r. ⌜ kindOf r ≡ kindCoded code (idOf id) ⌝ }
+{
+    if code == 1 {
+        return AddressKind::Local;
+    }
+    if code == 2 {
+        return AddressKind::Dangling;
+    }
+    if code == 3 {
+        return AddressKind::Assigned;
+    }
+    if code == 4 {
+        return AddressKind::Scope(id);
+    }
+    AddressKind::Freed
+}
+
+fn one_if(b: bool) -> u64
+    ensures { λ r. ⌜ (r < 2) × (eqb r 1 ≡ b) ⌝ }
+{
+    if b { 1 } else { 0 }
+}
+
+pub fn packed(x: Handle) -> u64
+    requires { ⌜ x .address .slot .0 < 1024 ⌝ }
+    ensures { λ r. ⌜ Coded r x ⌝ }
+{
+    let address = x.address;
+    let kind = address.kind;
+    let at = address.slot;
+    let slot = at.0 as u64;
+    let id = id_of(kind);
+    let place = ((id.number as u64) * 256 + (id.index as u64)) * 65536 + slot;
+    (place * 8 + code_of(kind)) * 2 + one_if(x.written)
+}
+
+pub fn unpacked(b: u64) -> Handle
+    ensures { λ r. ⌜ Coded b r ⌝ }
+{
+    let id = ScopeId {
+        index: (b / 1048576 % 256) as u8,
+        number: (b / 268435456 % 4294967296) as u32,
+    };
+    let kind = kind_from(b / 2 % 8, id);
+    let slot = SlotAddress((b / 16 % 1024) as u16);
+    Handle {
+        address: Address { slot, kind },
+        written: b % 2 == 1,
+    }
+}
+
+// ---- held
+
+// Slot a is occupied, and `holder`, which took it last, is the handle h.
+pub fn is_held(halves: &[u64; 16], a: usize, holder: u16, h: u16) -> bool
+    requires { ⌜ a < 1024 ⌝ }
+    ensures { λ r. ⌜ r ≡ (occ (now (halves .entry)) a && eqb holder h) ⌝ }
+{
+    if halves::occupied(halves, a) {
+        return holder == h;
+    }
+    false
+}
+
+// ---- handed out
+
+// n handles from `handed` on, for the n slots from a on.
+pub fn grant(
+    handles: &mut [u64; 2048],
+    holders: &mut [u16; 1024],
+    handed: usize,
+    n: usize,
+    a: usize,
+    kind: AddressKind,
+)
+    requires { ⌜ (handed + n ≤ 2048) × (a + n ≤ 1024) × (length (now handles) ≡ 2048) × (length (now holders) ≡ 1024) ⌝ }
+    ensures { λ _. ⌜ Hands (now (handles .entry)) (now (handles .exit)) (now (holders .entry)) (now (holders .exit)) handed n a (kindOf kind) ⌝ }
+    ensures { λ _. ⌜ (length (now (handles .exit)) ≡ 2048) × (length (now (holders .exit)) ≡ 1024) ⌝ }
+{
+    let mut i: usize = 0;
+    while i < n {
+        let slot = a + i;
+        let h = handed + i;
+        let b = packed(Handle {
+            address: Address {
+                slot: SlotAddress(slot as u16),
+                kind,
+            },
+            written: false,
+        });
+        handles[h] = b;
+        holders[slot] = h as u16;
+        i += 1;
+    }
+}

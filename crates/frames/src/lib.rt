@@ -1,0 +1,9 @@
+// One step for each frame of a script, over the lent arrays of the state and the handles.
+pub mod handles; // handles as numbers of a table
+pub mod steps; // what a step is
+pub mod scoped; // 01 to 05
+pub mod allots; // 06 to 08
+pub mod named; // 09 to 0b
+pub mod frees; // 0c to 0e
+pub mod cells; // 10 to 12
+pub mod dispatch; // one step, by its opcode; 0f

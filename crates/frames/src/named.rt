@@ -1,0 +1,79 @@
+// 09 define, 0a get, 0b take.
+ghost use mathlib.Core.Path.{_≡_};
+ghost use mathlib.Core.List.{List};
+ghost use Prim.Native.Nat.{ℕ, _≤_};
+ghost use Rattle.rules.specs.Frames as frame;
+ghost use Rattle.scopes.specs.Lent.{withNames, Whole};
+ghost use Rattle.frames.specs.Steps.{onNames, Stands, Leads, Stays};
+use crate::handles::unpacked;
+use crate::steps::Adds;
+use crate::steps::Stepped;
+use crate::steps::adds_of;
+use crate::steps::ended;
+use crate::steps::refused;
+use needs::addresses::is_freed;
+use scopes::HandleNumber;
+use scopes::Numbers;
+use scopes::Scopes;
+use scopes::lent::names;
+
+// 3, 13, 9.
+pub fn define(
+    bindings: &mut [u64; 256],
+    n: Numbers,
+    handles: &[u64; 2048],
+    handed: usize,
+    name: u16,
+    h: HandleNumber,
+) -> Stepped
+    requires { ⌜ ((s : Scopes) × ((holders : List ℕ) × Stands (withNames s (now bindings) n) (now handles) holders handed)) ⌝ }
+    ensures { λ r. ⌜ ((s : Scopes) (holders : List ℕ) → Leads (frame.define name (h .0)) 0x09 (withNames s (now (bindings .entry)) n) (withNames s (now (bindings .exit)) (r .numbers)) (now (handles .entry)) holders handed r (now (handles .entry)) holders) ⌝ }
+{
+    let top = n.top;
+    if top == 64 {
+        return refused(n, handed, 3);
+    }
+    let i = h.0 as usize;
+    if handed <= i {
+        return refused(n, handed, 13);
+    }
+    let x = unpacked(handles[i]);
+    let address = x.address;
+    let kind = address.kind;
+    if is_freed(kind) {
+        return refused(n, handed, 13);
+    }
+    let o = names::define(bindings, n, name, address.slot, h);
+    ended(o, handed)
+}
+
+// 3, 10, 11.
+pub fn get<'a>(
+    live: &'a [bool; 64],
+    parent: &'a [u8; 64],
+    bindings: &'a [u64; 256],
+    n: Numbers,
+    name: u16,
+) -> Adds
+    requires { ⌜ ((s : Scopes) × Whole (onNames s (now live) (now parent) (now bindings) n)) ⌝ }
+    ensures { λ r. ⌜ ((s : Scopes) (handles holders : List ℕ) (handed : ℕ) → Stays (frame.get name) 0x0a (onNames s (now (live .entry)) (now (parent .entry)) (now (bindings .entry)) n) handles holders handed r handles) ⌝ }
+{
+    let reply = names::get(live, parent, bindings, n, name);
+    adds_of(reply)
+}
+
+// 3, 10, 11.
+pub fn take<'a>(
+    live: &'a [bool; 64],
+    parent: &'a [u8; 64],
+    bindings: &mut [u64; 256],
+    n: Numbers,
+    handed: usize,
+    name: u16,
+) -> Stepped
+    requires { ⌜ ((s : Scopes) × Whole (onNames s (now live) (now parent) (now bindings) n)) ⌝ }
+    ensures { λ r. ⌜ ((s : Scopes) (handles holders : List ℕ) → Leads (frame.takeFrom name) 0x0b (onNames s (now (live .entry)) (now (parent .entry)) (now (bindings .entry)) n) (onNames s (now (live .entry)) (now (parent .entry)) (now (bindings .exit)) (r .numbers)) handles holders handed r handles holders) ⌝ }
+{
+    let o = names::take(live, parent, bindings, n, name);
+    ended(o, handed)
+}
