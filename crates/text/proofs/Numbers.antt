@@ -1,19 +1,19 @@
 -- The number of a line's digits holds its opcode and its first two operands. Assumes nothing.
 use mathlib.Core.Path.{_≡_, refl, sym, ap, subst, _∙_}
 use mathlib.Core.Bool.{Bool, true, false}
-use mathlib.Core.List.{List, [], _∷_}
+use mathlib.Core.List.{List}
 use Prim.Native.Nat.{ℕ, zero, suc, _+_, _*_, _/_, _%_, _≤_, _<_, _-_}
 use native.Mathlib.Omega.{arith}
 use lib.Dec.{ltb, eqb}
-use lib.ListN.{length, getD, take, drop}
+use lib.ListN.{length, getD, take}
 use lib.Seq.{getD-drop, getD-take, slice, length-slice}
 use borrow.Author.Tests.{ltb-true, ltb-false, eqb-true, eqb-false}
 use Rattle.rules.specs.Text.{value}
 use Rattle.rules.proofs.Tables.{by-eqb}
 use Rattle.text.specs.Shapes.{shapeOf, readAs}
-use Rattle.text.specs.Lines.{weight, numberOf, readingBy, readingOf, ended}
+use Rattle.text.specs.Lines.{wordAt, weight, numberOf, readingBy, readingOf, ended}
 use Rattle.text.specs.declared.lines.Reading.the-variants.{Malformed}
-use Rattle.text.proofs.Words.{allHex, wordAt, hex-at, hex-all, codeAt, operandAt, raw-short, raw-odd, raw-bad, raw-whole, operands-count, operand-none, operand-first, operand-second}
+use Rattle.text.proofs.Words.{allHex, hex-at, hex-all, codeAt, operandAt, raw-short, raw-odd, raw-bad, raw-whole, operands-count, operand-none, operand-first, operand-second}
 use Rattle.text.proofs.Rows.{reading-raw, reading-none}
 
 -- ---- one digit more
@@ -53,17 +53,20 @@ weight-start p = let q : p - p ≡ 0 = omega arith in rw q
 
 -- ---- all digits of a line
 
+ten-more : (j : ℕ) → 10 + suc j ≡ suc (10 + j)
+ten-more j = omega arith
+
 weight-none : (j : ℕ) → weight (10 + j) ≡ 0
 unfolding weight
 weight-none zero = refl
-weight-none (suc j) = ap weight (let q : 10 + suc j ≡ suc (10 + j) = omega arith in q) ∙ ap (λ (w : ℕ). w / 16) (weight-none j)
+weight-none (suc j) = ap weight (ten-more j) ∙ ap (λ (w : ℕ). w / 16) (weight-none j)
 
 number-more : (t : List ℕ) (j : ℕ) → numberOf t 0 (10 + j) ≡ numberOf t 0 10
 unfolding numberOf
 number-more t zero = refl
-number-more t (suc j) = ap (numberOf t 0) (let q : 10 + suc j ≡ suc (10 + j) = omega arith in q) ∙ rw (weight-none j) (omega (arith, number-more t j))
+number-more t (suc j) = ap (numberOf t 0) (ten-more j) ∙ rw (weight-none j) (omega (arith, number-more t j))
 
-abbrev pub ofParts : ℕ → ℕ → ℕ → ℕ
+abbrev ofParts : ℕ → ℕ → ℕ → ℕ
 ofParts o a b = o * 0x100000000 + a * 0x10000 + b
 
 number-two : (t : List ℕ) → numberOf t 0 2 ≡ ofParts (codeAt t) 0 0

@@ -6,10 +6,11 @@ use mathlib.Core.List.{List, [], _∷_}
 use Prim.Native.Nat.{ℕ, zero, suc, _+_, _*_, _/_, _%_, _≤_, _<_, _-_}
 use native.Mathlib.Omega.{arith}
 use lib.Dec.{ltb}
-use lib.ListN.{length, getD, take, drop, length-drop, drop-of-length-le, List·getD-eq-default}
+use lib.ListN.{length, getD, drop, length-drop, List·getD-eq-default}
 use lib.Seq.{getD-drop}
 use borrow.Author.Tests.{ltb-true, lt-ltb}
 use Rattle.rules.specs.Text.{value, word, words, both, raw}
+use Rattle.text.specs.Lines.{wordAt}
 
 tf : true ≡ false → ⊥
 tf e = let z : _≡_ {A = ℕ} 0 1 = cc in omega arith
@@ -17,9 +18,6 @@ tf e = let z : _≡_ {A = ℕ} 0 1 = cc in omega arith
 unfoldable pub allHex : List ℕ → Bool
 allHex [] = true
 allHex (c ∷ l) = elim (ltb (value c) 16) [ true ↦ allHex l | false ↦ false ]
-
-abbrev pub wordAt : List ℕ → ℕ → ℕ
-wordAt s p = value (getD s p 0) * 4096 + value (getD s (p + 1) 0) * 256 + value (getD s (p + 2) 0) * 16 + value (getD s (p + 3) 0)
 
 -- all digits of the first, and of the rest
 pub hex-head : (c : ℕ) (l : List ℕ) → allHex (c ∷ l) ≡ true → value c < 16

@@ -33,6 +33,10 @@ pub record NextLine (s : List ℕ) (e q : ℕ) : Type 0 where
 
 -- ---- digits
 
+-- the number of four digits at p
+abbrev pub wordAt : List ℕ → ℕ → ℕ
+wordAt s p = value (getD s p 0) * 4096 + value (getD s (p + 1) 0) * 256 + value (getD s (p + 2) 0) * 16 + value (getD s (p + 3) 0)
+
 -- what digit k of ten counts for; 0 past them
 unfoldable pub weight : ℕ → ℕ
 weight zero = 0x1000000000

@@ -1,8 +1,9 @@
 // A line of a script or of a list: an opcode of two digits, then operands of four. One table says which operands an opcode has in
 // each of the two.
-use crate::digits::digit_value;
+use crate::digits::is_other;
+use crate::digits::value_of;
 ghost use mathlib.Core.Path.{_≡_};
-ghost use Prim.Native.Nat.{ℕ, _≤_, _<_};
+ghost use Prim.Native.Nat.{_≤_, _<_};
 ghost use lib.ListN.{length};
 ghost use Rattle.text.specs.Lines.{Ends, NextLine, DigitsFrom, readingBy, readingOf, frameReading, lineReading, Took};
 ghost use Rattle.text.specs.Shapes.{rowOf, shapeOf, fit, readAs};
@@ -46,7 +47,7 @@ pub fn line_end(s: &[u8], p: usize) -> usize
     e
 }
 
-// The digits from p on, in one walk: a line's LF is found where they end.
+// The digits from p on, in one walk: a line's LF stands where they end. What digit k counts for is 0 from the eleventh on.
 fn digits_from(s: &[u8], p: usize) -> Digits
     requires { ⌜ p ≤ length (now s) ⌝ }
     ensures { λ r. ⌜ DigitsFrom (now (s .entry)) p r ⌝ }
@@ -55,11 +56,11 @@ fn digits_from(s: &[u8], p: usize) -> Digits
     let mut number: u64 = 0;
     let mut weight: u64 = 0x10_0000_0000;
     while e < s.len() {
-        let v = digit_value(s[e]);
-        if v >= 16 {
+        let c = s[e];
+        if is_other(c) {
             return Digits { end: e, number };
         }
-        number += (v as u64) * weight;
+        number += value_of(c) * weight;
         weight /= 16;
         e += 1;
     }
@@ -135,9 +136,9 @@ fn read_as(shape: u8, opcode: u8, count: usize, a: u16, b: u16) -> Reading
     Reading::Malformed
 }
 
-// The line of n digits, which make the number.
+// The line of n digits whose number it is.
 fn line_of(number: u64, n: usize, list: bool) -> Reading
-    requires { ⌜ number < 1099511627776 ⌝ }
+    requires { ⌜ number < 0x10000000000 ⌝ }
     ensures { λ r. ⌜ r ≡ readingBy list n number ⌝ }
 {
     if n < 2 {

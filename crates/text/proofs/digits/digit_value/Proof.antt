@@ -1,32 +1,30 @@
 -- `digit_value` meets its contract. Assumes nothing.
 use mathlib.Core.Path.{sym, _∙_}
+use Prim.Native.Nat.{_<_}
 use native.Mathlib.Omega.{arith}
-use Rattle.text.proofs.Values.{value-low, value-between, value-high, value-else}
 use borrow.Author.Needs.{needs}
+use borrow.Author.Tests.{leb-true, leb-false}
+use Rattle.rules.specs.Text.{value}
+use Rattle.text.proofs.Values.{value-none}
 use Rattle.text.proofs.digits.digit_value.Statement.{statement}
 use Rattle.text.proofs.digits.digit_value.Tie as tie
-use Rattle.text.proofs.digits.is_between.Reads as is-between-reads
+
+is-other-requires : tie.Need-is-other-requires
+is-other-requires c κs = search needs
 
 returns : tie.Need-returns
-returns c = sym (value-low _ (c .if1 .taken))
+returns c = sym (value-none _ (leb-true _ _ (sym (c .before .is-other .ensures) ∙ c .if1 .taken)))
+
+value-of-requires : tie.Need-value-of-requires
+value-of-requires c κs = leb-false _ _ (sym (c .before .is-other .ensures) ∙ c .if1 .left)
+
+cast-result : tie.Need-cast-result
+cast-result c =
+    let v : value (c .before .before .before .args .c) < 16 = leb-false _ _ (sym (c .before .before .is-other .ensures) ∙ c .before .if1 .left) in
+    omega (arith, v, c .value-of .ensures)
 
 returns-2 : tie.Need-returns-2
-returns-2 c = sym (value-high _ (omega arith))
-
-is-between-requires : tie.Need-is-between-requires
-is-between-requires c κs = search needs
-
-returns-3 : tie.Need-returns-3
-returns-3 c = sym (value-between _ (sym (c .before .is-between .ensures) ∙ c .if3 .taken))
-
-mul-result : tie.Need-mul-result
-mul-result c = search needs
-
-add-result : tie.Need-add-result
-add-result c = search needs
-
-returns-4 : tie.Need-returns-4
-returns-4 c = value-else _ (omega arith) (omega arith) (sym (c .before .is-between .ensures) ∙ c .if3 .left)
+returns-2 c = c .value-of .ensures
 
 pub digit-value-spec : {M : Type 1} → statement M
-digit-value-spec = tie.close (tie.spec returns returns-2 is-between-requires returns-3 mul-result add-result returns-4)
+digit-value-spec = tie.close (tie.spec is-other-requires returns value-of-requires cast-result returns-2)

@@ -1,10 +1,11 @@
 -- `digits_from` meets its contract. Assumes nothing.
-use mathlib.Core.Path.{_≡_, subst}
+use mathlib.Core.Path.{_≡_, sym, _∙_}
 use Prim.Native.Nat.{ℕ, _≤_, _<_, _-_}
 use native.Mathlib.Omega.{arith}
 use lib.ListN.{length, getD}
 use borrow.Author.Needs.{needs}
 use borrow.Author.Count.{below-more}
+use borrow.Author.Tests.{leb-true, leb-false}
 use Rattle.rules.specs.Text.{value}
 use Rattle.text.specs.Lines as lines
 use Rattle.text.specs.Lines.{numberOf}
@@ -23,29 +24,40 @@ loop-holds : tie.Need-loop-holds Inv-loop μ-loop
 loop-holds c =
     (search needs, search needs, λ k a b. absurd (omega (arith, a, b)), number-start (c .before .args .s .now) (c .before .args .p), weight-start (c .before .args .p), record { now = omega arith; next = omega arith })
 
-shared-slice-read-digit-value : tie.Need-shared-slice-read-digit-value Inv-loop μ-loop
-shared-slice-read-digit-value c = search needs
+shared-slice-read-c : tie.Need-shared-slice-read-c Inv-loop μ-loop
+shared-slice-read-c c = search needs
 
-digit-value-requires : tie.Need-digit-value-requires Inv-loop μ-loop
-digit-value-requires c κs = search needs
+is-other-requires : tie.Need-is-other-requires Inv-loop μ-loop
+is-other-requires c κs = search needs
 
 returns : tie.Need-returns Inv-loop μ-loop
 returns c =
     let i = c .before .before .before .before .loop .inv in
-    record { from = i .0; to = i .1; all = i .2; stop = λ h. omega (arith, c .before .digit-value .ensures); number-is = i .3; below = i .5 .now }
+    record {
+      from = i .0;
+      to = i .1;
+      all = i .2;
+      stop = λ h. leb-true _ _ (sym (c .before .is-other .ensures) ∙ c .if1 .taken);
+      number-is = i .3;
+      below = i .5 .now;
+    }
 
-cast-number : tie.Need-cast-number Inv-loop μ-loop
-cast-number c = search needs
+value-of-requires : tie.Need-value-of-requires Inv-loop μ-loop
+value-of-requires c κs = leb-false _ _ (sym (c .before .is-other .ensures) ∙ c .if1 .left)
 
 mul-number : tie.Need-mul-number Inv-loop μ-loop
 mul-number c =
-    let l = c .before .before .before .before .loop in
-    omega (arith, (below-on (l .number) (l .weight) (c .before .digit-value .result) (l .inv .5) (omega arith)) .now)
+    let a = c .before .before .before .before .before .before .before .args in
+    let l = c .before .before .before .before .before .loop in
+    let v : value (getD (a .s .now) (l .e) 0) < 16 = leb-false _ _ (sym (c .before .before .is-other .ensures) ∙ c .before .if1 .left) in
+    omega (arith, (below-on (l .number) (l .weight) (c .value-of .result) (l .inv .5) (omega (arith, v, c .value-of .ensures))) .now)
 
 add-number : tie.Need-add-number Inv-loop μ-loop
 add-number c =
-    let l = c .before .before .before .before .loop in
-    omega (arith, (below-on (l .number) (l .weight) (c .before .digit-value .result) (l .inv .5) (omega arith)) .now)
+    let a = c .before .before .before .before .before .before .before .args in
+    let l = c .before .before .before .before .before .loop in
+    let v : value (getD (a .s .now) (l .e) 0) < 16 = leb-false _ _ (sym (c .before .before .is-other .ensures) ∙ c .before .if1 .left) in
+    omega (arith, (below-on (l .number) (l .weight) (c .value-of .result) (l .inv .5) (omega (arith, v, c .value-of .ensures))) .now)
 
 add-e : tie.Need-add-e Inv-loop μ-loop
 add-e c = search needs
@@ -55,11 +67,17 @@ loop-less c = search needs
 
 loop-again : tie.Need-loop-again Inv-loop μ-loop
 loop-again c =
-    let a = c .before .before .before .before .before .before .args in
-    let l = c .before .before .before .before .loop in
+    let a = c .before .before .before .before .before .before .before .args in
+    let l = c .before .before .before .before .before .loop in
     let i = l .inv in
-    let v : value (getD (a .s .now) (l .e) 0) < 16 = omega (arith, c .before .digit-value .ensures) in
-    (search needs, search needs, λ k b m. below-more (λ k. a .p ≤ k → value (getD (a .s .now) k 0) < 16) (l .e) (λ k m b. i .2 k b m) (λ b. v) k m b, number-on (a .s .now) (a .p) (l .e) _ _ _ (i .0) (i .3) (i .4) (c .before .digit-value .ensures), weight-on (a .p) (l .e) _ (i .0) (i .4), below-on _ _ _ (i .5) (omega arith))
+    let v : value (getD (a .s .now) (l .e) 0) < 16 = leb-false _ _ (sym (c .before .before .is-other .ensures) ∙ c .before .if1 .left) in (
+      search needs,
+      search needs,
+      λ k b m. below-more (λ k. a .p ≤ k → value (getD (a .s .now) k 0) < 16) (l .e) (λ k m b. i .2 k b m) (λ b. v) k m b,
+      number-on (a .s .now) (a .p) (l .e) _ _ _ (i .0) (i .3) (i .4) (c .value-of .ensures),
+      weight-on (a .p) (l .e) _ (i .0) (i .4),
+      below-on _ _ _ (i .5) (omega (arith, v, c .value-of .ensures)),
+    )
 
 returns-2 : tie.Need-returns-2 Inv-loop μ-loop
 returns-2 c =
@@ -73,10 +91,10 @@ digits-from-spec =
     Inv-loop
     μ-loop
     loop-holds
-    shared-slice-read-digit-value
-    digit-value-requires
+    shared-slice-read-c
+    is-other-requires
     returns
-    cast-number
+    value-of-requires
     mul-number
     add-number
     add-e
