@@ -8,8 +8,7 @@ use lib.ListN.{length, getD}
 use lib.Seq.{slice}
 use lib.Dec.{ltb, eqb}
 use borrow.Author.Tests.{eq-eqb, ne-eqb, lt-ltb, le-ltb, ltb-false}
-use Rattle.text.specs.Lines.{allHex}
-use Rattle.records.specs.Records.{marked, headAt, numberAt, brokenIf, foundBy, foundAt, Bounded}
+use Rattle.records.specs.Records.{marked, allHex, headAt, numberAt, brokenIf, foundBy, foundAt, Bounded}
 use Rattle.records.specs.declared.Found.{Found}
 use Rattle.records.specs.declared.Found.the-variants.{Broken, Record}
 

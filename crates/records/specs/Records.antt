@@ -5,7 +5,8 @@ use Prim.Native.Nat.{ℕ, _+_, _*_, _-_, _≤_}
 use lib.ListN.{length, getD}
 use lib.Seq.{slice}
 use lib.Dec.{ltb, eqb}
-use Rattle.text.specs.Lines.{allHex, wordAt}
+use Rattle.rules.specs.Text.{value}
+use Rattle.text.specs.Lines.{wordAt}
 use Rattle.records.specs.declared.Found.{Found}
 use Rattle.records.specs.declared.Found.the-variants.{Broken, Record}
 
@@ -19,6 +20,10 @@ sameText (a ∷ l) (b ∷ m) = elim (eqb a b) [ true ↦ sameText l m | false �
 -- whose answer it is: o, r or m
 unfoldable pub marked : ℕ → Bool
 marked b = eqb b 0x6f || (eqb b 0x72 || eqb b 0x6d)
+
+unfoldable pub allHex : List ℕ → Bool
+allHex [] = true
+allHex (c ∷ l) = elim (ltb (value c) 16) [ true ↦ allHex l | false ↦ false ]
 
 -- a mark, sixteen digits, LF
 unfoldable pub headAt : List ℕ → ℕ → Bool

@@ -1,12 +1,12 @@
 // Stored answers, read where they lie: a row of records, each a head of 18 bytes (a mark, two lengths of eight digits, LF), a script and
 // what is printed for it.
 use text::digits::digit_value;
-use text::lines::all_hex;
 ghost use mathlib.Core.Path.{_≡_};
 ghost use Prim.Native.Nat.{ℕ, _+_, _≤_};
 ghost use lib.ListN.{length};
+ghost use lib.Seq.{slice};
 ghost use Rattle.text.specs.Lines.{wordAt};
-ghost use Rattle.records.specs.Records.{sameText, marked, headAt, numberAt, foundAt};
+ghost use Rattle.records.specs.Records.{sameText, marked, allHex, headAt, numberAt, foundAt};
 
 pub mod tally; // the records of a text, replayed and counted
 
@@ -70,6 +70,21 @@ fn is_mark(b: u8) -> bool
         return true;
     }
     b == b'm'
+}
+
+// Whether the bytes from p on, below e, are digits.
+fn all_hex(s: &[u8], p: usize, e: usize) -> bool
+    requires { ⌜ (p ≤ e) × (e ≤ length (now s)) ⌝ }
+    ensures { λ r. ⌜ r ≡ allHex (slice p e (now (s .entry))) ⌝ }
+{
+    let mut i = p;
+    while i < e {
+        if digit_value(s[i]) >= 16 {
+            return false;
+        }
+        i += 1;
+    }
+    true
 }
 
 // Whether a record's head stands at p.

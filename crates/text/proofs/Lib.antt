@@ -2,6 +2,7 @@ pub mod Values
 pub mod Computed
 pub mod Words
 pub mod Rows
+pub mod Numbers
 pub mod Told
 pub mod Splits
 pub mod Texts

@@ -14,11 +14,10 @@ use Rattle.rules.specs.Frames as rules
 use Rattle.rules.specs.Frames.{child, pop, dangle, restore, popLast, alloc, allocIn, linear, define, get, takeFrom, free, freeQuietly, forget, drain, write, read, readName, stores, loads, shows}
 use Rattle.rules.specs.Text.{Raw, raw, Row, rowed, lineOf, frameTable, lineTable, sizeTable, with0, with1, with2, counted, bare, adding}
 use Rattle.text.specs.Shapes.{pick, Shaped, column, shapeIn, frameShapes, sizeShape, shapes, shapeOf, frame, readAs}
-use Rattle.text.specs.Lines.{wholeLine, ended, codeOf, frameOf, framed, frameReading, lined, sizedOr, lineReading, readingOf}
+use Rattle.text.specs.Lines.{ended, codeOf, frameOf, framed, frameReading, lined, sizedOr, lineReading, readingOf}
 use Rattle.text.specs.declared.lines.Frame.{Frame}
 use Rattle.text.specs.declared.lines.Reading.{Reading}
 use Rattle.text.specs.declared.lines.Reading.the-variants.{Malformed, One}
-use Rattle.text.specs.declared.lines.Digits.the-variants.{Bad, Whole}
 
 -- ---- one row, and the rows after it
 
@@ -37,7 +36,7 @@ unfolding rowed
 rowed-there w ws r e = rw (e, rowed)
 
 -- what operands come to at a shape
-abbrev asShape : ℕ → ℕ → List ℕ → Reading
+abbrev pub asShape : ℕ → ℕ → List ℕ → Reading
 asShape d o l = readAs d o (length l) (getD l 0 0) (getD l 1 0)
 
 more : (n m : ℕ) (x y : Reading) → m < n → pick (eqb n m) x y ≡ y
@@ -195,37 +194,15 @@ list-line r = go (eqb 0x90 (r .opcode)) refl
 
 -- ---- a line that LF ends, by its digits
 
-reading-raw : (list : Bool) (t : List ℕ) (r : Raw) → raw t ≡ some r → readingOf list (ended t) ≡ asShape (shapeOf list (r .opcode)) (r .opcode) (r .operands)
+pub reading-raw : (list : Bool) (t : List ℕ) (r : Raw) → raw t ≡ some r → readingOf list (ended t) ≡ asShape (shapeOf list (r .opcode)) (r .opcode) (r .operands)
 unfolding frameReading lineReading lineOf shapeOf
 reading-raw false t r e = rw (e, lineOf) (by-rows false framed refl script-rows r)
 reading-raw true t r e = rw (e, lineOf) (list-line r)
 
-reading-none : (list : Bool) (t : List ℕ) → raw t ≡ none → readingOf list (ended t) ≡ Malformed
+pub reading-none : (list : Bool) (t : List ℕ) → raw t ≡ none → readingOf list (ended t) ≡ Malformed
 unfolding frameReading lineReading lineOf
 reading-none false t e = rw (e, lineOf)
 reading-none true t e = rw (e, lineOf)
-
-reading-whole : (list : Bool) (t : List ℕ) (o k a b : ℕ) → wholeLine (raw t) ≡ Whole o k a b → readingOf list (ended t) ≡ readAs (shapeOf list o) o k a b
-unfolding wholeLine
-reading-whole list t o k a b e = go (raw t) refl
-  where
-    go : (x : Option Raw) → raw t ≡ x → readingOf list (ended t) ≡ readAs (shapeOf list o) o k a b
-    go none q = absurd (let u : Bad ≡ Whole o k a b = rw (q, wholeLine) at e in let z : _≡_ {A = ℕ} 0 1 = cc in omega arith)
-    go (some r) q =
-        let u : Whole (r .opcode) (length (r .operands)) (getD (r .operands) 0 0) (getD (r .operands) 1 0) ≡ Whole o k a b = rw (q, wholeLine) at e in
-        reading-raw list t r q ∙ cc
-
--- by the shape that the table gives
-pub reading-shaped : (list : Bool) (t : List ℕ) (o k a b d : ℕ) (x : Reading) → wholeLine (raw t) ≡ Whole o k a b → d ≡ shapeOf list o → x ≡ readAs d o k a b → x ≡ readingOf list (ended t)
-reading-shaped list t o k a b d x e q p = p ∙ ap (λ (n : ℕ). readAs n o k a b) q ∙ sym (reading-whole list t o k a b e)
-
-pub reading-bad : (list : Bool) (t : List ℕ) → wholeLine (raw t) ≡ Bad → readingOf list (ended t) ≡ Malformed
-unfolding wholeLine
-reading-bad list t e = go (raw t) refl
-  where
-    go : (x : Option Raw) → raw t ≡ x → readingOf list (ended t) ≡ Malformed
-    go none q = reading-none list t q
-    go (some r) q = absurd (let u : Whole (r .opcode) (length (r .operands)) (getD (r .operands) 0 0) (getD (r .operands) 1 0) ≡ Bad = rw (q, wholeLine) at e in let z : _≡_ {A = ℕ} 0 1 = cc in omega arith)
 
 -- a line that no LF ends
 pub reading-open : (list : Bool) (t : List ℕ) → readingOf list (record { text = t; ended = false }) ≡ Malformed

@@ -1,20 +1,24 @@
 -- The lines of a text by positions. Assumes nothing.
-use mathlib.Core.Path.{_≡_, refl, sym, ap, _∙_}
+use mathlib.Core.Path.{_≡_, refl, sym, ap, subst, _∙_}
 use mathlib.Core.Bool.{Bool, true, false}
 use mathlib.Core.List.{List, [], _∷_}
 use Prim.Native.Nat.{ℕ, zero, suc, _+_, _≤_, _<_, _-_}
 use native.Mathlib.Omega.{arith}
 use native.Mathlib.Numerals.{add-one}
-use lib.Dec.{eqb}
+use lib.Dec.{eqb, ltb}
 use lib.ListN.{length, getD, drop, drop-of-length-le}
 use lib.Seq.{slice, slice-cons, slice-empty, drop-cons, length-slice}
-use borrow.Author.Tests.{eq-eqb, ne-eqb, eqb-true, eqb-false}
-use Rattle.rules.specs.Text.{Split, split, onto}
-use Rattle.text.specs.Lines.{Ends, ended, readingOf, width, Took}
+use borrow.Author.Tests.{eq-eqb, ne-eqb, eqb-true, eqb-false, ltb-true, ltb-false}
+use Rattle.rules.specs.Text.{value, Split, split, onto}
+use Rattle.rules.proofs.Tables.{by-eqb}
+use Rattle.text.specs.Shapes.{pick}
+use Rattle.text.specs.Lines.{Ends, NextLine, DigitsFrom, ended, readingBy, readingOf, width, Took}
+use Rattle.text.specs.declared.lines.Digits.{Digits}
 use Rattle.text.specs.declared.lines.Reading.{Reading}
 use Rattle.text.specs.declared.lines.Reading.the-variants.{Malformed}
 use Rattle.text.specs.declared.lines.Taken.{Taken}
 use Rattle.text.proofs.Rows.{reading-open}
+use Rattle.text.proofs.Numbers.{line-reads, line-bad}
 
 -- a line that LF ends
 split-ended : (n : ℕ) (s : List ℕ) (p e : ℕ) → e ≡ p + n → e < length s → getD s e 0 ≡ 10 → ((k : ℕ) → p ≤ k → k < e → getD s k 0 ≡ 10 → ⊥)
@@ -81,7 +85,7 @@ module _ (list : Bool) (s : List ℕ) (p e : ℕ) (h : Ends s p e) where
   long : length (slice p e s) ≡ e - p
   long = length-slice p e s (h .to)
 
-  pub took-open : p < length s → e ≡ length s → Took (readingOf list) s p (record { reading = Malformed; next = e })
+  took-open : p < length s → e ≡ length s → Took (readingOf list) s p (record { reading = Malformed; next = e })
   took-open l q = record {
     line = record { text = slice p e s; ended = false };
     here =
@@ -93,7 +97,7 @@ module _ (list : Bool) (s : List ℕ) (p e : ℕ) (h : Ends s p e) where
     within = h .to;
   }
 
-  pub took-ended : (e ≡ length s → ⊥) → (x : Reading) → x ≡ readingOf list (ended (slice p e s)) → Took (readingOf list) s p (record { reading = x; next = e + 1 })
+  took-ended : (e ≡ length s → ⊥) → (x : Reading) → x ≡ readingOf list (ended (slice p e s)) → Took (readingOf list) s p (record { reading = x; next = e + 1 })
   took-ended n x q =
       let l : e < length s = omega (arith, h .to, n) in
       record {
@@ -104,6 +108,56 @@ module _ (list : Bool) (s : List ℕ) (p e : ℕ) (h : Ends s p e) where
         forward = omega (arith, h .from);
         within = omega arith;
       }
+
+-- ---- the line at p, by its digits
+
+lf : value 10 ≡ 16
+unfolding value
+lf = refl
+
+-- digits before a line's rest
+ends-on : (s : List ℕ) (p e q : ℕ) → p ≤ e → ((k : ℕ) → p ≤ k → k < e → value (getD s k 0) < 16) → Ends s e q → Ends s p q
+ends-on s p e q pe f h = record { from = omega (arith, h .from); to = h .to; none-before = none; last = h .last }
+  where
+    none : (k : ℕ) → p ≤ k → k < q → getD s k 0 ≡ 10 → ⊥
+    none k a b x = go (ltb k e) refl
+      where
+        go : (t : Bool) → ltb k e ≡ t → ⊥
+        go true u = let v : value 10 < 16 = subst (λ (c : ℕ). value c < 16) x (f k a (ltb-true k e u)) in omega (arith, v, lf)
+        go false u = h .none-before k (ltb-false k e u) b x
+
+ends-here : (s : List ℕ) (e : ℕ) → e ≤ length s → (e < length s → getD s e 0 ≡ 10) → Ends s e e
+ends-here s e h l = record { from = omega arith; to = h; none-before = λ k a b x. omega (arith, a, b); last = l }
+
+module _ (list : Bool) (s : List ℕ) (p : ℕ) (l : p < length s) (d : Digits) (h : DigitsFrom s p d) where
+  -- the text's end
+  pub took-torn : d .end ≡ length s → Took (readingOf list) s p (record { reading = Malformed; next = d .end })
+  took-torn q =
+      took-open list s p (d .end) (ends-on s p (d .end) (d .end) (h .from) (h .all) (ends-here s (d .end) (h .to) (λ b. absurd (omega (arith, b, q))))) l q
+
+  -- LF
+  pub took-digits : (d .end ≡ length s → ⊥) → getD s (d .end) 0 ≡ 10 → (x : Reading) → x ≡ readingBy list (d .end - p) (d .number)
+      → Took (readingOf list) s p (record { reading = x; next = d .end + 1 })
+  took-digits n z x q =
+      took-ended list s p (d .end) (ends-on s p (d .end) (d .end) (h .from) (h .all) (ends-here s (d .end) (h .to) (λ b. z))) n x
+      (q ∙ ap (readingBy list (d .end - p)) (h .number-is) ∙ line-reads s p (d .end) (h .from) (h .to) list (h .all))
+
+  -- another byte
+  pub took-other : (d .end ≡ length s → ⊥) → (getD s (d .end) 0 ≡ 10 → ⊥) → (q : ℕ) → NextLine s (d .end) q
+      → Took (readingOf list) s p (record { reading = Malformed; next = q })
+  took-other n z q w = subst (λ (m : ℕ). Took (readingOf list) s p (record { reading = Malformed; next = m })) (sym (w .is)) (go (eqb (w .end) (length s)) refl)
+    where
+      ends : Ends s p (w .end)
+      ends = ends-on s p (d .end) (w .end) (h .from) (h .all) (w .ends)
+
+      past : d .end < w .end
+      past = by-eqb (d .end) (w .end) (λ u. absurd (z (ap (λ (k : ℕ). getD s k 0) u ∙ w .ends .last (omega (arith, h .to, n, u))))) (λ u. omega (arith, u, w .ends .from))
+
+      go : (b : Bool) → eqb (w .end) (length s) ≡ b → Took (readingOf list) s p (record { reading = Malformed; next = pick b (w .end) (w .end + 1) })
+      go true u = took-open list s p (w .end) ends l (eqb-true _ _ u)
+      go false u =
+          took-ended list s p (w .end) ends (eqb-false _ _ u) Malformed
+          (line-bad s p (w .end) (ends .from) (ends .to) list (d .end) (h .from) past (h .stop (omega (arith, h .to, n))))
 
 -- any two readings of the line at p are equal
 pub took-one : {f : Split → Reading} {s : List ℕ} {p : ℕ} {r r′ : Taken} → Took f s p r → Took f s p r′ → r ≡ r′

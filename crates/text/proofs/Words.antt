@@ -1,20 +1,23 @@
 -- `words` and `raw` of a text whose length and digits are known. Assumes nothing.
-use mathlib.Core.Path.{_≡_, refl, sym, ap, subst, _∙_}
+use mathlib.Core.Path.{_≡_, refl, sym, ap, _∙_}
 use mathlib.Core.Bool.{Bool, true, false}
 use mathlib.Core.Option.{Option, none, some}
 use mathlib.Core.List.{List, [], _∷_}
 use Prim.Native.Nat.{ℕ, zero, suc, _+_, _*_, _/_, _%_, _≤_, _<_, _-_}
 use native.Mathlib.Omega.{arith}
 use lib.Dec.{ltb}
-use lib.ListN.{length, getD, take, drop, length-drop, drop-of-length-le, List·getD-eq-default}
-use lib.Seq.{getD-drop, getD-take, slice, length-slice}
+use lib.ListN.{length, getD, drop, length-drop, List·getD-eq-default}
+use lib.Seq.{getD-drop}
 use borrow.Author.Tests.{ltb-true, lt-ltb}
 use Rattle.rules.specs.Text.{value, word, words, both, raw}
-use Rattle.text.specs.Lines.{allHex, wholeLine, wordAt, Hex2, Hex4}
-use Rattle.text.specs.declared.lines.Digits.the-variants.{Bad, Whole}
+use Rattle.text.specs.Lines.{wordAt}
 
 tf : true ≡ false → ⊥
 tf e = let z : _≡_ {A = ℕ} 0 1 = cc in omega arith
+
+unfoldable pub allHex : List ℕ → Bool
+allHex [] = true
+allHex (c ∷ l) = elim (ltb (value c) 16) [ true ↦ allHex l | false ↦ false ]
 
 -- all digits of the first, and of the rest
 pub hex-head : (c : ℕ) (l : List ℕ) → allHex (c ∷ l) ≡ true → value c < 16
@@ -33,6 +36,11 @@ pub hex-at : (l : List ℕ) → allHex l ≡ true → (k : ℕ) → k < length l
 hex-at [] h k b = absurd (omega arith)
 hex-at (c ∷ l) h zero b = hex-head c l h
 hex-at (c ∷ l) h (suc k) b = hex-at l (hex-tail c l h) k (omega arith)
+
+pub hex-all : (l : List ℕ) → ((k : ℕ) → k < length l → value (getD l k 0) < 16) → allHex l ≡ true
+unfolding allHex
+hex-all [] h = refl
+hex-all (c ∷ l) h = rw (lt-ltb _ _ (h 0 (omega arith)), allHex, hex-all l (λ k b. h (suc k) (omega arith)))
 
 then-none : (o : Option ℕ) → both o none ≡ none
 then-none none = refl
@@ -158,113 +166,32 @@ second-chunk (a ∷ b ∷ []) h = absurd (omega arith)
 second-chunk (a ∷ b ∷ c ∷ []) h = absurd (omega arith)
 second-chunk (a ∷ b ∷ c ∷ d ∷ l) h = first-chunk l (omega arith)
 
--- the raw line of digits, with what stands for its operands
-pub raw-whole : (t : List ℕ) → 2 ≤ length t → allHex t ≡ true → (length t - 2) % 4 ≡ 0 → (n x y : ℕ) → n ≡ (length t - 2) / 4
-    → x ≡ getD (chunks (drop 2 t)) 0 0 → y ≡ getD (chunks (drop 2 t)) 1 0
-    → wholeLine (raw t) ≡ Whole (value (getD t 0 0) * 16 + value (getD t 1 0)) n x y
-unfolding raw wholeLine
-raw-whole [] k h m n x y en ex ey = absurd (omega arith)
-raw-whole (a ∷ []) k h m n x y en ex ey = absurd (omega arith)
-raw-whole (a ∷ b ∷ l) k h m n x y en ex ey =
+-- the raw line of digits
+abbrev pub codeAt : List ℕ → ℕ
+codeAt t = value (getD t 0 0) * 16 + value (getD t 1 0)
+
+abbrev pub operandAt : List ℕ → ℕ → ℕ
+operandAt t j = getD (chunks (drop 2 t)) j 0
+
+pub raw-whole : (t : List ℕ) → 2 ≤ length t → allHex t ≡ true → (length t - 2) % 4 ≡ 0 → raw t ≡ some (record { opcode = codeAt t; operands = chunks (drop 2 t) })
+unfolding raw
+raw-whole [] k h m = absurd (omega arith)
+raw-whole (a ∷ []) k h m = absurd (omega arith)
+raw-whole (a ∷ b ∷ l) k h m =
     let h1 = hex-tail a (b ∷ l) h in
     let eb = byte a b (hex-head a (b ∷ l) h) (hex-head b l h1) in
     let ew = words-ok l (hex-tail b l h1) (omega arith) in
-    let er : raw (a ∷ b ∷ l) ≡ some (record { opcode = value a * 16 + value b; operands = chunks l }) = rw (eb, ew, raw) in
-    let el : length (chunks l) ≡ n = omega (arith, chunks-length l (omega arith)) in
-    ap wholeLine er ∙ cc
+    rw (eb, ew, raw)
 
-pub raw-none : (t : List ℕ) → 2 ≤ length t → allHex t ≡ true → length t - 2 ≡ 0
-    → wholeLine (raw t) ≡ Whole (value (getD t 0 0) * 16 + value (getD t 1 0)) 0 0 0
-unfolding chunks
-raw-none t k h e = raw-whole t k h (omega arith) 0 0 0 (omega arith) (ap (λ (l : List ℕ). getD (chunks l) 0 0) (sym nil)) (ap (λ (l : List ℕ). getD (chunks l) 1 0) (sym nil))
-  where
-    nil : drop 2 t ≡ []
-    nil = drop-of-length-le t {i = 2} (omega arith)
+pub operands-count : (t : List ℕ) → (length t - 2) % 4 ≡ 0 → length (chunks (drop 2 t)) ≡ (length t - 2) / 4
+operands-count t m = omega (arith, length-drop 2 t, chunks-length (drop 2 t) (omega (arith, length-drop 2 t)))
 
-pub raw-one : (t : List ℕ) → allHex t ≡ true → length t - 2 ≡ 4
-    → wholeLine (raw t) ≡ Whole (value (getD t 0 0) * 16 + value (getD t 1 0)) 1 (wordAt t 2) 0
-raw-one t h e =
-    raw-whole t (omega arith) h (omega arith) 1 (wordAt t 2) 0 (omega arith) (simp getD-drop at (sym (first-chunk (drop 2 t) (omega (arith, length-drop 2 t))))) short
-  where
-    short : 0 ≡ getD (chunks (drop 2 t)) 1 0
-    short = sym (List·getD-eq-default (chunks (drop 2 t)) 0 {n = 1} (omega (arith, chunks-length (drop 2 t) (omega (arith, length-drop 2 t)), length-drop 2 t)))
+-- an operand that the line hasn't
+pub operand-none : (t : List ℕ) (j : ℕ) → (length t - 2) % 4 ≡ 0 → (length t - 2) / 4 ≤ j → operandAt t j ≡ 0
+operand-none t j m h = List·getD-eq-default (chunks (drop 2 t)) 0 {n = j} (omega (arith, operands-count t m))
 
-pub raw-more : (t : List ℕ) → allHex t ≡ true → 8 ≤ length t - 2 → (length t - 2) % 4 ≡ 0
-    → wholeLine (raw t) ≡ Whole (value (getD t 0 0) * 16 + value (getD t 1 0)) ((length t - 2) / 4) (wordAt t 2) (wordAt t 6)
-raw-more t h e m =
-    raw-whole t (omega arith) h m ((length t - 2) / 4) (wordAt t 2) (wordAt t 6) refl
-    (simp getD-drop at (sym (first-chunk (drop 2 t) (omega (arith, length-drop 2 t)))))
-    (simp getD-drop at (sym (second-chunk (drop 2 t) (omega (arith, length-drop 2 t)))))
+pub operand-first : (t : List ℕ) → 6 ≤ length t → operandAt t 0 ≡ wordAt t 2
+operand-first t h = simp getD-drop at (first-chunk (drop 2 t) (omega (arith, length-drop 2 t)))
 
--- ---- by positions of the text
-
-module _ (s : List ℕ) (p e : ℕ) (pe : p ≤ e) (es : e ≤ length s) where
-  pub slice-length : length (slice p e s) ≡ e - p
-  slice-length = length-slice p e s es
-
-  pub slice-at : (j m : ℕ) → m ≡ p + j → m < e → getD (slice p e s) j 0 ≡ getD s m 0
-  slice-at j m q h = getD-drop p (take e s) j 0 ∙ ap (λ (n : ℕ). getD (take e s) n 0) (sym q) ∙ getD-take e s m 0 h
-
-  pub hex-in : allHex (slice p e s) ≡ true → (k : ℕ) → p ≤ k → k < e → value (getD s k 0) < 16
-  hex-in h k a b = subst (λ (x : ℕ). value x < 16) (slice-at (k - p) k (omega arith) b) (hex-at (slice p e s) h (k - p) (omega (arith, slice-length)))
-
-  pub hex4-in : allHex (slice p e s) ≡ true → (k : ℕ) → p ≤ k → k + 4 ≤ e → Hex4 s k
-  hex4-in h k a b = record {
-    within = omega arith;
-    hex0 = hex-in h k a (omega arith);
-    hex1 = hex-in h (k + 1) (omega arith) (omega arith);
-    hex2 = hex-in h (k + 2) (omega arith) (omega arith);
-    hex3 = hex-in h (k + 3) (omega arith) (omega arith);
-  }
-
-  pub hex2-in : allHex (slice p e s) ≡ true → p + 2 ≤ e → Hex2 s p
-  hex2-in h b = record {
-    within = omega arith;
-    hex0 = hex-in h p (omega arith) (omega arith);
-    hex1 = hex-in h (p + 1) (omega arith) (omega arith);
-  }
-
-  word-slice : (j : ℕ) → p + j + 4 ≤ e → wordAt (slice p e s) j ≡ wordAt s (p + j)
-  word-slice j b =
-      let e0 = slice-at j (p + j) refl (omega arith) in
-      let e1 = slice-at (j + 1) (p + j + 1) (omega arith) (omega arith) in
-      let e2 = slice-at (j + 2) (p + j + 2) (omega arith) (omega arith) in
-      let e3 = slice-at (j + 3) (p + j + 3) (omega arith) (omega arith) in
-      rw (e0, e1, e2, e3)
-
-  code : p + 2 ≤ e → (o : ℕ) → o ≡ value (getD s p 0) * 16 + value (getD s (p + 1) 0) → value (getD (slice p e s) 0 0) * 16 + value (getD (slice p e s) 1 0) ≡ o
-  code b o q =
-      let e0 = slice-at 0 p (omega arith) (omega arith) in
-      let e1 = slice-at 1 (p + 1) refl (omega arith) in
-      rw (e0, e1) (sym q)
-
-  pub line-short : e - p < 2 → Bad ≡ wholeLine (raw (slice p e s))
-  unfolding wholeLine
-  line-short h = rw (raw-short (slice p e s) (omega (arith, slice-length)), wholeLine)
-
-  pub line-odd : 2 ≤ e - p → ((e - p - 2) % 4 ≡ 0 → ⊥) → Bad ≡ wholeLine (raw (slice p e s))
-  unfolding wholeLine
-  line-odd h n = rw (raw-odd (slice p e s) (omega (arith, slice-length)) (λ q. n (omega (arith, q, slice-length))), wholeLine)
-
-  pub line-bad : allHex (slice p e s) ≡ false → Bad ≡ wholeLine (raw (slice p e s))
-  unfolding wholeLine
-  line-bad h = rw (raw-bad (slice p e s) h, wholeLine)
-
-  pub line-none : allHex (slice p e s) ≡ true → e - p ≡ 2 → (o : ℕ) → o ≡ value (getD s p 0) * 16 + value (getD s (p + 1) 0) → Whole o 0 0 0 ≡ wholeLine (raw (slice p e s))
-  line-none h n o q = sym (raw-none (slice p e s) (omega (arith, slice-length)) h (omega (arith, slice-length)) ∙ ap (λ (x : ℕ). Whole x 0 0 0) (code (omega arith) o q))
-
-  pub line-one : allHex (slice p e s) ≡ true → e - p ≡ 6 → (o x : ℕ) → o ≡ value (getD s p 0) * 16 + value (getD s (p + 1) 0) → x ≡ wordAt s (p + 2)
-      → Whole o 1 x 0 ≡ wholeLine (raw (slice p e s))
-  line-one h n o x q r =
-      let a = code (omega arith) o q in
-      let b : wordAt (slice p e s) 2 ≡ x = word-slice 2 (omega arith) ∙ sym r in
-      sym (raw-one (slice p e s) h (omega (arith, slice-length)) ∙ rw (a, b))
-
-  pub line-more : allHex (slice p e s) ≡ true → 10 ≤ e - p → (e - p - 2) % 4 ≡ 0 → (o n x y : ℕ) → o ≡ value (getD s p 0) * 16 + value (getD s (p + 1) 0) → n ≡ (e - p - 2) / 4
-      → x ≡ wordAt s (p + 2) → y ≡ wordAt s (p + 6) → Whole o n x y ≡ wholeLine (raw (slice p e s))
-  line-more h l m o n x y q k r w =
-      let a = code (omega arith) o q in
-      let c : (length (slice p e s) - 2) / 4 ≡ n = omega (arith, slice-length) in
-      let b : wordAt (slice p e s) 2 ≡ x = word-slice 2 (omega arith) ∙ sym r in
-      let d : wordAt (slice p e s) 6 ≡ y = word-slice 6 (omega arith) ∙ sym w in
-      sym (raw-more (slice p e s) h (omega (arith, slice-length)) (omega (arith, slice-length)) ∙ rw (a, c, b, d))
+pub operand-second : (t : List ℕ) → 10 ≤ length t → operandAt t 1 ≡ wordAt t 6
+operand-second t h = simp getD-drop at (second-chunk (drop 2 t) (omega (arith, length-drop 2 t)))

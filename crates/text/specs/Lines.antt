@@ -3,19 +3,18 @@ use mathlib.Core.Path.{_≡_}
 use mathlib.Core.Bool.{Bool, true, false}
 use mathlib.Core.Option.{Option, none, some}
 use mathlib.Core.List.{List, [], _∷_}
-use Prim.Native.Nat.{ℕ, zero, suc, _+_, _*_, _-_, _≤_, _<_}
+use Prim.Native.Nat.{ℕ, zero, suc, _+_, _*_, _/_, _%_, _-_, _≤_, _<_}
 use lib.ListN.{length, getD, take, drop}
 use lib.Dec.{eqb, ltb, leb}
 use Rattle.rules.specs.Frames as rules
 use Rattle.rules.specs.Frames.{child, pop, dangle, restore, popLast, alloc, allocIn, linear, define, get, takeFrom, free, freeQuietly, forget, drain, write, read, readName, Line, stores, loads, shows}
-use Rattle.rules.specs.Text.{value, Raw, raw, Split, split, rowed, lineOf, frameTable, lineTable, sizeTable, opcodeOf, operandsOf}
+use Rattle.rules.specs.Text.{value, Split, split, rowed, lineOf, frameTable, lineTable, sizeTable, opcodeOf, operandsOf}
 use Rattle.text.specs.declared.lines.Frame.{Frame}
 use Rattle.text.specs.declared.lines.Reading.{Reading}
 use Rattle.text.specs.declared.lines.Reading.the-variants.{Malformed, One}
 use Rattle.text.specs.declared.lines.Taken.{Taken}
 use Rattle.text.specs.declared.lines.Digits.{Digits}
-use Rattle.text.specs.declared.lines.Digits.the-variants.{Bad, Whole}
-use Rattle.text.specs.Shapes.{frame, shapeOf}
+use Rattle.text.specs.Shapes.{pick, frame, shapeOf, readAs}
 
 -- ---- positions of a text
 
@@ -26,29 +25,43 @@ pub record Ends (s : List ℕ) (p e : ℕ) : Type 0 where
   pub none-before : (k : ℕ) → p ≤ k → k < e → getD s k 0 ≡ 10 → ⊥
   pub last : e < length s → getD s e 0 ≡ 10
 
-unfoldable pub allHex : List ℕ → Bool
-allHex [] = true
-allHex (c ∷ l) = elim (ltb (value c) 16) [ true ↦ allHex l | false ↦ false ]
+-- q is where the line after the one that holds e begins: one past its LF, or the end of the text
+pub record NextLine (s : List ℕ) (e q : ℕ) : Type 0 where
+  pub end : ℕ
+  pub ends : Ends s e end
+  pub is : q ≡ pick (eqb end (length s)) end (end + 1)
 
+-- ---- digits
+
+-- the number of four digits at p
 abbrev pub wordAt : List ℕ → ℕ → ℕ
 wordAt s p = value (getD s p 0) * 4096 + value (getD s (p + 1) 0) * 256 + value (getD s (p + 2) 0) * 16 + value (getD s (p + 3) 0)
 
-pub record Hex4 (s : List ℕ) (p : ℕ) : Type 0 where
-  pub within : p + 4 ≤ length s
-  pub hex0 : value (getD s p 0) < 16
-  pub hex1 : value (getD s (p + 1) 0) < 16
-  pub hex2 : value (getD s (p + 2) 0) < 16
-  pub hex3 : value (getD s (p + 3) 0) < 16
+-- what digit k of ten counts for; 0 past them
+unfoldable pub weight : ℕ → ℕ
+weight zero = 0x1000000000
+weight (suc k) = weight k / 16
 
-pub record Hex2 (s : List ℕ) (p : ℕ) : Type 0 where
-  pub within : p + 2 ≤ length s
-  pub hex0 : value (getD s p 0) < 16
-  pub hex1 : value (getD s (p + 1) 0) < 16
+-- the number that the first ten of k digits from p on make, with zeros after them where there are fewer
+unfoldable pub numberOf : List ℕ → ℕ → ℕ → ℕ
+numberOf s p zero = 0
+numberOf s p (suc k) = numberOf s p k + value (getD s (p + k) 0) * weight k
 
--- what of a raw line the code keeps: its opcode, how many operands, and the first two (0 where there are fewer)
-unfoldable pub wholeLine : Option Raw → Digits
-wholeLine none = Bad
-wholeLine (some r) = Whole (r .opcode) (length (r .operands)) (getD (r .operands) 0 0) (getD (r .operands) 1 0)
+pub record DigitsFrom (s : List ℕ) (p : ℕ) (d : Digits) : Type 0 where
+  pub from : p ≤ d .end
+  pub to : d .end ≤ length s
+  pub all : (k : ℕ) → p ≤ k → k < d .end → value (getD s k 0) < 16
+  pub stop : d .end < length s → 16 ≤ value (getD s (d .end) 0)
+  pub number-is : d .number ≡ numberOf s p (d .end - p)
+  pub below : d .number < 0x10000000000
+
+-- what a line of n digits that make the number comes to
+abbrev pub readingBy : Bool → ℕ → ℕ → Reading
+readingBy list n number =
+    pick (ltb n 2) Malformed
+    (pick (eqb ((n - 2) % 4) 0)
+    (readAs (shapeOf list (number / 0x100000000)) (number / 0x100000000) ((n - 2) / 4) (number / 0x10000 % 0x10000) (number % 0x10000))
+    Malformed)
 
 abbrev pub ended : List ℕ → Split
 ended t = record { text = t; ended = true }

@@ -1,13 +1,11 @@
 // A line of a script or of a list: an opcode of two digits, then operands of four. One table says which operands an opcode has in
 // each of the two.
-use crate::digits::digit_value;
+use crate::digits::is_other;
+use crate::digits::value_of;
 ghost use mathlib.Core.Path.{_≡_};
-ghost use mathlib.Core.Bool.{Bool, true, false};
-ghost use Prim.Native.Nat.{ℕ, _+_, _*_, _≤_, _<_};
-ghost use lib.ListN.{length, getD};
-ghost use lib.Seq.{slice};
-ghost use Rattle.rules.specs.Text.{value, raw};
-ghost use Rattle.text.specs.Lines.{Ends, allHex, wordAt, Hex2, Hex4, wholeLine, ended, readingOf, frameReading, lineReading, Took};
+ghost use Prim.Native.Nat.{_≤_, _<_};
+ghost use lib.ListN.{length};
+ghost use Rattle.text.specs.Lines.{Ends, NextLine, DigitsFrom, readingBy, readingOf, frameReading, lineReading, Took};
 ghost use Rattle.text.specs.Shapes.{rowOf, shapeOf, fit, readAs};
 
 // A frame, or a line of a list: its opcode and its first two operands, 0 where it has fewer.
@@ -28,10 +26,10 @@ pub struct Taken {
     pub next: usize,
 }
 
-// The digits of a line: its opcode, how many operands it has, and the first two of them.
-pub enum Digits {
-    Bad,
-    Whole(u8, usize, u16, u16),
+// The digits from a place on: where they end, and the number that the first ten make, with zeros after them where there are fewer.
+pub struct Digits {
+    pub end: usize,
+    pub number: u64,
 }
 
 // Where the line that starts at p ends: its LF, or the end of the text.
@@ -49,67 +47,24 @@ pub fn line_end(s: &[u8], p: usize) -> usize
     e
 }
 
-// Whether the bytes from p on, below e, are digits.
-pub fn all_hex(s: &[u8], p: usize, e: usize) -> bool
-    requires { ⌜ (p ≤ e) × (e ≤ length (now s)) ⌝ }
-    ensures { λ r. ⌜ r ≡ allHex (slice p e (now (s .entry))) ⌝ }
+// The digits from p on, in one walk: a line's LF stands where they end. What digit k counts for is 0 from the eleventh on.
+fn digits_from(s: &[u8], p: usize) -> Digits
+    requires { ⌜ p ≤ length (now s) ⌝ }
+    ensures { λ r. ⌜ DigitsFrom (now (s .entry)) p r ⌝ }
 {
-    let mut i = p;
-    while i < e {
-        if digit_value(s[i]) >= 16 {
-            return false;
+    let mut e = p;
+    let mut number: u64 = 0;
+    let mut weight: u64 = 0x10_0000_0000;
+    while e < s.len() {
+        let c = s[e];
+        if is_other(c) {
+            return Digits { end: e, number };
         }
-        i += 1;
+        number += value_of(c) * weight;
+        weight /= 16;
+        e += 1;
     }
-    true
-}
-
-fn word_at(s: &[u8], p: usize) -> u16
-    requires { ⌜ Hex4 (now s) p ⌝ }
-    ensures { λ r. ⌜ r ≡ wordAt (now (s .entry)) p ⌝ }
-{
-    let a = digit_value(s[p]) as u16;
-    let b = digit_value(s[p + 1]) as u16;
-    let c = digit_value(s[p + 2]) as u16;
-    let d = digit_value(s[p + 3]) as u16;
-    a * 4096 + b * 256 + c * 16 + d
-}
-
-fn byte_at(s: &[u8], p: usize) -> u8
-    requires { ⌜ Hex2 (now s) p ⌝ }
-    ensures { λ r. ⌜ r ≡ value (getD (now (s .entry)) p 0) * 16 + value (getD (now (s .entry)) (p + 1) 0) ⌝ }
-{
-    let a = digit_value(s[p]);
-    let b = digit_value(s[p + 1]);
-    a * 16 + b
-}
-
-// The digits between p and e.
-fn digits_of(s: &[u8], p: usize, e: usize) -> Digits
-    requires { ⌜ (p ≤ e) × (e ≤ length (now s)) ⌝ }
-    ensures { λ r. ⌜ r ≡ wholeLine (raw (slice p e (now (s .entry)))) ⌝ }
-{
-    let n = e - p;
-    if n < 2 {
-        return Digits::Bad;
-    }
-    let m = n - 2;
-    if m % 4 != 0 {
-        return Digits::Bad;
-    }
-    if all_hex(s, p, e) {
-        let opcode = byte_at(s, p);
-        if m == 0 {
-            return Digits::Whole(opcode, 0, 0, 0);
-        }
-        let a = word_at(s, p + 2);
-        if m == 4 {
-            return Digits::Whole(opcode, 1, a, 0);
-        }
-        let b = word_at(s, p + 6);
-        return Digits::Whole(opcode, m / 4, a, b);
-    }
-    Digits::Bad
+    Digits { end: e, number }
 }
 
 // A row for each opcode: the shape of its operands in scripts, then in lists. 0: no such opcode; 1: no operand; 2: one; 3: two; 4: a
@@ -181,33 +136,61 @@ fn read_as(shape: u8, opcode: u8, count: usize, a: u16, b: u16) -> Reading
     Reading::Malformed
 }
 
-// The line between p and e, which LF ends.
-fn line_of(s: &[u8], p: usize, e: usize, list: bool) -> Reading
-    requires { ⌜ (p ≤ e) × (e ≤ length (now s)) ⌝ }
-    ensures { λ r. ⌜ r ≡ readingOf list (ended (slice p e (now (s .entry)))) ⌝ }
+// The line of n digits whose number it is.
+fn line_of(number: u64, n: usize, list: bool) -> Reading
+    requires { ⌜ number < 0x10000000000 ⌝ }
+    ensures { λ r. ⌜ r ≡ readingBy list n number ⌝ }
 {
-    match digits_of(s, p, e) {
-        Digits::Bad => Reading::Malformed,
-        Digits::Whole(opcode, count, a, b) => read_as(shape_of(opcode, list), opcode, count, a, b),
+    if n < 2 {
+        return Reading::Malformed;
     }
+    let m = n - 2;
+    if m % 4 != 0 {
+        return Reading::Malformed;
+    }
+    let opcode = (number / 0x1_0000_0000) as u8;
+    let a = (number / 0x1_0000 % 0x1_0000) as u16;
+    let b = (number % 0x1_0000) as u16;
+    read_as(shape_of(opcode, list), opcode, m / 4, a, b)
 }
 
-// The line at p. One that no LF ends is malformed.
+// Where the line after the one that holds e begins.
+fn next_line(s: &[u8], e: usize) -> usize
+    requires { ⌜ e ≤ length (now s) ⌝ }
+    ensures { λ r. ⌜ NextLine (now (s .entry)) e r ⌝ }
+{
+    let q = line_end(s, e);
+    if q == s.len() {
+        return q;
+    }
+    q + 1
+}
+
+// The line at p. One that holds another byte than digits, or that no LF ends, is malformed.
 fn line_at(s: &[u8], p: usize, list: bool) -> Taken
     requires { ⌜ p < length (now s) ⌝ }
     ensures { λ r. ⌜ Took (readingOf list) (now (s .entry)) p r ⌝ }
 {
-    let e = line_end(s, p);
+    let d = digits_from(s, p);
+    let e = d.end;
+    let number = d.number;
     if e == s.len() {
         return Taken {
             reading: Reading::Malformed,
             next: e,
         };
     }
-    let reading = line_of(s, p, e, list);
+    if s[e] == 10 {
+        let reading = line_of(number, e - p, list);
+        return Taken {
+            reading,
+            next: e + 1,
+        };
+    }
+    let next = next_line(s, e);
     Taken {
-        reading,
-        next: e + 1,
+        reading: Reading::Malformed,
+        next,
     }
 }
 

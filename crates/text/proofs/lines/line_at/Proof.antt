@@ -1,27 +1,54 @@
 -- `line_at` meets its contract. Assumes nothing.
 use borrow.Author.Needs.{needs}
-use Rattle.text.proofs.Splits.{took-open, took-ended}
+use Rattle.text.proofs.Splits.{took-torn, took-digits, took-other}
 use Rattle.text.proofs.lines.line_at.Statement.{statement}
 use Rattle.text.proofs.lines.line_at.Tie as tie
 
-line-end-requires : tie.Need-line-end-requires
-line-end-requires c κs = search needs
+digits-from-requires : tie.Need-digits-from-requires
+digits-from-requires c κs = search needs
 
 returns : tie.Need-returns
 returns c =
     let c3 = c .before .before .before in
-    took-open (c3 .args .list) (c3 .args .s .now) _ _ (c .before .line-end .ensures) (search needs) (c .if1 .taken)
+    took-torn (c3 .args .list) (c3 .args .s .now) (c3 .args .p) (search needs) _ (c .before .digits-from .ensures) (c .if1 .taken)
+
+shared-slice-read-if2 : tie.Need-shared-slice-read-if2
+shared-slice-read-if2 c = search needs
+
+sub-line-of : tie.Need-sub-line-of
+sub-line-of c = search needs
 
 line-of-requires : tie.Need-line-of-requires
 line-of-requires c κs = search needs
 
-add-t6 : tie.Need-add-t6
-add-t6 c = search needs
+add-t14 : tie.Need-add-t14
+add-t14 c = search needs
 
 returns-2 : tie.Need-returns-2
 returns-2 c =
     let c4 = c .before .before .before .before in
-    took-ended (c4 .args .list) (c4 .args .s .now) _ _ (c .before .before .line-end .ensures) (c .before .if1 .left) _ (c .line-of .ensures)
+    let c6 = c4 .before .before in
+    took-digits (c6 .args .list) (c6 .args .s .now) (c6 .args .p) (search needs) _ (c4 .digits-from .ensures) (c .before .before .before .if1 .left) (c .before .if2 .taken) _ (c .line-of .ensures)
+
+next-line-requires : tie.Need-next-line-requires
+next-line-requires c κs = search needs
+
+returns-3 : tie.Need-returns-3
+returns-3 c =
+    let c4 = c .before .before .before .before in
+    let c6 = c4 .before .before in
+    took-other (c6 .args .list) (c6 .args .s .now) (c6 .args .p) (search needs) _ (c4 .digits-from .ensures) (c .before .before .before .if1 .left) (c .before .if2 .left) _ (c .next-line .ensures)
 
 pub line-at-spec : {M : Type 1} → statement M
-line-at-spec = tie.close (tie.spec line-end-requires returns line-of-requires add-t6 returns-2)
+line-at-spec =
+    tie.close
+    (tie.spec
+    digits-from-requires
+    returns
+    shared-slice-read-if2
+    sub-line-of
+    line-of-requires
+    add-t14
+    returns-2
+    next-line-requires
+    returns-3)

@@ -7,10 +7,10 @@ use native.Mathlib.Omega.{arith}
 use lib.ListN.{getD}
 use borrow.Author.Needs.{needs}
 use lib.Seq.{slice, slice-cons, slice-empty}
-use Rattle.text.specs.Lines.{allHex}
+use Rattle.records.specs.Records.{allHex}
 use Rattle.rules.specs.Text.{value}
-use Rattle.text.proofs.lines.all_hex.Statement.{statement}
-use Rattle.text.proofs.lines.all_hex.Tie as tie
+use Rattle.records.proofs.all_hex.Statement.{statement}
+use Rattle.records.proofs.all_hex.Tie as tie
 
 abbrev Inv-loop : tie.InvT-loop
 Inv-loop s p e i₀ i = (p ≤ i) × (i ≤ e) × (allHex (slice p e s) ≡ allHex (slice i e s))
