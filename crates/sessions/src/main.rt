@@ -1,5 +1,6 @@
-// Document 01's sessions A to K and its five to run, through `translate`: for each its label and what came of it, the list or the `ee` line, LF
-// shown as /. Of a long list the last two lines are shown.
+// Document 01's sessions A to K and its five to run, and scripts of ours: for each its label, what `translate` makes of it, the list or the `ee`
+// line, and behind > what `translate_and_run` prints on a frame of so many cells. LF is shown as /, nothing as -. Of a long list the last two
+// lines are shown.
 use text::writing::put_refusal;
 ghost use Prim.Native.Nat.{_+_, _*_, _≤_};
 ghost use lib.ListN.{length};
@@ -31,11 +32,14 @@ fn back(n: usize, last: usize) -> usize {
     0
 }
 
-// What `translate` answered: the last bytes of the list, or the `ee` line.
-fn say(r: u64, list: &[u8], last: usize) {
+// What was answered: the last of r bytes of text, or the `ee` line.
+fn say(r: u64, text: &[u8], last: usize) {
     if r < 4294967296 {
-        let n = io::count(r as isize, list);
-        show(list, back(n, last), n);
+        let n = io::count(r as isize, text);
+        if n == 0 {
+            io::write_all(1, b"-");
+        }
+        show(text, back(n, last), n);
         return;
     }
     let mut line = [0u8; 9];
@@ -48,11 +52,32 @@ fn say(r: u64, list: &[u8], last: usize) {
     show(&line, 0, 9);
 }
 
-fn case(label: &[u8], script: &[u8], last: usize) {
+// Lends the first n bytes of cells.
+fn lend(script: &[u8], cells: &mut [u8], n: usize, out: &mut [u8]) -> u64
+    requires { ⌜ n ≤ length (now cells) ⌝ }
+{
+    demand3::translate_and_run(script, &mut cells[..n], out)
+}
+
+// What the script prints on a frame of so many cells.
+fn meant(script: &[u8], size: usize)
+    requires { ⌜ size ≤ 1024 ⌝ }
+{
+    let mut cells = [0x55u8; 2048];
+    let mut out = [0u8; 14336];
+    let r = lend(script, &mut cells, 2 * size, &mut out);
+    say(r, &out, 14336);
+}
+
+fn case(label: &[u8], script: &[u8], last: usize, size: usize)
+    requires { ⌜ size ≤ 1024 ⌝ }
+{
     let mut list = [0u8; 32768];
     io::write_all(1, label);
     let r = translate::translate(script, &mut list);
     say(r, &list, last);
+    io::write_all(1, b" > ");
+    meant(script, size);
     io::write_all(1, b"\n");
 }
 
@@ -79,14 +104,17 @@ fn put_tail(script: &mut [u8], w: usize, tail: &[u8])
 }
 
 // The script's first `end` bytes, of whose list the last two lines are shown.
-fn part(label: &[u8], script: &[u8], end: usize)
+fn part(label: &[u8], script: &[u8], end: usize, size: usize)
     requires { ⌜ end ≤ length (now script) ⌝ }
+    requires { ⌜ size ≤ 1024 ⌝ }
 {
-    case(label, &script[..end], 14);
+    case(label, &script[..end], 14, size);
 }
 
 // n allocs, and what follows them.
-fn long(label: &[u8], n: usize, tail: &[u8]) {
+fn long(label: &[u8], n: usize, tail: &[u8], size: usize)
+    requires { ⌜ size ≤ 1024 ⌝ }
+{
     let mut script = [0u8; 1024];
     if n <= 256 {
         let w = 3 * n;
@@ -94,7 +122,7 @@ fn long(label: &[u8], n: usize, tail: &[u8]) {
             let end = w + tail.len();
             put_allocs(&mut script, 0, n);
             put_tail(&mut script, w, tail);
-            part(label, &script, end);
+            part(label, &script, end, size);
         }
     }
 }
@@ -106,40 +134,100 @@ fn head_above() {
     put_tail(&mut script, 384, b"01\n");
     put_allocs(&mut script, 387, 384);
     put_tail(&mut script, 1539, b"020001\n080002\n06\n");
-    part(b"R5   ", &script, 1556);
+    part(b"R5   ", &script, 1556, 512);
+}
+
+fn whole_session(label: &[u8], size: usize)
+    requires { ⌜ size ≤ 1024 ⌝ }
+{
+    case(
+        label,
+        b"01\n080003\n10000100ff\n0900070001\n120007\n0e0001\n0c0002\n020001\n0f\n06\n05\n",
+        1024,
+        size,
+    );
 }
 
 fn a_to_f() {
-    case(b"A    ", b"", 1024);
-    case(b"B    ", b"080000\n", 1024);
-    case(
-        b"C    ",
-        b"01\n080003\n10000100ff\n0900070001\n120007\n0e0001\n0c0002\n020001\n0f\n06\n05\n",
-        1024,
-    );
-    case(b"D    ", b"06\n06\n0c0000\n06\n", 1024);
-    case(b"E    ", b"06\n06\n0c0000\n080002\n", 1024);
-    case(b"F    ", b"06\n06\n0c0000\n080001\n", 1024);
+    case(b"A    ", b"", 1024, 0);
+    case(b"B    ", b"080000\n", 1024, 0);
+    whole_session(b"C    ", 3);
+    case(b"D    ", b"06\n06\n0c0000\n06\n", 1024, 2);
+    case(b"E    ", b"06\n06\n0c0000\n080002\n", 1024, 4);
+    case(b"F    ", b"06\n06\n0c0000\n080001\n", 1024, 2);
 }
 
 fn g_to_k() {
-    case(b"G    ", b"01\n06\n020001\n06\n0c0000\n", 1024);
-    case(b"H    ", b"01\n030001\n020001\n", 1024);
-    case(b"I    ", b"01\n01\n020001\n", 1024);
+    case(b"G    ", b"01\n06\n020001\n06\n0c0000\n", 1024, 1);
+    case(b"H    ", b"01\n030001\n020001\n", 1024, 0);
+    case(b"I    ", b"01\n01\n020001\n", 1024, 0);
     case(
         b"J    ",
         b"06\n06\n0900070000\n0b0007\n0900070001\n0a0007\n",
         1024,
+        2,
     );
-    case(b"K    ", b"01\n070000\n0c0000\n06\n", 1024);
+    case(b"K    ", b"01\n070000\n0c0000\n06\n", 1024, 2);
 }
 
 fn runs() {
-    long(b"R1   ", 129, b"0c0005\n0c0080\n06\n");
-    long(b"R2   ", 127, b"080002\n");
-    case(b"R3   ", b"080400\n", 1024);
-    case(b"R3,7 ", b"080400\n06\n", 1024);
-    case(b"R4   ", b"080401\n", 1024);
+    long(b"R1   ", 129, b"0c0005\n0c0080\n06\n", 129);
+    long(b"R2   ", 127, b"080002\n", 129);
+    case(b"R3   ", b"080400\n", 1024, 1024);
+    case(b"R3,7 ", b"080400\n06\n", 1024, 1024);
+    case(b"R4   ", b"080401\n", 1024, 1024);
+}
+
+// Slots that another allocation had, or could be taken to have.
+fn slots() {
+    // Two allocations live at the same time. Slot 0 for both would print 2 twice.
+    case(
+        b"P1   ",
+        b"06\n06\n1000000001\n1000010002\n110000\n110001\n",
+        1024,
+        2,
+    );
+    // Handle 2 gets slot 0 again. If free 0 gave back slot 1, or slot 1 came again, handle 1 would print 3.
+    case(
+        b"P2   ",
+        b"06\n06\n1000010002\n0c0000\n06\n1000020003\n110001\n110002\n",
+        1024,
+        2,
+    );
+    // A run beside a gap. From slot 0 on it would lie over handle 1, which would print 3.
+    case(
+        b"P3   ",
+        b"06\n06\n1000010001\n0c0000\n080002\n1000020002\n1000030003\n110001\n110002\n110003\n",
+        1024,
+        4,
+    );
+    // Pop gives back what the child owns. With root's slot too, handle 2 would lie over handle 0, which would print 3.
+    case(
+        b"P4   ",
+        b"06\n1000000001\n01\n06\n1000010002\n020001\n06\n1000020003\n110000\n110002\n",
+        1024,
+        2,
+    );
+}
+
+// Name 7 in root and in a child. Looked for from root it would print 1 twice, and if it outlived the child 2 twice.
+fn names() {
+    case(
+        b"P5   ",
+        b"06\n06\n1000000001\n1000010002\n0900070000\n01\n0900070001\n120007\n020001\n120007\n",
+        1024,
+        2,
+    );
+}
+
+// An insert meets H above L. The Rust gives handle 259 the slot of handle 387, and it would print 55.
+fn head_above_read() {
+    case(
+        b"P6   ",
+        b"01\n080101\n020001\n080002\n06\n080080\n10010300aa\n1001830055\n110103\n110183\n",
+        1024,
+        257,
+    );
 }
 
 fn main() {
@@ -147,4 +235,9 @@ fn main() {
     g_to_k();
     runs();
     head_above();
+    slots();
+    names();
+    head_above_read();
+    // one cell less than its size
+    whole_session(b"C-   ", 2);
 }

@@ -6,7 +6,7 @@ use Rattle.sessions.proofs.part.Statement.{statement}
 use Rattle.sessions.proofs.part.Tie as tie
 
 slice-aggregate-case : tie.Need-slice-aggregate-case
-slice-aggregate-case c = sym (length-take-le _ (c .before .before .before .args .script .now) (c .before .before .before .pre))
+slice-aggregate-case c = sym (length-take-le _ (c .before .before .before .args .script .now) (c .before .before .before .pre .0))
 
 case-requires : tie.Need-case-requires
 case-requires c κs = search needs

@@ -1,0 +1,109 @@
+-- Demand 3 over the code, from the promises of translate and run alone. Assumes nothing.
+use mathlib.Core.Path.{_≡_, refl, sym, ap, subst, _∙_}
+use mathlib.Core.Bool.{Bool, true, false}
+use mathlib.Core.List.{List, _++_}
+use Prim.Native.Nat.{ℕ, _*_, _≤_}
+use native.Mathlib.Omega.{arith}
+use lib.Dec.{leb}
+use lib.ListN.{length, take, drop, replicate}
+use lib.Seq.{take-at}
+use borrow.Author.Tests.{le-leb}
+use Rattle.rules.specs.Notation.{if_then_else_}
+use Rattle.rules.specs.Sizes.{base}
+use Rattle.rules.specs.Slots.{edition1}
+use Rattle.rules.specs.Frames.{Line, Outcome, accepted}
+use Rattle.rules.specs.Meaning.{Ran, obey}
+use Rattle.rules.specs.Text.{listText}
+use Rattle.rules.specs.Entries.{translated, listLeft, translateEntry, overFront, loadsText, cellsOf, oddByte, bytesOf, ran, Running, runLeft, runEntry}
+use Rattle.translate.specs.Whole as translate
+use Rattle.translate.proofs.Numbers.{Comes, to-list, to-stop, comes}
+use Rattle.machine.proofs.Cells.{cells-length}
+use Rattle.demand3.specs.Promises.{Translates, Runs, Accepts, means, Prints, Above, Shows, Demand3Code}
+use Rattle.demand3.proofs.Reported.{text-reports, reports-one}
+use Rattle.demand3.proofs.Frame.{text-length, cells-back, odd-back}
+use Rattle.demand3.proofs.Ran.{reads, below, ran-on, loaded, above}
+
+-- ---- what translate left
+
+pub come : (script : List ℕ) → Comes (translated base (edition1 8) script)
+unfolding base
+come script = comes script
+
+-- the list that was accepted
+pub record Listing (script list : List ℕ) : Type 0 where
+  pub lines : List Line
+  pub size : ℕ
+  pub ok : translated base (edition1 8) script ≡ accepted lines size
+  pub is : list ≡ listText lines size
+
+listing : (script list : List ℕ) (o : Outcome) → translated base (edition1 8) script ≡ o → Comes o → (r : ℕ) (list′ : List ℕ) → translate.Leaves (listLeft o list) r list′ → Accepts r → Listing script (take r list′)
+unfolding listLeft if_then_else_
+listing script list _ e (to-stop n i a b c) r list′ h k = absurd (omega (arith, h .answered))
+listing script list _ e (to-list {ls = ls} {size = size} a) r list′ h k = go (leb (length (listText ls size)) (length list)) refl
+  where
+    go : (b : Bool) → leb (length (listText ls size)) (length list) ≡ b → Listing script (take r list′)
+    go false q = absurd (let x : r ≡ 17 * 4294967296 = rw (q, if_then_else_) at (h .answered) in omega arith)
+    go true q =
+        let x : r ≡ length (listText ls size) = rw (q, if_then_else_) at (h .answered) in
+        let y : list′ ≡ overFront (listText ls size) list = rw (q, if_then_else_) at (h .list-left) in
+        record {
+          lines = ls;
+          size = size;
+          ok = e;
+          is = ap (take r) y ∙ take-at (listText ls size) (drop (length (listText ls size)) list) r (sym x);
+        }
+
+pub listed-by : (script list : List ℕ) (r : ℕ) (list′ : List ℕ) → Translates script list r list′ → Accepts r → Listing script (take r list′)
+unfolding translateEntry
+listed-by script list r list′ h k = listing script list (translated base (edition1 8) script) refl (come script) r list′ h k
+
+-- ---- what run left
+
+-- with room for the answer
+pub left-ran : (x : Ran) (cells out : List ℕ) → 7 * length (x .loaded) ≤ length out
+    → runLeft (ran x) cells out ≡ record { answer = 7 * length (x .loaded); cells = bytesOf (x .cells) ++ oddByte cells; out = overFront (loadsText (x .loaded)) out }
+unfolding runLeft if_then_else_
+left-ran x cells out h =
+    let n = text-length (x .loaded) in
+    rw (le-leb (length (loadsText (x .loaded))) (length out) (omega arith), if_then_else_)
+    (ap (λ (k : ℕ). record { answer = k; cells = bytesOf (x .cells) ++ oddByte cells; out = overFront (loadsText (x .loaded)) out }) n)
+
+module _ (script : List ℕ) (ls : List Line) (size : ℕ) (ok : translated base (edition1 8) script ≡ accepted ls size) where
+  larger : (cells out : List ℕ) → 2 * size ≤ length cells → 7 * length (means script) ≤ length out
+      → (a : ℕ) (cells′ out′ : List ℕ) → Runs (listText ls size) cells out a cells′ out′ → Prints script out a out′ × Above size cells cells′
+  unfolding runEntry
+  larger cells out h k a cells′ out′ run =
+      let cs : List ℕ = cellsOf cells in
+      let f : size ≤ length cs = omega (arith, cells-length cells) in
+      let x : Ran = obey (replicate size 0 ++ drop size cs) ls in
+      let m : x .loaded ≡ means script = loaded script ls size ok cs f in
+      let e = ap (λ o. runLeft o cells out) (ran-on script ls size ok cs f) ∙ left-ran x cells out (rw m k) in
+      let w : cells′ ≡ bytesOf (x .cells) ++ oddByte cells = run .cells-left ∙ ap (λ (l : Running). l .cells) e in (
+        record {
+          count = run .answered ∙ ap (λ (l : Running). l .answer) e ∙ ap (λ (v : List ℕ). 7 * length v) m;
+          text = run .out-left ∙ ap (λ (l : Running). l .out) e ∙ ap (λ (v : List ℕ). overFront (loadsText v) out) m;
+        },
+        record {
+          same = ap (λ (b : List ℕ). drop size (cellsOf b)) w ∙ ap (drop size) (cells-back (x .cells) cells) ∙ above script ls size ok cs f;
+          odd = ap oddByte w ∙ odd-back (x .cells) cells;
+        },
+      )
+
+  shows : Shows script (listText ls size)
+  shows =
+      record {
+        size = size;
+        reported = text-reports ls size;
+        only = λ n h. reports-one (listText ls size) n size h (text-reports ls size);
+        inside = record { lines = ls; read = reads script ls size ok; below = below script ls size ok };
+        exact = λ cells out h k a cells′ out′ run. larger cells out (omega arith) k a cells′ out′ run .0;
+        larger = larger;
+      }
+
+-- ---- demand 3
+
+pub demand3-code : Demand3Code
+unfolding Demand3Code
+demand3-code script list r list′ h k =
+    let l = listed-by script list r list′ h k in
+    subst (Shows script) (sym (l .is)) (shows script (l .lines) (l .size) (l .ok))

@@ -1,0 +1,5 @@
+pub mod Reported
+pub mod Frame
+pub mod Ran
+pub mod Demand3
+pub mod Together

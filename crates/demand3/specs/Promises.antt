@@ -1,0 +1,76 @@
+-- Demand 3 over the code: "Any accepted script, translated and run on a zeroed frame of exactly the reported size, prints what the script means ..; no
+-- load or store falls outside the frame", stated over the promises of translate and run as their contracts have them. Assumes nothing.
+use mathlib.Core.Path.{_≡_}
+use mathlib.Core.Option.{none}
+use mathlib.Core.List.{List, [], _∷_, _++_}
+use Prim.Native.Nat.{ℕ, _*_, _≤_, _<_}
+use lib.ListN.{length, take, drop}
+use Rattle.rules.specs.Sizes.{base}
+use Rattle.rules.specs.Slots.{edition1}
+use Rattle.rules.specs.Frames.{Line, shows}
+use Rattle.rules.specs.Meaning.{high}
+use Rattle.rules.specs.Text.{split, lineText, listed, listFrom}
+use Rattle.rules.specs.Entries.{overFront, loadsText, translateEntry, cellsOf, oddByte, runEntry}
+use Rattle.rules.specs.Demand3.{scriptMeaning}
+use Rattle.translate.specs.Whole as translate
+use Rattle.machine.specs.Machine as machine
+
+-- ---- the two promises
+
+-- translate may answer r and leave list′, where it was lent list
+abbrev pub Translates : List ℕ → List ℕ → ℕ → List ℕ → Type 0
+Translates script list r list′ = translate.Leaves (translateEntry base (edition1 8) script list) r list′
+
+-- run may answer a and leave cells′ and out′, where it was lent cells and out
+abbrev pub Runs : List ℕ → List ℕ → List ℕ → ℕ → List ℕ → List ℕ → Type 0
+Runs list cells out a cells′ out′ = machine.Leaves (runEntry base list cells out) a cells′ out′
+
+-- a refusal has its number, 1 or more, in the high 32 bits
+abbrev pub Accepts : ℕ → Type 0
+Accepts r = r < 4294967296
+
+-- ---- what is wanted
+
+-- "what the script means if each allocation had a box of its own"
+abbrev pub means : List ℕ → List ℕ
+means script = scriptMeaning base (edition1 8) script
+
+-- "the reported size": the list's last line is `90` and the size
+pub record Reports (list : List ℕ) (size : ℕ) : Type 0 where
+  pub before : List ℕ
+  pub last : list ≡ before ++ lineText (shows 0x90 (size ∷ []))
+
+-- "no load or store falls outside the frame": each address of the list's 10, 11 and 12 is below the size
+pub record Inside (list : List ℕ) (size : ℕ) : Type 0 where
+  pub lines : List Line
+  pub read : listFrom base 0 (split list) ≡ listed lines size
+  pub below : high size 0 lines ≡ none
+
+-- "prints what the script means", 7 bytes a load; what is lent beyond it stays
+pub record Prints (script out : List ℕ) (a : ℕ) (out′ : List ℕ) : Type 0 where
+  pub count : a ≡ 7 * length (means script)
+  pub text : out′ ≡ overFront (loadsText (means script)) out
+
+-- the cells from the size on stay, and an odd last byte
+pub record Above (size : ℕ) (cells cells′ : List ℕ) : Type 0 where
+  pub same : drop size (cellsOf cells′) ≡ drop size (cellsOf cells)
+  pub odd : oddByte cells′ ≡ oddByte cells
+
+-- ---- the statement
+
+-- of the list that translate left for the script: whatever run's promise admits
+pub record Shows (script list : List ℕ) : Type 0 where
+  pub size : ℕ
+  pub reported : Reports list size
+  pub only : (n : ℕ) → Reports list n → n ≡ size
+  pub inside : Inside list size
+  -- on a frame of exactly the reported size
+  pub exact : (cells out : List ℕ) → length cells ≡ 2 * size → 7 * length (means script) ≤ length out
+      → (a : ℕ) (cells′ out′ : List ℕ) → Runs list cells out a cells′ out′ → Prints script out a out′
+  -- on a larger one
+  pub larger : (cells out : List ℕ) → 2 * size ≤ length cells → 7 * length (means script) ≤ length out
+      → (a : ℕ) (cells′ out′ : List ℕ) → Runs list cells out a cells′ out′ → Prints script out a out′ × Above size cells cells′
+
+-- for every script that translate accepts, whatever its promise admits: the list is as many bytes as the answer counts
+unfoldable pub Demand3Code : Type 0
+Demand3Code = (script list : List ℕ) (r : ℕ) (list′ : List ℕ) → Translates script list r list′ → Accepts r → Shows script (take r list′)
