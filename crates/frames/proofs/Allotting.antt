@@ -23,7 +23,6 @@ use Rattle.rules.proofs.Editions.{edition1-fair-sound}
 use Rattle.rules.proofs.Leaves.{allotted}
 use Rattle.slots.specs.declared.SlotAddress.{SlotAddress}
 use Rattle.scopes.specs.View.{view, at, Seen, seen, told}
-use Rattle.scopes.specs.Sound.{Sound}
 use Rattle.scopes.specs.declared.Scopes.{Scopes}
 use Rattle.scopes.specs.declared.Outcome.{Outcome}
 use Rattle.scopes.specs.declared.Reply.{Reply}

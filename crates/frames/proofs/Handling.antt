@@ -16,7 +16,6 @@ use Rattle.rules.specs.Needs.{Kind, Address, address, freed, allocatedKind, isF
 use Rattle.rules.specs.Frames.{State, Handle, kind≔, written≔, Frame, define, forget, write, read, shows, stores, loads, oneLine, unknown, spent, setHandle, step}
 use Rattle.slots.specs.Halves.{occ}
 use Rattle.scopes.specs.View.{view}
-use Rattle.scopes.specs.Sound.{Sound}
 use Rattle.scopes.specs.declared.Scopes.{Scopes}
 use Rattle.needs.specs.Kinds.{kindOf, addressOf}
 use Rattle.frames.specs.Handles.{slotIn, kindIn, handleAt, stateOf, Coded, freedAs}

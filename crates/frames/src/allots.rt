@@ -1,6 +1,6 @@
 // 06 alloc, 07 alloc in, 08 linear: slots and their handles. 3 or 4, then 16, then 7.
 ghost use mathlib.Core.Path.{_≡_};
-ghost use Prim.Native.Nat.{ℕ, _+_, _≤_, _<_};
+ghost use Prim.Native.Nat.{_+_, _≤_, _<_};
 ghost use lib.ListN.{length};
 ghost use Rattle.rules.specs.Needs.{runKind};
 ghost use Rattle.rules.specs.Frames as frame;

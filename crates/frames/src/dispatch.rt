@@ -39,10 +39,11 @@ fn scope_step(
     requires { ⌜ Whole (made (now halves) (now links) (now owner) (now live) (now dangled) (now parent) (now number) (now bindings) n) × (f .opcode < 6) ⌝ }
     ensures { λ r. ⌜ ((g : frame.Frame) → frameOf f ≡ some g → (handles holders : List ℕ) → Leads g (f .opcode) (made (now (halves .entry)) (now (links .entry)) (now (owner .entry)) (now (live .entry)) (now (dangled .entry)) (now (parent .entry)) (now (number .entry)) (now (bindings .entry)) n) (made (now (halves .exit)) (now (links .exit)) (now (owner .exit)) (now (live .exit)) (now (dangled .exit)) (now (parent .exit)) (now (number .exit)) (now (bindings .exit)) (r .numbers)) handles holders handed r handles holders) ⌝ }
 {
-    if f.opcode == 0x01 {
+    let op = f.opcode;
+    if op == 0x01 {
         return scoped::child(live, parent, number, n, handed);
     }
-    if f.opcode == 0x02 {
+    if op == 0x02 {
         return scoped::pop(
             halves,
             links,
@@ -57,13 +58,13 @@ fn scope_step(
             f.a,
         );
     }
-    if f.opcode == 0x03 {
+    if op == 0x03 {
         return scoped::dangle(live, dangled, parent, number, n, handed, f.a);
     }
-    if f.opcode == 0x04 {
+    if op == 0x04 {
         return scoped::restore(live, dangled, number, n, handed, f.a);
     }
-    if f.opcode == 0x05 {
+    if op == 0x05 {
         return scoped::pop_last(
             halves,
             links,
@@ -96,10 +97,11 @@ fn allot_step<'a>(
     requires { ⌜ ((s : Scopes) × Stands (onAllots s (now halves) (now links) (now owner) (now live) (now number) n) (now handles) (now holders) handed) × (6 ≤ f .opcode) × (f .opcode < 9) ⌝ }
     ensures { λ r. ⌜ ((g : frame.Frame) → frameOf f ≡ some g → (s : Scopes) → Leads g (f .opcode) (onAllots s (now (halves .entry)) (now (links .entry)) (now (owner .entry)) (now (live .entry)) (now (number .entry)) n) (onAllots s (now (halves .exit)) (now (links .exit)) (now (owner .exit)) (now (live .entry)) (now (number .entry)) (r .numbers)) (now (handles .entry)) (now (holders .entry)) handed r (now (handles .exit)) (now (holders .exit))) ⌝ }
 {
-    if f.opcode == 0x06 {
+    let op = f.opcode;
+    if op == 0x06 {
         return allots::alloc(halves, links, owner, n, handles, holders, handed);
     }
-    if f.opcode == 0x07 {
+    if op == 0x07 {
         return allots::alloc_in(
             halves,
             links,
@@ -129,10 +131,11 @@ fn name_step<'a>(
     requires { ⌜ ((s : Scopes) × ((holders : List ℕ) × Stands (onNames s (now live) (now parent) (now bindings) n) (now handles) holders handed)) × (9 ≤ f .opcode) × (f .opcode < 12) ⌝ }
     ensures { λ r. ⌜ ((g : frame.Frame) → frameOf f ≡ some g → (s : Scopes) (holders : List ℕ) → Leads g (f .opcode) (onNames s (now (live .entry)) (now (parent .entry)) (now (bindings .entry)) n) (onNames s (now (live .entry)) (now (parent .entry)) (now (bindings .exit)) (r .numbers)) (now (handles .entry)) holders handed r (now (handles .entry)) holders) ⌝ }
 {
-    if f.opcode == 0x09 {
+    let op = f.opcode;
+    if op == 0x09 {
         return named::define(bindings, n, handles, handed, f.a, HandleNumber(f.b));
     }
-    if f.opcode == 0x0a {
+    if op == 0x0a {
         let adds = named::get(live, parent, bindings, n, f.a);
         return Stepped {
             numbers: n,
@@ -158,8 +161,9 @@ fn free_step(
     requires { ⌜ ((s : Scopes) × Stands (onFrees s (now halves) (now links) (now owner) (now number) n) (now handles) (now holders) handed) × (12 ≤ f .opcode) × (f .opcode < 15) ⌝ }
     ensures { λ r. ⌜ ((g : frame.Frame) → frameOf f ≡ some g → (s : Scopes) → Leads g (f .opcode) (onFrees s (now (halves .entry)) (now (links .entry)) (now (owner .entry)) (now (number .entry)) n) (onFrees s (now (halves .exit)) (now (links .exit)) (now (owner .exit)) (now (number .entry)) (r .numbers)) (now (handles .entry)) (now (holders .entry)) handed r (now (handles .exit)) (now (holders .entry))) ⌝ }
 {
+    let op = f.opcode;
     let h = HandleNumber(f.a);
-    if f.opcode == 0x0c {
+    if op == 0x0c {
         return frees::free(
             halves,
             links,
@@ -173,7 +177,7 @@ fn free_step(
             true,
         );
     }
-    if f.opcode == 0x0d {
+    if op == 0x0d {
         return frees::free(
             halves,
             links,
@@ -210,13 +214,14 @@ fn cell_step<'a>(
     requires { ⌜ ((s : Scopes) × Stands (onCells s (now halves) (now live) (now parent) (now bindings) n) (now handles) (now holders) handed) × (16 ≤ f .opcode) ⌝ }
     ensures { λ r. ⌜ ((g : frame.Frame) → frameOf f ≡ some g → (s : Scopes) → Stays g (f .opcode) (onCells s (now (halves .entry)) (now (live .entry)) (now (parent .entry)) (now (bindings .entry)) n) (now (handles .entry)) (now (holders .entry)) handed r (now (handles .exit))) ⌝ }
 {
-    if f.opcode == 0x10 {
+    let op = f.opcode;
+    if op == 0x10 {
         return cells::write(halves, handles, holders, handed, HandleNumber(f.a), f.b);
     }
-    if f.opcode == 0x11 {
+    if op == 0x11 {
         return cells::read(halves, handles, holders, handed, HandleNumber(f.a));
     }
-    if f.opcode == 0x12 {
+    if op == 0x12 {
         return cells::read_name(
             halves,
             live,
@@ -253,7 +258,8 @@ pub fn step(
     ensures { λ r. ⌜ ((g : frame.Frame) → frameOf f ≡ some g → Works g (f .opcode) (made (now (halves .entry)) (now (links .entry)) (now (owner .entry)) (now (live .entry)) (now (dangled .entry)) (now (parent .entry)) (now (number .entry)) (now (bindings .entry)) n) (now (handles .entry)) (now (holders .entry)) handed (record { state = made (now (halves .exit)) (now (links .exit)) (now (owner .exit)) (now (live .exit)) (now (dangled .exit)) (now (parent .exit)) (now (number .exit)) (now (bindings .exit)) (r .numbers); handed = r .handed; adds = r .adds }) (now (handles .exit)) (now (holders .exit)) (now (drained .exit))) ⌝ }
     ensures { λ r. ⌜ length (now (drained .exit)) ≡ 1024 ⌝ }
 {
-    if f.opcode < 0x06 {
+    let op = f.opcode;
+    if op < 0x06 {
         return scope_step(
             halves,
             links,
@@ -268,7 +274,7 @@ pub fn step(
             f,
         );
     }
-    if f.opcode < 0x09 {
+    if op < 0x09 {
         return allot_step(
             halves,
             links,
@@ -282,13 +288,13 @@ pub fn step(
             f,
         );
     }
-    if f.opcode < 0x0c {
+    if op < 0x0c {
         return name_step(live, parent, bindings, n, handles, handed, f);
     }
-    if f.opcode < 0x0f {
+    if op < 0x0f {
         return free_step(halves, links, owner, number, n, handles, holders, handed, f);
     }
-    if f.opcode == 0x0f {
+    if op == 0x0f {
         let count = drain::drain(links, owner, drained);
         return Stepped {
             numbers: n,

@@ -1,7 +1,6 @@
 // 09 define, 0a get, 0b take.
-ghost use mathlib.Core.Path.{_≡_};
 ghost use mathlib.Core.List.{List};
-ghost use Prim.Native.Nat.{ℕ, _≤_};
+ghost use Prim.Native.Nat.{ℕ};
 ghost use Rattle.rules.specs.Frames as frame;
 ghost use Rattle.scopes.specs.Lent.{withNames, Whole};
 ghost use Rattle.frames.specs.Steps.{onNames, Stands, Leads, Stays};

@@ -1,6 +1,5 @@
 // 01 child, 02 pop, 03 dangle, 04 restore, 05 pop last: frames that leave the tables alone. A handle is held while its slot is occupied
 // and no later handle took it, so closing a scope touches no handle.
-ghost use mathlib.Core.Path.{_≡_};
 ghost use mathlib.Core.List.{List};
 ghost use Prim.Native.Nat.{ℕ};
 ghost use Rattle.rules.specs.Frames as frame;

@@ -12,35 +12,35 @@ abbrev state : tie.Start → Scopes
 state st = made (st .args .halves .now) (st .args .links .now) (st .args .owner .now) (st .args .live .now) (st .args .dangled .now) (st .args .parent .now) (st .args .number .now) (st .args .bindings .now) (st .args .n)
 
 scope-step-requires : tie.Need-scope-step-requires
-scope-step-requires c κs = (c .before .before .before .before .before .before .before .before .before .before .pre .0 .whole, c .before .before .before .before .before .before .before .before .if1 .taken)
+scope-step-requires c κs = (c .before .before .before .before .before .before .before .before .before .pre .0 .whole, c .before .before .before .before .before .before .before .before .if1 .taken)
 
 returns : tie.Need-returns
-returns c = let st = c .before .before .before .before .before .before .before .before .before .before .before in (λ g q. c .scope-step .ensures g q _ _ (st .pre .0) _, st .pre .1)
+returns c = let st = c .before .before .before .before .before .before .before .before .before .before in (λ g q. c .scope-step .ensures g q _ _ (st .pre .0) _, st .pre .1)
 
 allot-step-requires : tie.Need-allot-step-requires
-allot-step-requires c κs = let st = c .before .before .before .before .before .before .before .before .before .before .before in ((state st, st .pre .0), omega (arith, c .before .before .before .before .before .before .before .before .before .if1 .left), c .before .before .before .before .before .before .before .if2 .taken)
+allot-step-requires c κs = let st = c .before .before .before .before .before .before .before .before .before in ((state st, st .pre .0), omega (arith, c .before .before .before .before .before .before .before .before .if1 .left), c .before .before .before .before .before .before .before .if2 .taken)
 
 returns-2 : tie.Need-returns-2
-returns-2 c = let st = c .before .before .before .before .before .before .before .before .before .before .before .before in (λ g q. c .allot-step .ensures g q (state st) (st .pre .0) _, st .pre .1)
+returns-2 c = let st = c .before .before .before .before .before .before .before .before .before .before in (λ g q. c .allot-step .ensures g q (state st) (st .pre .0) _, st .pre .1)
 
 name-step-requires : tie.Need-name-step-requires
-name-step-requires c κs = let st = c .before .before .before .before .before .before .before .before .before .before in ((state st, (_, st .pre .0)), omega (arith, c .before .before .before .before .before .before .if2 .left), c .before .before .before .before .if3 .taken)
+name-step-requires c κs = let st = c .before .before .before .before .before .before .before in ((state st, (_, st .pre .0)), omega (arith, c .before .before .before .before .before .if2 .left), c .before .before .before .before .if3 .taken)
 
 returns-3 : tie.Need-returns-3
-returns-3 c = let st = c .before .before .before .before .before .before .before .before .before .before .before in (λ g q. c .name-step .ensures g q (state st) _ (st .pre .0) _, st .pre .1)
+returns-3 c = let st = c .before .before .before .before .before .before .before .before in (λ g q. c .name-step .ensures g q (state st) _ (st .pre .0) _, st .pre .1)
 
 free-step-requires : tie.Need-free-step-requires
-free-step-requires c κs = let st = c .before .before .before .before .before .before .before .before .before .before .before .before .before .before in ((state st, st .pre .0), omega (arith, c .before .before .before .before .before .before .before .before .if3 .left), c .before .before .before .before .before .before .if4 .taken)
+free-step-requires c κs = let st = c .before .before .before .before .before .before .before .before .before .before in ((state st, st .pre .0), omega (arith, c .before .before .before .before .before .before .before .if3 .left), c .before .before .before .before .before .before .if4 .taken)
 
 returns-4 : tie.Need-returns-4
-returns-4 c = let st = c .before .before .before .before .before .before .before .before .before .before .before .before .before .before .before in (λ g q. c .free-step .ensures g q (state st) (st .pre .0) _, st .pre .1)
+returns-4 c = let st = c .before .before .before .before .before .before .before .before .before .before .before in (λ g q. c .free-step .ensures g q (state st) (st .pre .0) _, st .pre .1)
 
 drain-requires : tie.Need-drain-requires
-drain-requires c κs = let st = c .before .before .before .before .before .before .before .before .before .before .before .before .before in (state st, st .pre .0 .whole, st .pre .1)
+drain-requires c κs = let st = c .before .before .before .before .before .before .before .before in (state st, st .pre .0 .whole, st .pre .1)
 
 returns-5 : tie.Need-returns-5
 returns-5 c =
-    let st = c .before .before .before .before .before .before .before .before .before .before .before .before .before .before in
+    let st = c .before .before .before .before .before .before .before .before .before in
     let d = c .drain .ensures .0 (state st) (st .pre .0 .whole) in (
       λ g q. works-as (st .args .f) 0x0f frame.drain g (c .before .before .before .before .if5 .taken) (is-drain (st .args .f) (c .before .before .before .before .if5 .taken)) q
           (drain-works _ _ _ _ (st .pre .0) _ (c .drain .result) _ (d .0) (d .1) (d .2) (c .drain .ensures .1 .1) (c .drain .ensures .1 .2)),
@@ -48,10 +48,10 @@ returns-5 c =
     )
 
 cell-step-requires : tie.Need-cell-step-requires
-cell-step-requires c κs = let st = c .before .before .before .before .before .before .before .before .before .before .before .before .before .before .before .before in ((state st, st .pre .0), omega (arith, c .before .before .before .before .before .before .before .before .if4 .left, c .before .before .before .before .before .before .if5 .left))
+cell-step-requires c κs = let st = c .before .before .before .before .before .before .before .before .before .before .before in ((state st, st .pre .0), omega (arith, c .before .before .before .before .before .before .before .if4 .left, c .before .before .before .before .before .before .if5 .left))
 
 returns-6 : tie.Need-returns-6
-returns-6 c = let st = c .before .before .before .before .before .before .before .before .before .before .before .before .before .before .before .before .before in (λ g q. c .cell-step .ensures g q (state st) (st .pre .0) _, st .pre .1)
+returns-6 c = let st = c .before .before .before .before .before .before .before .before .before .before .before .before in (λ g q. c .cell-step .ensures g q (state st) (st .pre .0) _, st .pre .1)
 
 pub step-spec : {M : Type 1} → statement M
 step-spec =
