@@ -182,10 +182,8 @@ fn line_at(s: &[u8], p: usize, list: bool) -> Taken
     }
     if s[e] == 10 {
         let reading = line_of(number, e - p, list);
-        return Taken {
-            reading,
-            next: e + 1,
-        };
+        let next = e + 1;
+        return Taken { reading, next };
     }
     let next = next_line(s, e);
     Taken {

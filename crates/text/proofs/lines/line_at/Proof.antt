@@ -21,8 +21,8 @@ sub-line-of c = search needs
 line-of-requires : tie.Need-line-of-requires
 line-of-requires c κs = search needs
 
-add-t14 : tie.Need-add-t14
-add-t14 c = search needs
+add-next : tie.Need-add-next
+add-next c = search needs
 
 returns-2 : tie.Need-returns-2
 returns-2 c =
@@ -48,7 +48,7 @@ line-at-spec =
     shared-slice-read-if2
     sub-line-of
     line-of-requires
-    add-t14
+    add-next
     returns-2
     next-line-requires
     returns-3)
