@@ -1,6 +1,6 @@
 // Scopes are opened, dangled and restored, and looked up by id or by number: the leaves, and `lent::open` by value.
 ghost use mathlib.Core.Path.{_≡_};
-ghost use Prim.Native.Nat.{ℕ, _<_};
+ghost use Prim.Native.Nat.{_<_};
 ghost use Rattle.rules.specs.Notation.{refuse_unless_};
 ghost use Rattle.rules.specs.Sizes.{base};
 ghost use Rattle.rules.specs.Scopes as rule;

@@ -1,7 +1,6 @@
 // Scopes are closed: by id, and root at the end.
-ghost use mathlib.Core.Path.{_≡_};
-ghost use mathlib.Core.Bool.{true, false};
-ghost use Prim.Native.Nat.{ℕ, _<_};
+ghost use mathlib.Core.Bool.{false};
+ghost use Prim.Native.Nat.{_<_};
 ghost use Rattle.rules.specs.Sizes.{base};
 ghost use Rattle.rules.specs.Scopes as rule;
 ghost use Rattle.scopes.specs.View.{idOf, toldOnly};

@@ -1,9 +1,7 @@
 // The dangling list is handed out.
 ghost use mathlib.Core.Path.{_≡_};
 ghost use Prim.Native.Nat.{ℕ, _≤_};
-ghost use lib.ListN.{length, getD, take};
-ghost use Rattle.rules.specs.Scopes as rule;
-ghost use Rattle.scopes.specs.View.{view};
+ghost use lib.ListN.{length, getD};
 ghost use Rattle.scopes.specs.Lent.{numbersOf, withSlots, Whole, Drains};
 use crate::Scopes;
 

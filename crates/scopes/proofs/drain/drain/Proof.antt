@@ -1,5 +1,4 @@
 -- The dangling list is handed out, by value. Assumes nothing.
-use mathlib.Core.Path.{_≡_}
 use borrow.Author.Needs.{needs}
 use Rattle.scopes.specs.Lent.{Whole}
 use Rattle.scopes.proofs.drain.drain.Statement.{statement}

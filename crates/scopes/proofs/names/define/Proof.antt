@@ -1,5 +1,4 @@
 -- A name is bound in the top scope, by value. Assumes nothing.
-use mathlib.Core.Path.{_≡_}
 use borrow.Author.Needs.{needs}
 use Rattle.scopes.specs.View.{defined, toldOnly}
 use Rattle.scopes.specs.Lent.{Whole}

@@ -1,5 +1,5 @@
 -- A name is looked for from the top on, by value. Assumes nothing.
-use mathlib.Core.Path.{_≡_, ap, _∙_}
+use mathlib.Core.Path.{ap, _∙_}
 use Rattle.rules.specs.Sizes.{base}
 use Rattle.rules.specs.Scopes as rule
 use Rattle.scopes.specs.View.{view, bound, replied}

@@ -1,5 +1,4 @@
 -- A run of slots for the top, by value. Assumes nothing.
-use mathlib.Core.Path.{_≡_}
 use borrow.Author.Needs.{needs}
 use Rattle.rules.specs.Sizes.{base}
 use Rattle.rules.specs.Slots.{edition1}

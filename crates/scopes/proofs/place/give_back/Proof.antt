@@ -1,5 +1,4 @@
 -- A slot goes back, by value. Assumes nothing.
-use mathlib.Core.Path.{_≡_}
 use borrow.Author.Needs.{needs}
 use Rattle.rules.specs.Needs.{giveBack}
 use Rattle.scopes.specs.View.{toldOnly}

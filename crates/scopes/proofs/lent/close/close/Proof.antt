@@ -1,5 +1,5 @@
 -- A scope is closed. Assumes nothing.
-use mathlib.Core.Path.{_≡_, _∙_}
+use mathlib.Core.Path.{_∙_}
 use Rattle.scopes.specs.Lent.{made, withSlots, Empties}
 use Rattle.scopes.specs.declared.Scopes.{Scopes}
 use Rattle.scopes.proofs.Closes.{gone-is, gone-whole}

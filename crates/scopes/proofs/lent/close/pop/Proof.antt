@@ -1,5 +1,4 @@
 -- A scope is popped. Assumes nothing.
-use mathlib.Core.Path.{_≡_}
 use Rattle.rules.specs.Sizes.{base}
 use Rattle.rules.specs.Scopes as rule
 use Rattle.scopes.specs.View.{view, idOf}

@@ -1,5 +1,4 @@
 -- A name is bound in the top scope. Assumes nothing.
-use mathlib.Core.Path.{_≡_}
 use Rattle.scopes.specs.Sound.{Sound}
 use Rattle.scopes.specs.Lent.{withNames}
 use Rattle.scopes.specs.declared.Scopes.{Scopes}

@@ -1,5 +1,5 @@
 -- A name is looked for from the top on. Assumes nothing.
-use mathlib.Core.Path.{_≡_, sym, ap, _∙_}
+use mathlib.Core.Path.{sym, ap, _∙_}
 use Rattle.scopes.specs.View.{bound, replied}
 use Rattle.scopes.specs.Sound.{Sound}
 use Rattle.scopes.specs.Lent.{withScopes, withNames}

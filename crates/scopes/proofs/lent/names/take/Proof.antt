@@ -1,5 +1,4 @@
 -- A name is looked for from the top on, and its binding marked moved. Assumes nothing.
-use mathlib.Core.Path.{_≡_}
 use Rattle.scopes.specs.Sound.{Sound}
 use Rattle.scopes.specs.Lent.{withScopes, withNames}
 use Rattle.scopes.specs.declared.Scopes.{Scopes}

@@ -1,6 +1,5 @@
 -- A child is opened. Assumes nothing.
-use mathlib.Core.Path.{_≡_}
-use Prim.Native.Nat.{ℕ, _<_}
+use Prim.Native.Nat.{_<_}
 use native.Mathlib.Omega.{arith}
 use Rattle.scopes.specs.Sound.{Sound}
 use Rattle.scopes.specs.Lent.{withScopes}

@@ -1,6 +1,5 @@
 -- A scope is restored. Assumes nothing.
-use mathlib.Core.Path.{_≡_}
-use Prim.Native.Nat.{ℕ, _<_}
+use Prim.Native.Nat.{_<_}
 use borrow.Author.Tests.{not-true, not-false}
 use Rattle.rules.specs.Sizes.{base}
 use Rattle.rules.specs.Scopes as rule

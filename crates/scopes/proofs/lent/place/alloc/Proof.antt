@@ -1,9 +1,9 @@
 -- A slot for the top scope. Assumes nothing.
-use mathlib.Core.Path.{_≡_, ap, _∙_}
+use mathlib.Core.Path.{ap, _∙_}
 use Rattle.scopes.specs.View.{view, at, told}
 use Rattle.scopes.specs.Lent.{withSlots}
 use Rattle.scopes.specs.declared.Scopes.{Scopes}
-use Rattle.scopes.proofs.Finds.{Topped, topped}
+use Rattle.scopes.proofs.Finds.{topped}
 use Rattle.scopes.proofs.Allocs.{alloc-no-top, alloc-top}
 use Rattle.scopes.proofs.lent.place.alloc.Statement.{statement}
 use Rattle.scopes.proofs.lent.place.alloc.Tie as tie

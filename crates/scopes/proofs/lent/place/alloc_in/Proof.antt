@@ -1,5 +1,5 @@
 -- A slot for the scope with an id. Assumes nothing.
-use mathlib.Core.Path.{_≡_, ap, _∙_}
+use mathlib.Core.Path.{ap, _∙_}
 use Rattle.rules.specs.Sizes.{base}
 use Rattle.rules.specs.Scopes as rule
 use Rattle.scopes.specs.View.{view, idOf, at, told}

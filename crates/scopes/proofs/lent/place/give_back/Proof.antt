@@ -1,5 +1,5 @@
 -- A slot goes back, if the top owns it. Assumes nothing.
-use mathlib.Core.Path.{_≡_, _∙_}
+use mathlib.Core.Path.{_∙_}
 use native.Mathlib.Omega.{arith}
 use borrow.Author.Tests.{ne-eqb}
 use Rattle.scopes.specs.Sound.{Sound}

@@ -1,11 +1,10 @@
 -- A slot of the top goes back. Assumes nothing.
-use mathlib.Core.Path.{_≡_, refl}
+use mathlib.Core.Path.{refl}
 use native.Mathlib.Omega.{arith}
 use Rattle.scopes.specs.View.{held}
-use Rattle.scopes.specs.Sound.{Sound}
 use Rattle.scopes.specs.Lent.{withSlots}
 use Rattle.scopes.specs.declared.Scopes.{Scopes}
-use Rattle.scopes.proofs.Finds.{Topped, topped}
+use Rattle.scopes.proofs.Finds.{topped}
 use Rattle.scopes.proofs.Frees.{on, gives-back, gives-quietly}
 use borrow.Author.Needs.{needs}
 use Rattle.scopes.proofs.lent.place.release.Statement.{statement}
