@@ -15,6 +15,7 @@ use Rattle.rules.specs.Meaning.{Ran, obey}
 use Rattle.rules.specs.Text.{listText}
 use Rattle.rules.specs.Entries.{translated, listLeft, translateEntry, overFront, loadsText, cellsOf, oddByte, bytesOf, ran, Running, runLeft, runEntry}
 use Rattle.translate.specs.Whole as translate
+use Rattle.text.proofs.Halves.{by-number}
 use Rattle.translate.proofs.Numbers.{Comes, to-list, to-stop, Halves, count, number, translate-halves}
 use Rattle.machine.specs.Machine.{Leaves, Bytes}
 use Rattle.machine.proofs.Cells.{cells-length}
@@ -116,10 +117,10 @@ pub together-one : (script cells out : List ℕ) (r r′ : ℕ) (cells′ cells�
 together-one script cells out r r′ cells′ cells″ out′ out″ a b = machine.leaves-one a b
 
 -- the two halves of the answer can't be mistaken for each other
-pub together-answer : (script cells out : List ℕ) → Bytes cells → machine.Halves cells out 2048 (together script cells out)
+pub together-answer : (script cells out : List ℕ) → Bytes cells → machine.HalvesOf cells out 2048 (together script cells out)
 unfolding together togetherOn
 together-answer script cells out bytes = go (translated base (edition1 8) script) refl (come script)
   where
-    go : (o : Outcome) → translated base (edition1 8) script ≡ o → Comes o → machine.Halves cells out 2048 (togetherOn o (means script) cells out)
-    go _ e (to-stop n i a b c) = machine.number n i (omega arith) (omega arith) a b c refl refl
-    go _ e (to-list {ls = ls} {size = size} a) = subst (machine.Halves cells out 2048) (run-is script ls size e cells out bytes) (machine.run-answer (listText ls size) cells out)
+    go : (o : Outcome) → translated base (edition1 8) script ≡ o → Comes o → machine.HalvesOf cells out 2048 (togetherOn o (means script) cells out)
+    go _ e (to-stop n i a b c) = by-number _ _ _ _ n i (omega arith) a b c (refl, refl)
+    go _ e (to-list {ls = ls} {size = size} a) = subst (machine.HalvesOf cells out 2048) (run-is script ls size e cells out bytes) (machine.run-answer (listText ls size) cells out)
