@@ -13,14 +13,14 @@ use Rattle.scopes.specs.declared.Outcome.{Outcome}
 use Rattle.scopes.specs.declared.Reply.{Reply}
 use Rattle.scopes.proofs.Unique.{same-state, admits-one}
 use Rattle.soundness.proofs.Agrees.{good-sound}
-use Rattle.needs.specs.Answers as needs
 use Rattle.needs.specs.declared.Need.{Need}
-use Rattle.needs.specs.declared.AddressOutcome.{AddressOutcome}
-use Rattle.needs.specs.declared.RunOutcome.{RunOutcome}
-use Rattle.needs.specs.declared.SlotOutcome.{SlotOutcome}
-use Rattle.needs.specs.declared.OutputOutcome.{OutputOutcome}
-use Rattle.needs.specs.declared.FreeOutcome.{FreeOutcome}
-use Rattle.needs.proofs.Unique.{Proper, admits-address, admits-run, admits-slot, admits-output, admits-free}
+use Rattle.allocations.specs.declared.AddressOutcome.{AddressOutcome}
+use Rattle.allocations.specs.declared.RunOutcome.{RunOutcome}
+use Rattle.allocations.specs.declared.SlotOutcome.{SlotOutcome}
+use Rattle.allocations.specs.declared.OutputOutcome.{OutputOutcome}
+use Rattle.allocations.specs.declared.FreeOutcome.{FreeOutcome}
+use Rattle.allocations.specs.Outcomes.{SeenState, SeenBoth}
+use Rattle.allocations.proofs.Unique.{Proper, admits-address, admits-run, admits-slot, admits-output, admits-free}
 use Rattle.allocator.specs.Entries.{Checked, turned, taken, Call, Asked, AddressCall, RunCall, SlotCall, OutputCall, FreeCall}
 use Rattle.allocator.specs.Drained.{SeenDrain, drainSays, seenDrain, DrainCall}
 use Rattle.allocator.specs.declared.drain.DrainAnswer.{DrainAnswer}
@@ -53,19 +53,19 @@ unchanged {s = s} {r = r} state ts tr e same (taken g h) =
 abbrev proper : {t : Scopes} → Typed t → Sound t → Proper t
 proper h k = record { typed = h; sound = k }
 
-pub address-call-one : (s : Scopes) (x : needs.Seen rule.Address) (r q : AddressOutcome) → Typed (r .state) → Typed (q .state) → AddressCall s x r → AddressCall s x q → r ≡ q
+pub address-call-one : (s : Scopes) (x : SeenState rule.Address) (r q : AddressOutcome) → Typed (r .state) → Typed (q .state) → AddressCall s x r → AddressCall s x q → r ≡ q
 address-call-one s x r q tr tq = checked-one (λ h k. admits-address x r q (proper tr (h .1)) (proper tq (k .1)) (h .0) (k .0))
 
-pub run-call-one : (s : Scopes) (x : needs.Seen (List rule.Address)) (r q : RunOutcome) → Typed (r .state) → Typed (q .state) → RunCall s x r → RunCall s x q → r ≡ q
+pub run-call-one : (s : Scopes) (x : SeenState (List rule.Address)) (r q : RunOutcome) → Typed (r .state) → Typed (q .state) → RunCall s x r → RunCall s x q → r ≡ q
 run-call-one s x r q tr tq = checked-one (λ h k. admits-run x r q (proper tr (h .2)) (proper tq (k .2)) (h .1) (k .1) (h .0) (k .0))
 
-pub slot-call-one : (s : Scopes) (d : Need) (x : needs.SeenBoth (Option ℕ)) (r q : SlotOutcome) → Typed (r .state) → Typed (q .state) → SlotCall s d x r → SlotCall s d x q → r ≡ q
+pub slot-call-one : (s : Scopes) (d : Need) (x : SeenBoth (Option ℕ)) (r q : SlotOutcome) → Typed (r .state) → Typed (q .state) → SlotCall s d x r → SlotCall s d x q → r ≡ q
 slot-call-one s d x r q tr tq = checked-one (λ h k. admits-slot x r q (proper tr (h .1)) (proper tq (k .1)) (h .0) (k .0))
 
-pub output-call-one : (s : Scopes) (d : Need) (x : needs.SeenBoth rule.Output) (r q : OutputOutcome) → Typed (r .state) → Typed (q .state) → OutputCall s d x r → OutputCall s d x q → r ≡ q
+pub output-call-one : (s : Scopes) (d : Need) (x : SeenBoth rule.Output) (r q : OutputOutcome) → Typed (r .state) → Typed (q .state) → OutputCall s d x r → OutputCall s d x q → r ≡ q
 output-call-one s d x r q tr tq = checked-one (λ h k. admits-output x r q (proper tr (h .1)) (proper tq (k .1)) (h .0) (k .0))
 
-pub free-call-one : (s : Scopes) (d : Need) (x : needs.SeenBoth (Unit {0})) (r q : FreeOutcome) → Typed (r .state) → Typed (q .state) → FreeCall s d x r → FreeCall s d x q → r ≡ q
+pub free-call-one : (s : Scopes) (d : Need) (x : SeenBoth (Unit {0})) (r q : FreeOutcome) → Typed (r .state) → Typed (q .state) → FreeCall s d x r → FreeCall s d x q → r ≡ q
 free-call-one s d x r q tr tq = checked-one (λ h k. admits-free x r q (proper tr (h .1)) (proper tq (k .1)) (h .0) (k .0))
 
 -- ---- drain: the numbers that were lent too

@@ -11,18 +11,19 @@ use Rattle.scopes.specs.declared.Scopes.{Scopes}
 use Rattle.scopes.specs.declared.Outcome.{Outcome}
 use Rattle.scopes.specs.declared.Reply.{Reply}
 use Rattle.scopes.specs.declared.Reply.the-variants as reply
-use Rattle.needs.specs.Answers as needs
+use Rattle.needs.specs.Answers.{PlainRun}
 use Rattle.needs.specs.declared.Need.{Need}
 use Rattle.needs.specs.declared.AddressAnswer.the-variants as address
 use Rattle.needs.specs.declared.RunAnswer.the-variants as run
 use Rattle.needs.specs.declared.SlotAnswer.the-variants as slot
 use Rattle.needs.specs.declared.OutputAnswer.the-variants as output
 use Rattle.needs.specs.declared.FreeAnswer.the-variants as free
-use Rattle.needs.specs.declared.AddressOutcome.{AddressOutcome}
-use Rattle.needs.specs.declared.RunOutcome.{RunOutcome}
-use Rattle.needs.specs.declared.SlotOutcome.{SlotOutcome}
-use Rattle.needs.specs.declared.OutputOutcome.{OutputOutcome}
-use Rattle.needs.specs.declared.FreeOutcome.{FreeOutcome}
+use Rattle.allocations.specs.declared.AddressOutcome.{AddressOutcome}
+use Rattle.allocations.specs.declared.RunOutcome.{RunOutcome}
+use Rattle.allocations.specs.declared.SlotOutcome.{SlotOutcome}
+use Rattle.allocations.specs.declared.OutputOutcome.{OutputOutcome}
+use Rattle.allocations.specs.declared.FreeOutcome.{FreeOutcome}
+use Rattle.allocations.specs.Outcomes.{SeenState, seenAddress, seenRun, SeenBoth, seenSlot, seenOutput, seenFree}
 use Rattle.soundness.specs.Canonical.{Good}
 
 -- An entry was handed the state s and left r: the refusal where s isn't sound, else what `Gives` says.
@@ -45,22 +46,22 @@ Asked s x r = Checked s (reply.Refused 29) (λ o. o ≡ x) r
 abbrev pub unsoundAddress : Scopes → AddressOutcome
 unsoundAddress s = record { state = s; answer = address.Refused 29 }
 
-abbrev pub AddressCall : Scopes → needs.Seen rule.Address → AddressOutcome → Type 0
-AddressCall s x r = Checked s (unsoundAddress s) (λ o. (needs.seenAddress o ≡ x) × Sound (o .state)) r
+abbrev pub AddressCall : Scopes → SeenState rule.Address → AddressOutcome → Type 0
+AddressCall s x r = Checked s (unsoundAddress s) (λ o. (seenAddress o ≡ x) × Sound (o .state)) r
 
 abbrev pub unsoundRun : Scopes → RunOutcome
 unsoundRun s = record { state = s; answer = run.Refused 29 }
 
-abbrev pub RunCall : Scopes → needs.Seen (List rule.Address) → RunOutcome → Type 0
-RunCall s x r = Checked s (unsoundRun s) (λ o. (needs.seenRun o ≡ x) × needs.PlainRun (o .answer) × Sound (o .state)) r
+abbrev pub RunCall : Scopes → SeenState (List rule.Address) → RunOutcome → Type 0
+RunCall s x r = Checked s (unsoundRun s) (λ o. (seenRun o ≡ x) × PlainRun (o .answer) × Sound (o .state)) r
 
 -- the need too comes back as it was
 
-abbrev pub SlotCall : Scopes → Need → needs.SeenBoth (Option ℕ) → SlotOutcome → Type 0
-SlotCall s d x r = Checked s (record { state = s; need = d; answer = slot.Refused 29 }) (λ o. (needs.seenSlot o ≡ x) × Sound (o .state)) r
+abbrev pub SlotCall : Scopes → Need → SeenBoth (Option ℕ) → SlotOutcome → Type 0
+SlotCall s d x r = Checked s (record { state = s; need = d; answer = slot.Refused 29 }) (λ o. (seenSlot o ≡ x) × Sound (o .state)) r
 
-abbrev pub OutputCall : Scopes → Need → needs.SeenBoth rule.Output → OutputOutcome → Type 0
-OutputCall s d x r = Checked s (record { state = s; need = d; answer = output.Refused 29 }) (λ o. (needs.seenOutput o ≡ x) × Sound (o .state)) r
+abbrev pub OutputCall : Scopes → Need → SeenBoth rule.Output → OutputOutcome → Type 0
+OutputCall s d x r = Checked s (record { state = s; need = d; answer = output.Refused 29 }) (λ o. (seenOutput o ≡ x) × Sound (o .state)) r
 
-abbrev pub FreeCall : Scopes → Need → needs.SeenBoth (Unit {0}) → FreeOutcome → Type 0
-FreeCall s d x r = Checked s (record { state = s; need = d; answer = free.Refused 29 }) (λ o. (needs.seenFree o ≡ x) × Sound (o .state)) r
+abbrev pub FreeCall : Scopes → Need → SeenBoth (Unit {0}) → FreeOutcome → Type 0
+FreeCall s d x r = Checked s (record { state = s; need = d; answer = free.Refused 29 }) (λ o. (seenFree o ≡ x) × Sound (o .state)) r

@@ -5,12 +5,12 @@ ghost use Rattle.rules.specs.Slots.{edition1};
 ghost use Rattle.rules.specs.Needs as rule;
 ghost use Rattle.scopes.specs.View.{view, idOf};
 ghost use Rattle.needs.specs.Kinds.{addressOf};
-ghost use Rattle.needs.specs.Answers.{told};
+ghost use Rattle.allocations.specs.Outcomes.{toldState};
 ghost use Rattle.allocator.specs.Entries.{AddressCall, unsoundAddress};
+use allocations::AddressOutcome;
+use allocations::addresses;
 use needs::Address;
 use needs::AddressAnswer;
-use needs::AddressOutcome;
-use needs::addresses;
 pub use needs::addresses::allocated;
 pub use needs::addresses::forget;
 use scopes::ScopeId;
@@ -27,7 +27,7 @@ fn turned_away(s: Scopes) -> AddressOutcome
 
 // Local, in the top scope.
 pub fn alloc(s: Scopes) -> AddressOutcome
-    ensures { λ r. ⌜ AddressCall s (told (view s) (rule.allocAddress (edition1 (base .segments)) (view s))) r ⌝ }
+    ensures { λ r. ⌜ AddressCall s (toldState (view s) (rule.allocAddress (edition1 (base .segments)) (view s))) r ⌝ }
 {
     if !soundness::is_sound(s) {
         return turned_away(s); // before 3, 7
@@ -37,7 +37,7 @@ pub fn alloc(s: Scopes) -> AddressOutcome
 
 // Scope, in the scope that has this id.
 pub fn alloc_in(s: Scopes, id: ScopeId) -> AddressOutcome
-    ensures { λ r. ⌜ AddressCall s (told (view s) (rule.allocAddressIn base (edition1 (base .segments)) (idOf id) (view s))) r ⌝ }
+    ensures { λ r. ⌜ AddressCall s (toldState (view s) (rule.allocAddressIn base (edition1 (base .segments)) (idOf id) (view s))) r ⌝ }
 {
     if !soundness::is_sound(s) {
         return turned_away(s); // before 4, 7
@@ -47,7 +47,7 @@ pub fn alloc_in(s: Scopes, id: ScopeId) -> AddressOutcome
 
 // Freed; the slot goes back as its kind says, and dangles unless freed without dangling.
 pub fn free(s: Scopes, a: Address, dangles: bool) -> AddressOutcome
-    ensures { λ r. ⌜ AddressCall s (told (view s) (rule.freeAddress dangles (addressOf a) (view s))) r ⌝ }
+    ensures { λ r. ⌜ AddressCall s (toldState (view s) (rule.freeAddress dangles (addressOf a) (view s))) r ⌝ }
 {
     if !soundness::is_sound(s) {
         return turned_away(s); // before 13, 12

@@ -2,16 +2,16 @@
 ghost use mathlib.Core.Path.{_≡_};
 ghost use Rattle.scopes.specs.View.{view};
 ghost use Rattle.needs.specs.Kinds.{needOf};
-ghost use Rattle.needs.specs.Answers.{allocation, outputAllocation, freeing};
+ghost use Rattle.allocations.specs.Outcomes.{allocation, outputAllocation, freeingNeed};
 ghost use Rattle.allocator.specs.Entries.{SlotCall, OutputCall, FreeCall};
+use allocations::FreeOutcome;
+use allocations::OutputOutcome;
+use allocations::SlotOutcome;
+use allocations::any;
 use needs::FreeAnswer;
-use needs::FreeOutcome;
 use needs::Need;
 use needs::OutputAnswer;
-use needs::OutputOutcome;
 use needs::SlotAnswer;
-use needs::SlotOutcome;
-use needs::any;
 pub use needs::any::addr;
 pub use needs::any::assign_from;
 pub use needs::any::into_addr;
@@ -49,7 +49,7 @@ pub fn allocate_output(s: Scopes, need: Need) -> OutputOutcome
 
 // Its address is freed; the need is Freed.
 pub fn free_need(s: Scopes, need: Need) -> FreeOutcome
-    ensures { λ r. ⌜ FreeCall s need (freeing (needOf need) (view s)) r ⌝ }
+    ensures { λ r. ⌜ FreeCall s need (freeingNeed (needOf need) (view s)) r ⌝ }
 {
     if !soundness::is_sound(s) {
         return FreeOutcome {

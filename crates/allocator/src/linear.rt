@@ -5,12 +5,12 @@ ghost use Rattle.rules.specs.Slots.{edition1};
 ghost use Rattle.rules.specs.Needs as rule;
 ghost use Rattle.scopes.specs.View.{view};
 ghost use Rattle.needs.specs.Kinds.{runOf};
-ghost use Rattle.needs.specs.Answers.{told};
+ghost use Rattle.allocations.specs.Outcomes.{toldState};
 ghost use Rattle.allocator.specs.Entries.{RunCall, unsoundRun};
+use allocations::RunOutcome;
+use allocations::linear;
 use needs::Run;
 use needs::RunAnswer;
-use needs::RunOutcome;
-use needs::linear;
 pub use needs::linear::forget_run;
 use scopes::Scopes;
 
@@ -25,7 +25,7 @@ fn turned_away(s: Scopes) -> RunOutcome
 
 // n addresses in a row for the top: Dangling, one is Local, none for 0.
 pub fn linear(s: Scopes, n: u16) -> RunOutcome
-    ensures { λ r. ⌜ RunCall s (told (view s) (rule.allocAddresses (edition1 (base .segments)) n (view s))) r ⌝ }
+    ensures { λ r. ⌜ RunCall s (toldState (view s) (rule.allocAddresses (edition1 (base .segments)) n (view s))) r ⌝ }
 {
     if !soundness::is_sound(s) {
         return turned_away(s); // before 3, 7
@@ -35,7 +35,7 @@ pub fn linear(s: Scopes, n: u16) -> RunOutcome
 
 // Each is freed, the last first; a refusal of any leaves all.
 pub fn free_run(s: Scopes, run: Run, dangles: bool) -> RunOutcome
-    ensures { λ r. ⌜ RunCall s (told (view s) (rule.freeRun dangles (runOf run) (view s))) r ⌝ }
+    ensures { λ r. ⌜ RunCall s (toldState (view s) (rule.freeRun dangles (runOf run) (view s))) r ⌝ }
 {
     if !soundness::is_sound(s) {
         return turned_away(s); // before 13, 12

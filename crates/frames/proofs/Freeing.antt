@@ -23,7 +23,7 @@ use Rattle.scopes.specs.declared.Outcome.{Outcome}
 use Rattle.scopes.specs.declared.Reply.{Reply}
 use Rattle.scopes.specs.declared.Reply.the-variants as reply
 use Rattle.needs.specs.Kinds.{kindOf}
-use Rattle.needs.specs.Leaves.{isDone}
+use Rattle.needs.specs.Inner.{isDone}
 use Rattle.frames.specs.Handles.{slotIn, kindIn, handleAt, stateOf, Coded, freedAs}
 use Rattle.frames.specs.Steps.{stepped, addsOf, freeing, freeCode, Stands, Works, Reached}
 use Rattle.frames.specs.declared.handles.Handle.{Handle as Known}

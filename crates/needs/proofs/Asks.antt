@@ -1,20 +1,56 @@
--- What a need answers, by its case and by what was tested or replied there. Assumes nothing.
+-- What a kind and a need answer, by their case and by what was tested there. Assumes nothing.
 use mathlib.Core.Path.{_≡_, refl, sym, ap}
-use mathlib.Core.Bool.{true, false}
+use mathlib.Core.Bool.{Bool, true, false, true≢false}
 use mathlib.Core.Option.{Option, none, some}
 use Prim.Native.Nat.{ℕ}
 use lib.Dec.{eqb}
 use borrow.Author.Tests.{eq-eqb, ne-eqb}
-use Rattle.rules.specs.Notation.{Answer, given, refused, _>>=_}
-use Rattle.rules.specs.Sizes.{Room}
-use Rattle.rules.specs.Slots.{Placement}
-use Rattle.rules.specs.Scopes.{Scopes, Id}
+use Rattle.rules.specs.Notation.{Answer, given, refused, _>>=_, refuse_when_, if_then_else_}
 use Rattle.rules.specs.Needs as rule
-use Rattle.needs.specs.Answers.{Seen, SeenBoth, told, toldBoth, slotSays, outputSays, allocatedSlot, allocatedOutput, freedNeed}
-use Rattle.needs.specs.Leaves.{outputFrom}
+use Rattle.needs.specs.Answers.{slotSays, outputSays}
+use Rattle.needs.specs.Inner.{outputFrom}
 use Rattle.needs.specs.declared.SlotAnswer.{SlotAnswer}
 use Rattle.needs.specs.declared.SlotAnswer.the-variants.{At, Nothing, Refused}
-use Rattle.needs.proofs.Frees.{when-yes, when-no, if-yes, if-no}
+
+-- ---- a refusal, and a choice, by what was tested
+
+module _ {B : Type 0} (n : ℕ) (f : Unit {0} → Answer B) where
+  pub when-yes : (b : Bool) → b ≡ true → ((refuse n when b) >>= f) ≡ refused n
+  unfolding _>>=_ refuse_when_
+  when-yes true e = refl
+  when-yes false e = absurd (true≢false (sym e))
+
+  pub when-no : (b : Bool) → b ≡ false → ((refuse n when b) >>= f) ≡ f tt
+  unfolding _>>=_ refuse_when_
+  when-no true e = absurd (true≢false e)
+  when-no false e = refl
+
+module _ {A : Type 0} (x y : A) where
+  pub if-yes : (b : Bool) → b ≡ true → (if b then x else y) ≡ x
+  unfolding if_then_else_
+  if-yes true e = refl
+  if-yes false e = absurd (true≢false (sym e))
+
+  pub if-no : (b : Bool) → b ≡ false → (if b then x else y) ≡ y
+  unfolding if_then_else_
+  if-no true e = absurd (true≢false e)
+  if-no false e = refl
+
+-- ---- "Allocating it turns Dangling into Local."
+
+pub allocated-local : (k : rule.Kind) → rule.isDangling k ≡ true → rule.local ≡ rule.allocatedKind k
+allocated-local rule.local e = refl
+allocated-local rule.dangling e = refl
+allocated-local rule.assigned e = absurd (true≢false (sym e))
+allocated-local rule.freed e = absurd (true≢false (sym e))
+allocated-local (rule.scope i) e = absurd (true≢false (sym e))
+
+pub allocated-same : (k : rule.Kind) → rule.isDangling k ≡ false → k ≡ rule.allocatedKind k
+allocated-same rule.local e = refl
+allocated-same rule.dangling e = absurd (true≢false e)
+allocated-same rule.assigned e = refl
+allocated-same rule.freed e = refl
+allocated-same (rule.scope i) e = refl
 
 -- ---- try_as_addr
 
@@ -41,26 +77,8 @@ module _ (a : rule.Address) (x : ℕ) where
   unfolding rule.assignFrom
   assign-other n = ap (leaving (rule.at a)) (sym (if-no none (some (a .slot)) (eqb (a .slot) x) (ne-eqb (a .slot) x n)))
 
--- ---- allocating
+-- ---- as output
 
--- the need n, once an address was asked for on its behalf
-abbrev pub served : rule.Need → Seen rule.Address → SeenBoth (Option ℕ)
-served n s = elim (s .says) [
-  | given a ↦ record { next = s .next; need = rule.at a; says = given (some (a .slot)) }
-  | refused m ↦ record { next = s .next; need = n; says = refused m }
-]
-
-pub served-told : (room : Room) (place : Placement) (id : Id) (c : Scopes)
-    → served (rule.defer id) (told c (rule.allocAddressIn room place id c)) ≡ toldBoth allocatedSlot c (rule.defer id) (rule.allocateNeed room place (rule.defer id) c)
-unfolding rule.allocateNeed _>>=_
-served-told room place id c = go (rule.allocAddressIn room place id c)
-  where
-    go : (m : Answer (rule.Address × Scopes))
-        → served (rule.defer id) (told c m) ≡ toldBoth allocatedSlot c (rule.defer id) (m >>= λ r. given (record { need = rule.at (r .0); scopes = r .1; slot = some (r .0 .slot) }))
-    go (given x) = refl
-    go (refused n) = refl
-
--- as output
 abbrev pub asOutputs : Answer (Option ℕ) → Answer rule.Output
 asOutputs (given o) = given (rule.asOutput o)
 asOutputs (refused n) = refused n
@@ -69,27 +87,3 @@ pub output-says : (a : SlotAnswer) → outputSays (outputFrom a) ≡ asOutputs (
 output-says (At a) = refl
 output-says Nothing = refl
 output-says (Refused n) = refl
-
-abbrev pub outputSeen : SeenBoth (Option ℕ) → SeenBoth rule.Output
-outputSeen s = record { next = s .next; need = s .need; says = asOutputs (s .says) }
-
-pub output-told : (c : Scopes) (n : rule.Need) (m : Answer rule.Allocated) → outputSeen (toldBoth allocatedSlot c n m) ≡ toldBoth allocatedOutput c n m
-output-told c n (given x) = refl
-output-told c n (refused k) = refl
-
--- ---- freeing
-
--- the need n, once its address was freed
-abbrev pub rid : rule.Need → Seen rule.Address → SeenBoth (Unit {0})
-rid n s = elim (s .says) [
-  | given a ↦ record { next = s .next; need = rule.freedNeed; says = given tt }
-  | refused m ↦ record { next = s .next; need = n; says = refused m }
-]
-
-pub rid-told : (a : rule.Address) (c : Scopes) → rid (rule.at a) (told c (rule.freeAddress true a c)) ≡ toldBoth freedNeed c (rule.at a) (rule.freeNeed (rule.at a) c)
-unfolding rule.freeNeed _>>=_
-rid-told a c = go (rule.freeAddress true a c)
-  where
-    go : (m : Answer (rule.Address × Scopes)) → rid (rule.at a) (told c m) ≡ toldBoth freedNeed c (rule.at a) (m >>= λ r. given (rule.freedNeed, r .1))
-    go (given x) = refl
-    go (refused n) = refl

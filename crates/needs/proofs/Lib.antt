@@ -1,7 +1,4 @@
-pub mod Replies
 pub mod Tops
-pub mod Frees
 pub mod Runs
 pub mod Asks
-pub mod Rounds
 pub mod Unique

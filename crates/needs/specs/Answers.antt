@@ -1,13 +1,9 @@
--- What each case of an answer says, in the numbers and values of document 01; and what an operation did and said. Assumes nothing.
+-- What each case of an answer says, in the numbers and values of document 01; and what a call on a need did and said. Assumes nothing.
 use mathlib.Core.Option.{Option, none, some}
 use mathlib.Core.List.{List}
 use Prim.Native.Nat.{ℕ}
 use Rattle.rules.specs.Notation.{Answer, given, refused}
-use Rattle.rules.specs.Sizes.{base}
-use Rattle.rules.specs.Slots.{edition1}
-use Rattle.rules.specs.Scopes.{Scopes}
 use Rattle.rules.specs.Needs as rule
-use Rattle.scopes.specs.View.{view}
 use Rattle.needs.specs.Kinds.{addressOf, runOf, needOf, Plain}
 use Rattle.needs.specs.declared.AddressAnswer.{AddressAnswer}
 use Rattle.needs.specs.declared.AddressAnswer.the-variants as address
@@ -23,11 +19,6 @@ use Rattle.needs.specs.declared.FreeAnswer.{FreeAnswer}
 use Rattle.needs.specs.declared.FreeAnswer.the-variants as free
 use Rattle.needs.specs.declared.Copying.{Copying}
 use Rattle.needs.specs.declared.Copying.the-variants as copy
-use Rattle.needs.specs.declared.AddressOutcome.{AddressOutcome}
-use Rattle.needs.specs.declared.RunOutcome.{RunOutcome}
-use Rattle.needs.specs.declared.SlotOutcome.{SlotOutcome}
-use Rattle.needs.specs.declared.OutputOutcome.{OutputOutcome}
-use Rattle.needs.specs.declared.FreeOutcome.{FreeOutcome}
 use Rattle.needs.specs.declared.Taken.{Taken}
 use Rattle.needs.specs.declared.Assignment.{Assignment}
 
@@ -69,23 +60,6 @@ abbrev pub copySays : Copying → Option ℕ
 copySays (copy.To a) = some (a .0)
 copySays copy.Nothing = none
 
--- ---- what a call on a state did and said
-
-pub record Seen (A : Type 0) : Type 0 where
-  pub next : Scopes
-  pub says : Answer A
-
--- the same of a rule's answer, in the state c; "All leave state and lent memory unchanged."
-abbrev pub told : {A : Type 0} → Scopes → Answer (A × Scopes) → Seen A
-told c (given x) = record { next = x .1; says = given (x .0) }
-told c (refused n) = record { next = c; says = refused n }
-
-abbrev pub seenAddress : AddressOutcome → Seen rule.Address
-seenAddress r = record { next = view (r .state); says = addressSays (r .answer) }
-
-abbrev pub seenRun : RunOutcome → Seen (List rule.Address)
-seenRun r = record { next = view (r .state); says = runSays (r .answer) }
-
 -- ---- what a call on a need did and said: a refusal leaves the need as it was
 
 pub record SeenNeed (A : Type 0) : Type 0 where
@@ -101,43 +75,3 @@ seenTaken r = record { need = needOf (r .need); says = addressSays (r .answer) }
 
 abbrev pub seenAssigned : Assignment → rule.Assignment
 seenAssigned r = record { need = needOf (r .need); copyTo = copySays (r .copy) }
-
--- ---- both
-
-pub record SeenBoth (A : Type 0) : Type 0 where
-  pub next : Scopes
-  pub need : rule.Need
-  pub says : Answer A
-
-abbrev pub toldBoth : {A X : Type 0} → (X → SeenBoth A) → Scopes → rule.Need → Answer X → SeenBoth A
-toldBoth f c d (given x) = f x
-toldBoth f c d (refused n) = record { next = c; need = d; says = refused n }
-
-abbrev pub seenSlot : SlotOutcome → SeenBoth (Option ℕ)
-seenSlot r = record { next = view (r .state); need = needOf (r .need); says = slotSays (r .answer) }
-
-abbrev pub seenOutput : OutputOutcome → SeenBoth rule.Output
-seenOutput r = record { next = view (r .state); need = needOf (r .need); says = outputSays (r .answer) }
-
-abbrev pub seenFree : FreeOutcome → SeenBoth (Unit {0})
-seenFree r = record { next = view (r .state); need = needOf (r .need); says = freeSays (r .answer) }
-
-abbrev pub allocatedSlot : rule.Allocated → SeenBoth (Option ℕ)
-allocatedSlot x = record { next = x .scopes; need = x .need; says = given (x .slot) }
-
--- "as output: discard"
-abbrev pub allocatedOutput : rule.Allocated → SeenBoth rule.Output
-allocatedOutput x = record { next = x .scopes; need = x .need; says = given (rule.asOutput (x .slot)) }
-
-abbrev pub freedNeed : rule.Need × Scopes → SeenBoth (Unit {0})
-freedNeed x = record { next = x .1; need = x .0; says = given tt }
-
--- what each operation on a state and a need does and says
-abbrev pub allocation : rule.Need → Scopes → SeenBoth (Option ℕ)
-allocation d c = toldBoth allocatedSlot c d (rule.allocateNeed base (edition1 (base .segments)) d c)
-
-abbrev pub outputAllocation : rule.Need → Scopes → SeenBoth rule.Output
-outputAllocation d c = toldBoth allocatedOutput c d (rule.allocateNeed base (edition1 (base .segments)) d c)
-
-abbrev pub freeing : rule.Need → Scopes → SeenBoth (Unit {0})
-freeing d c = toldBoth freedNeed c d (rule.freeNeed d c)

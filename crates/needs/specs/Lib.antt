@@ -1,3 +1,3 @@
 pub mod Kinds
 pub mod Answers
-pub mod Leaves
+pub mod Inner

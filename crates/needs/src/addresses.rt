@@ -1,36 +1,12 @@
-// One address: allocated, freed, forgotten.
+// One address: its kind asked and changed, and whether its slot goes back. No state is asked.
 ghost use mathlib.Core.Path.{_≡_};
-ghost use Rattle.rules.specs.Sizes.{base};
-ghost use Rattle.rules.specs.Slots.{edition1};
 ghost use Rattle.rules.specs.Needs as rule;
-ghost use Rattle.scopes.specs.View.{view, idOf};
-ghost use Rattle.scopes.specs.Sound.{Sound};
 ghost use Rattle.needs.specs.Kinds.{kindOf, addressOf};
-ghost use Rattle.needs.specs.Answers.{seenAddress, told};
-ghost use Rattle.needs.specs.Leaves.{placed, isDone, freedBy, backFrom};
+ghost use Rattle.needs.specs.Inner.{isDone, backFrom};
 use crate::Address;
-use crate::AddressAnswer;
 use crate::AddressKind;
-use crate::AddressOutcome;
 use scopes::Reply;
 use scopes::ScopeId;
-use scopes::Scopes;
-use scopes::place;
-
-// ---- what is made of a reply
-
-fn placed(reply: Reply, kind: AddressKind) -> AddressAnswer
-    ensures { λ r. ⌜ r ≡ placed kind reply ⌝ }
-{
-    match reply {
-        Reply::At(a) => AddressAnswer::Got(Address { slot: a, kind }),
-        Reply::Refused(n) => AddressAnswer::Refused(n),
-        Reply::Done => AddressAnswer::Refused(0),
-        Reply::Empty => AddressAnswer::Refused(0),
-        Reply::Opened(_) => AddressAnswer::Refused(0),
-        Reply::Found(_) => AddressAnswer::Refused(0),
-    }
-}
 
 pub fn is_done(reply: Reply) -> bool
     ensures { λ r. ⌜ r ≡ isDone reply ⌝ }
@@ -45,48 +21,7 @@ pub fn is_done(reply: Reply) -> bool
     }
 }
 
-fn freed_by(reply: Reply, a: Address) -> AddressAnswer
-    ensures { λ r. ⌜ r ≡ freedBy a reply ⌝ }
-{
-    match reply {
-        Reply::Done => AddressAnswer::Got(a),
-        Reply::Refused(n) => AddressAnswer::Refused(n),
-        Reply::At(_) => AddressAnswer::Refused(0),
-        Reply::Empty => AddressAnswer::Refused(0),
-        Reply::Opened(_) => AddressAnswer::Refused(0),
-        Reply::Found(_) => AddressAnswer::Refused(0),
-    }
-}
-
 // ---- allocating
-
-// Local, in the top scope: 3, 7.
-pub fn alloc(s: Scopes) -> AddressOutcome
-    requires { ⌜ Sound s ⌝ }
-    ensures { λ r. ⌜ (seenAddress r ≡ told (view s) (rule.allocAddress (edition1 (base .segments)) (view s))) × Sound (r .state) ⌝ }
-{
-    let o = place::alloc(s);
-    let t = o.state;
-    let reply = o.reply;
-    AddressOutcome {
-        state: t,
-        answer: placed(reply, AddressKind::Local),
-    }
-}
-
-// Scope, in the scope that has this id: 4, 7.
-pub fn alloc_in(s: Scopes, id: ScopeId) -> AddressOutcome
-    requires { ⌜ Sound s ⌝ }
-    ensures { λ r. ⌜ (seenAddress r ≡ told (view s) (rule.allocAddressIn base (edition1 (base .segments)) (idOf id) (view s))) × Sound (r .state) ⌝ }
-{
-    let o = place::alloc_in(s, id);
-    let t = o.state;
-    let reply = o.reply;
-    AddressOutcome {
-        state: t,
-        answer: placed(reply, AddressKind::Scope(id)),
-    }
-}
 
 pub fn is_dangling(kind: AddressKind) -> bool
     ensures { λ r. ⌜ r ≡ rule.isDangling (kindOf kind) ⌝ }
@@ -151,38 +86,6 @@ pub fn goes_back(number: &[u32; 64], top: usize, kind: AddressKind) -> bool
         AddressKind::Assigned => false, // the slot is another's
         AddressKind::Freed => false,
         AddressKind::Scope(id) => is_top(number, top, id),
-    }
-}
-
-// 13, then where the slot goes back 12.
-pub fn free(s: Scopes, a: Address, dangles: bool) -> AddressOutcome
-    requires { ⌜ Sound s ⌝ }
-    ensures { λ r. ⌜ (seenAddress r ≡ told (view s) (rule.freeAddress dangles (addressOf a) (view s))) × Sound (r .state) ⌝ }
-{
-    let kind = a.kind;
-    let slot = a.slot;
-    if is_freed(kind) {
-        return AddressOutcome {
-            state: s,
-            answer: AddressAnswer::Refused(13),
-        };
-    }
-    let freed = Address {
-        slot,
-        kind: AddressKind::Freed,
-    };
-    if !goes_back(&s.number, s.top, kind) {
-        return AddressOutcome {
-            state: s,
-            answer: AddressAnswer::Got(freed),
-        };
-    }
-    let o = place::give_back(s, slot, dangles);
-    let t = o.state;
-    let reply = o.reply;
-    AddressOutcome {
-        state: t,
-        answer: freed_by(reply, freed),
     }
 }
 

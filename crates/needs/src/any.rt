@@ -1,31 +1,21 @@
-// A need (`Any` in the original): a scope in which an address is still to be allocated, an address, nothing wanted, or freed.
+// A need (`Any` in the original): a scope in which an address is still to be allocated, an address, nothing wanted, or freed. No state is asked.
 ghost use mathlib.Core.Path.{_≡_};
 ghost use Rattle.rules.specs.Needs as rule;
-ghost use Rattle.scopes.specs.View.{view, idOf};
-ghost use Rattle.scopes.specs.Sound.{Sound};
 ghost use Rattle.needs.specs.Kinds.{needOf};
-ghost use Rattle.needs.specs.Leaves.{outputFrom};
-ghost use Rattle.needs.specs.Answers.{outputSays, addressSays, triedSays, toldNeed, seenTaken, seenAssigned, seenSlot, seenOutput, seenFree, allocation, outputAllocation, freeing, freedNeed};
+ghost use Rattle.needs.specs.Inner.{outputFrom};
+ghost use Rattle.needs.specs.Answers.{outputSays, addressSays, triedSays, toldNeed, seenTaken, seenAssigned};
 use crate::Address;
 use crate::AddressAnswer;
 use crate::AddressKind;
 use crate::Assignment;
 use crate::Copying;
-use crate::FreeAnswer;
-use crate::FreeOutcome;
 use crate::Need;
 use crate::OutputAnswer;
-use crate::OutputOutcome;
 use crate::SlotAnswer;
-use crate::SlotOutcome;
 use crate::Taken;
 use crate::TriedAnswer;
 use crate::addresses;
-use scopes::ScopeId;
-use scopes::Scopes;
 use slots::SlotAddress;
-
-// ---- questions
 
 pub fn output(need: Need) -> OutputAnswer
     ensures { λ r. ⌜ outputSays r ≡ rule.outputOf (needOf need) ⌝ }
@@ -131,122 +121,13 @@ pub fn assign_from(need: Need, x: SlotAddress) -> Assignment
     }
 }
 
-// ---- on a state
-
-// An address for a deferred need, on behalf of its scope; a refusal leaves it deferred.
-fn deferred(s: Scopes, id: ScopeId) -> SlotOutcome
-    requires { ⌜ Sound s ⌝ }
-    ensures { λ r. ⌜ (seenSlot r ≡ allocation (rule.defer (idOf id)) (view s)) × Sound (r .state) ⌝ }
-{
-    let o = addresses::alloc_in(s, id);
-    let t = o.state;
-    let answer = o.answer;
-    match answer {
-        AddressAnswer::Got(a) => {
-            let slot = a.slot;
-            SlotOutcome {
-                state: t,
-                need: Need::Address(a),
-                answer: SlotAnswer::At(slot),
-            }
-        }
-        AddressAnswer::Refused(n) => SlotOutcome {
-            state: t,
-            need: Need::Defer(id),
-            answer: SlotAnswer::Refused(n),
-        },
-    }
-}
-
-// 4, 7.
-pub fn allocate(s: Scopes, need: Need) -> SlotOutcome
-    requires { ⌜ Sound s ⌝ }
-    ensures { λ r. ⌜ (seenSlot r ≡ allocation (needOf need) (view s)) × Sound (r .state) ⌝ }
-{
-    match need {
-        Need::Defer(id) => deferred(s, id),
-        Need::Address(a) => {
-            let slot = a.slot;
-            SlotOutcome {
-                state: s,
-                need: Need::Address(addresses::allocated(a)),
-                answer: SlotAnswer::At(slot),
-            }
-        }
-        Need::Ignore => SlotOutcome {
-            state: s,
-            need,
-            answer: SlotAnswer::Nothing,
-        },
-        Need::Freed => SlotOutcome {
-            state: s,
-            need,
-            answer: SlotAnswer::Nothing,
-        },
-    }
-}
-
-fn as_output(answer: SlotAnswer) -> OutputAnswer
+// What was allocated, as output.
+pub fn as_output(answer: SlotAnswer) -> OutputAnswer
     ensures { λ r. ⌜ r ≡ outputFrom answer ⌝ }
 {
     match answer {
         SlotAnswer::At(a) => OutputAnswer::Keep(a),
         SlotAnswer::Nothing => OutputAnswer::Discard,
         SlotAnswer::Refused(n) => OutputAnswer::Refused(n),
-    }
-}
-
-// As allocate; what has no address is discarded.
-pub fn allocate_output(s: Scopes, need: Need) -> OutputOutcome
-    requires { ⌜ Sound s ⌝ }
-    ensures { λ r. ⌜ (seenOutput r ≡ outputAllocation (needOf need) (view s)) × Sound (r .state) ⌝ }
-{
-    let o = allocate(s, need);
-    let t = o.state;
-    let d = o.need;
-    let answer = o.answer;
-    OutputOutcome {
-        state: t,
-        need: d,
-        answer: as_output(answer),
-    }
-}
-
-fn freed(s: Scopes) -> FreeOutcome
-    ensures { λ r. ⌜ (seenFree r ≡ freedNeed (rule.freedNeed, view s)) × (r .state ≡ s) ⌝ }
-{
-    FreeOutcome {
-        state: s,
-        need: Need::Freed,
-        answer: FreeAnswer::Done,
-    }
-}
-
-// 13, 12; a refusal leaves the need as it was.
-pub fn free_need(s: Scopes, need: Need) -> FreeOutcome
-    requires { ⌜ Sound s ⌝ }
-    ensures { λ r. ⌜ (seenFree r ≡ freeing (needOf need) (view s)) × Sound (r .state) ⌝ }
-{
-    match need {
-        Need::Address(a) => {
-            let o = addresses::free(s, a, true);
-            let t = o.state;
-            let answer = o.answer;
-            match answer {
-                AddressAnswer::Got(_) => FreeOutcome {
-                    state: t,
-                    need: Need::Freed, // whatever its kind was
-                    answer: FreeAnswer::Done,
-                },
-                AddressAnswer::Refused(n) => FreeOutcome {
-                    state: t,
-                    need, // still to be freed
-                    answer: FreeAnswer::Refused(n),
-                },
-            }
-        }
-        Need::Defer(_) => freed(s),
-        Need::Ignore => freed(s),
-        Need::Freed => freed(s),
     }
 }

@@ -1,12 +1,10 @@
-// Address records and their kinds, runs of addresses, and needs: what the original has in needs.rs and linear.rs.
-// `addresses` allocates and frees one address, `linear` a run of them, `any` is what a need answers. An address is a plain record beside
-// the state; the operations take the state by value and hand the next one back.
+// Address records and their kinds, runs of addresses, and needs: what the original has in needs.rs and linear.rs, as far as it asks no
+// state. `addresses` is one address, `linear` a run of them, `any` what a need answers. An address is a plain record beside the state.
 pub mod addresses;
 pub mod any;
 pub mod linear;
 
 use scopes::ScopeId;
-use scopes::Scopes;
 use slots::SlotAddress;
 
 pub enum AddressKind {
@@ -77,35 +75,7 @@ pub enum Copying {
     Nothing,
 }
 
-// ---- results: the state first, then the need, then the answer
-
-pub struct AddressOutcome {
-    pub state: Scopes,
-    pub answer: AddressAnswer,
-}
-
-pub struct RunOutcome {
-    pub state: Scopes,
-    pub answer: RunAnswer,
-}
-
-pub struct SlotOutcome {
-    pub state: Scopes,
-    pub need: Need,
-    pub answer: SlotAnswer,
-}
-
-pub struct OutputOutcome {
-    pub state: Scopes,
-    pub need: Need,
-    pub answer: OutputAnswer,
-}
-
-pub struct FreeOutcome {
-    pub state: Scopes,
-    pub need: Need,
-    pub answer: FreeAnswer,
-}
+// ---- results: the need, then the answer
 
 pub struct Taken {
     pub need: Need,

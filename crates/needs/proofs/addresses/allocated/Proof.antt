@@ -1,7 +1,7 @@
 use mathlib.Core.Path.{sym, ap, _∙_}
 use Rattle.rules.specs.Needs as rule
 use Rattle.needs.specs.Kinds.{kindOf}
-use Rattle.needs.proofs.Frees.{allocated-local, allocated-same}
+use Rattle.needs.proofs.Asks.{allocated-local, allocated-same}
 use Rattle.needs.proofs.addresses.allocated.Statement.{statement}
 use Rattle.needs.proofs.addresses.allocated.Tie as tie
 

@@ -1,5 +1,5 @@
 use mathlib.Core.Path.{sym, ap, _∙_}
-use Rattle.needs.specs.Leaves.{backFrom}
+use Rattle.needs.specs.Inner.{backFrom}
 use borrow.Author.Needs.{needs}
 use Rattle.needs.proofs.addresses.goes_back.Statement.{statement}
 use Rattle.needs.proofs.addresses.goes_back.Tie as tie

@@ -1,5 +1,5 @@
 use mathlib.Core.Path.{sym, ap}
-use Rattle.needs.specs.Leaves.{outputFrom}
+use Rattle.needs.specs.Inner.{outputFrom}
 use borrow.Author.Needs.{needs}
 use Rattle.needs.proofs.any.as_output.Statement.{statement}
 use Rattle.needs.proofs.any.as_output.Tie as tie

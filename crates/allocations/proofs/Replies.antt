@@ -1,0 +1,91 @@
+-- From what an operation on the state replied to the answer that is made of it. Assumes nothing.
+use mathlib.Core.Path.{_≡_, refl, sym, ap, subst⁻¹, _∙_}
+use mathlib.Core.Option.{Option, none, some}
+use Prim.Native.Nat.{ℕ}
+use Rattle.rules.specs.Notation.{Answer, given, refused, _>>=_, refuse_unless_}
+use Rattle.rules.specs.Slots.{Placement}
+use Rattle.rules.specs.AddressSets.{run}
+use Rattle.rules.specs.Scopes.{Scopes, Found, topScope, allocRun}
+use Rattle.rules.specs.Needs as rule
+use Rattle.rules.proofs.Chains.{none-some}
+use Rattle.scopes.specs.View as state
+use Rattle.scopes.specs.declared.Reply.{Reply}
+use Rattle.scopes.specs.declared.Reply.the-variants as reply
+use Rattle.needs.specs.Kinds.{kindOf, addresses, Plain}
+use Rattle.allocations.specs.Outcomes.{SeenState, toldState}
+use Rattle.needs.specs.Answers.{addressSays, runSays, PlainRun}
+use Rattle.allocations.specs.Inner.{placed, ranged, runFreedBy}
+use Rattle.needs.specs.declared.AddressKind.{AddressKind}
+use Rattle.needs.specs.declared.AddressAnswer.{AddressAnswer}
+use Rattle.needs.specs.declared.Run.{Run}
+use Rattle.needs.proofs.Runs.{kind-for}
+
+-- the next state t and the reply r, as the state's operations tell them
+abbrev pub replyIn : Scopes → Reply → state.Seen
+replyIn t r = record { next = t; says = r }
+
+abbrev pub answerIn : {A : Type 0} → Scopes → Answer A → SeenState A
+answerIn t a = record { next = t; says = a }
+
+-- ---- a slot that was given, as an address of kind k
+
+pub placed-told : (k : AddressKind) (c t : Scopes) (r : Reply) (a : AddressAnswer) (m : Answer (ℕ × Scopes)) → a ≡ placed k r → replyIn t r ≡ state.told state.at c m
+    → answerIn t (addressSays a) ≡ toldState c (m >>= λ x. given (rule.address (x .0) (kindOf k), x .1))
+unfolding _>>=_
+placed-told k c t r a (given x) p e = ap (λ (b : AddressAnswer). answerIn t (addressSays b)) p ∙ ap (λ (s : state.Seen). answerIn (s .next) (addressSays (placed k (s .says)))) e
+placed-told k c t r a (refused n) p e = ap (λ (b : AddressAnswer). answerIn t (addressSays b)) p ∙ ap (λ (s : state.Seen). answerIn (s .next) (addressSays (placed k (s .says)))) e
+
+-- ---- slots that went back, or a refusal: f is what is answered to a reply, x what Done stands for
+
+pub freed-told : {X : Type 0} (f : Reply → Answer X) (x : X) → f reply.Done ≡ given x → ((n : ℕ) → f (reply.Refused n) ≡ refused n)
+    → (c t : Scopes) (r : Reply) (m : Answer Scopes) → replyIn t r ≡ state.toldOnly c m → answerIn t (f r) ≡ toldState c (m >>= λ d. given (x, d))
+unfolding _>>=_
+freed-told f x p q c t r (given d) e = ap (λ (s : state.Seen). answerIn (s .next) (f (s .says))) e ∙ ap (answerIn d) p
+freed-told f x p q c t r (refused n) e = ap (λ (s : state.Seen). answerIn (s .next) (f (s .says))) e ∙ ap (answerIn c) (q n)
+
+pub freed-plain : (f : Run) (r : Reply) → Plain f → PlainRun (runFreedBy f r)
+freed-plain f reply.Done p = p
+freed-plain f (reply.At a) p = tt
+freed-plain f reply.Empty p = tt
+freed-plain f (reply.Opened i) p = tt
+freed-plain f (reply.Found b) p = tt
+freed-plain f (reply.Refused n) p = tt
+
+-- ---- a run
+
+-- an empty run has no first address
+abbrev noFirst : Scopes → Found → Answer (Option ℕ × Scopes)
+noFirst c t = given (none, c)
+
+abbrev firstIn : Answer (Option ℕ × Scopes) → Option ℕ
+firstIn (given x) = x .0
+firstIn (refused n) = none
+
+pub none-first : (place : Placement) (c d : Scopes) (a : ℕ) → allocRun place 0 c ≡ given (some a, d) → ⊥
+unfolding allocRun _>>=_ refuse_unless_
+none-first place c d a = go (topScope c)
+  where
+    go : (o : Option Found) → ((refuse 3 unless o) >>= noFirst c) ≡ given (some a, d) → ⊥
+    go none e = none-some (ap firstIn e)
+    go (some t) e = none-some (ap firstIn e)
+
+module _ (place : Placement) (n : ℕ) (c t : Scopes) (r : Reply) where
+  pub ranged-told : replyIn t r ≡ state.told state.atFirst c (allocRun place n c) → answerIn t (runSays (ranged n r)) ≡ toldState c (rule.allocAddresses place n c)
+  unfolding rule.allocAddresses _>>=_ run
+  ranged-told = go (allocRun place n c)
+    where
+      go : (m : Answer (Option ℕ × Scopes)) → replyIn t r ≡ state.told state.atFirst c m → answerIn t (runSays (ranged n r)) ≡ toldState c (m >>= λ x. given (rule.runFrom n (x .0), x .1))
+      go (given (none, d)) e = ap (λ (s : state.Seen). answerIn (s .next) (runSays (ranged n (s .says)))) e
+      go (given (some b, d)) e =
+          ap (λ (s : state.Seen). answerIn (s .next) (runSays (ranged n (s .says)))) e ∙ ap (λ (k : rule.Kind). answerIn d (given (addresses k b n))) (kind-for n)
+      go (refused m) e = ap (λ (s : state.Seen). answerIn (s .next) (runSays (ranged n (s .says)))) e
+
+  pub ranged-plain : replyIn t r ≡ state.told state.atFirst c (allocRun place n c) → PlainRun (ranged n r)
+  ranged-plain = go (allocRun place n c) refl
+    where
+      go : (m : Answer (Option ℕ × Scopes)) → allocRun place n c ≡ m → replyIn t r ≡ state.told state.atFirst c m → PlainRun (ranged n r)
+      go (given (none, d)) q e = subst⁻¹ (λ (s : state.Seen). PlainRun (ranged n (s .says))) e (λ z. refl)
+      go (given (some b, d)) q e =
+          subst⁻¹ (λ (s : state.Seen). PlainRun (ranged n (s .says))) e
+          (λ z. absurd (none-first place c d b (ap (λ (m : ℕ). allocRun place m c) (sym z) ∙ q)))
+      go (refused m) q e = subst⁻¹ (λ (s : state.Seen). PlainRun (ranged n (s .says))) e tt

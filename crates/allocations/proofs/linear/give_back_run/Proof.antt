@@ -1,0 +1,81 @@
+use mathlib.Core.Path.{_≡_, refl, sym, ap, _∙_}
+use Prim.Native.Nat.{_-_, _≤_}
+use borrow.Author.Tests.{not-true, not-false}
+use native.Mathlib.Omega.{arith}
+use Rattle.scopes.specs.View.{view, toldOnly}
+use Rattle.scopes.specs.Sound.{Sound}
+use Rattle.allocations.specs.Inner.{downFrom, backEach}
+use Rattle.allocations.proofs.Rounds.{down-step, down-none, turn-done, turn-refused, far-refused}
+use borrow.Author.Needs.{needs}
+use Rattle.allocations.proofs.linear.give_back_run.Statement.{statement}
+use Rattle.allocations.proofs.linear.give_back_run.Tie as tie
+
+abbrev Inv-loop : tie.InvT-loop
+Inv-loop s first count dangles t₀ i₀ t i = (i ≤ count) × Sound t × (backEach dangles (downFrom first i) (view t) ≡ backEach dangles (downFrom first count) (view s))
+
+abbrev μ-loop : tie.MeasureT-loop
+μ-loop s first count dangles t₀ i₀ t i = i
+
+add-if1 : tie.Need-add-if1 Inv-loop μ-loop
+add-if1 c = omega (arith, c .pre .1, c .pre .2)
+
+returns : tie.Need-returns Inv-loop μ-loop
+returns c = (ap (toldOnly (view (c .before .args .s))) (far-refused (c .before .args .s) (c .before .pre .0) (c .before .args .dangles) (c .before .args .first) (c .before .args .count) (c .before .pre .1) (c .if1 .taken)), c .before .pre .0)
+
+loop-holds : tie.Need-loop-holds Inv-loop μ-loop
+loop-holds c = (search needs, c .before .pre .0, refl)
+
+sub-i : tie.Need-sub-i Inv-loop μ-loop
+sub-i c = search needs
+
+add-a : tie.Need-add-a Inv-loop μ-loop
+add-a c = omega (arith, c .before .before .if1 .left, c .before .loop .inv .0)
+
+cast-a : tie.Need-cast-a Inv-loop μ-loop
+cast-a c = omega (arith, c .before .before .if1 .left, c .before .loop .inv .0)
+
+give-back-requires : tie.Need-give-back-requires Inv-loop μ-loop
+give-back-requires c κs = c .before .loop .inv .1
+
+is-done-requires : tie.Need-is-done-requires Inv-loop μ-loop
+is-done-requires c κs = tt
+
+returns-2 : tie.Need-returns-2 Inv-loop μ-loop
+returns-2 c = (
+  turn-refused (backEach (c .before .before .before .before .before .before .before .args .dangles) (downFrom (c .before .before .before .before .before .before .before .args .first) ((c .before .before .before .before .before .loop .i) - 1))) _ _ _ (view (c .before .before .before .before .before .before .before .args .s)) _ _ (sym (c .before .is-done .ensures) ∙ not-true _ (c .if2 .taken)) (c .before .before .before .give-back .ensures .0)
+      (sym (down-step (c .before .before .before .before .before .before .before .args .dangles) (c .before .before .before .before .before .before .before .args .first) (c .before .before .before .before .before .loop .i) ((c .before .before .before .before .before .loop .i) - 1) (view (c .before .before .before .before .before .loop .t)) (omega arith)) ∙ c .before .before .before .before .before .loop .inv .2),
+  c .before .before .before .before .before .before .before .pre .0,
+)
+
+loop-less : tie.Need-loop-less Inv-loop μ-loop
+loop-less c = search needs
+
+loop-again : tie.Need-loop-again Inv-loop μ-loop
+loop-again c = (
+  omega arith,
+  c .before .before .before .give-back .ensures .1,
+  turn-done (backEach (c .before .before .before .before .before .before .before .args .dangles) (downFrom (c .before .before .before .before .before .before .before .args .first) ((c .before .before .before .before .before .loop .i) - 1))) _ _ _ _ (sym (c .before .is-done .ensures) ∙ not-false _ (c .if2 .left)) (c .before .before .before .give-back .ensures .0)
+      ∙ sym (down-step (c .before .before .before .before .before .before .before .args .dangles) (c .before .before .before .before .before .before .before .args .first) (c .before .before .before .before .before .loop .i) ((c .before .before .before .before .before .loop .i) - 1) (view (c .before .before .before .before .before .loop .t)) (omega arith)) ∙ c .before .before .before .before .before .loop .inv .2,
+)
+
+returns-3 : tie.Need-returns-3 Inv-loop μ-loop
+returns-3 c = (ap (toldOnly (view (c .before .before .before .args .s))) (sym (down-none (c .before .before .before .args .dangles) (c .before .before .before .args .first) (c .before .loop .i) (view (c .before .loop .t)) (omega arith)) ∙ c .before .loop .inv .2), c .before .loop .inv .1)
+
+pub give-back-run-spec : {M : Type 1} → statement M
+give-back-run-spec =
+    tie.close
+    (tie.spec
+    Inv-loop
+    μ-loop
+    add-if1
+    returns
+    loop-holds
+    sub-i
+    add-a
+    cast-a
+    give-back-requires
+    is-done-requires
+    returns-2
+    loop-less
+    loop-again
+    returns-3)

@@ -1,0 +1,70 @@
+-- What the functions below the entries answer: what is made of a reply, and the slots of a run, the last one first. Assumes nothing.
+use mathlib.Core.Bool.{Bool}
+use mathlib.Core.List.{List, [], _∷_}
+use Prim.Native.Nat.{ℕ, zero, suc, _+_}
+use Rattle.rules.specs.Notation.{Answer, given, _>>=_}
+use Rattle.rules.specs.Scopes.{Scopes}
+use Rattle.rules.specs.Needs as rule
+use Rattle.scopes.specs.declared.Reply.{Reply}
+use Rattle.scopes.specs.declared.Reply.the-variants.{Done, At, Empty, Opened, Found, Refused}
+use Rattle.needs.specs.Kinds.{emptyRun}
+use Rattle.needs.specs.Inner.{kindFor}
+use Rattle.needs.specs.declared.AddressKind.{AddressKind}
+use Rattle.needs.specs.declared.Address.{Address}
+use Rattle.needs.specs.declared.Run.{Run}
+use Rattle.needs.specs.declared.AddressAnswer.{AddressAnswer}
+use Rattle.needs.specs.declared.AddressAnswer.the-variants as address
+use Rattle.needs.specs.declared.RunAnswer.{RunAnswer}
+use Rattle.needs.specs.declared.RunAnswer.the-variants as run
+
+-- ---- what is made of a reply; 0 stands where the operation never gives that reply
+
+-- an address of kind k at the slot that was given
+abbrev pub placed : AddressKind → Reply → AddressAnswer
+placed k Done = address.Refused 0
+placed k (At a) = address.Got (record { slot = a; kind = k })
+placed k Empty = address.Refused 0
+placed k (Opened i) = address.Refused 0
+placed k (Found b) = address.Refused 0
+placed k (Refused n) = address.Refused n
+
+-- the address a once its slot went back
+abbrev pub freedBy : Address → Reply → AddressAnswer
+freedBy a Done = address.Got a
+freedBy a (At b) = address.Refused 0
+freedBy a Empty = address.Refused 0
+freedBy a (Opened i) = address.Refused 0
+freedBy a (Found b) = address.Refused 0
+freedBy a (Refused n) = address.Refused n
+
+-- the run r once its slots went back
+abbrev pub runFreedBy : Run → Reply → RunAnswer
+runFreedBy r Done = run.Got r
+runFreedBy r (At b) = run.Refused 0
+runFreedBy r Empty = run.Refused 0
+runFreedBy r (Opened i) = run.Refused 0
+runFreedBy r (Found b) = run.Refused 0
+runFreedBy r (Refused n) = run.Refused n
+
+-- the run of n from the slot that was given
+abbrev pub ranged : ℕ → Reply → RunAnswer
+ranged n Done = run.Refused 0
+ranged n (At a) = run.Got (record { first = a; count = n; kind = kindFor n })
+ranged n Empty = run.Got emptyRun
+ranged n (Opened i) = run.Refused 0
+ranged n (Found b) = run.Refused 0
+ranged n (Refused m) = run.Refused m
+
+-- ---- a run's slots go back
+
+-- the n addresses from a on, the last one first
+unfoldable pub downFrom : ℕ → ℕ → List ℕ
+downFrom a zero = []
+downFrom a (suc n) = (a + n) ∷ downFrom a n
+
+-- each goes back, in this order; the first refusal is the answer
+unfoldable pub backEach : Bool → List ℕ → Scopes → Answer Scopes
+backEach dangles [] c = given c
+backEach dangles (a ∷ more) c = do
+  d ← rule.giveBack dangles a c
+  backEach dangles more d

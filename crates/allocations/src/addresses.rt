@@ -1,0 +1,106 @@
+// One address: allocated, freed.
+ghost use mathlib.Core.Path.{_≡_};
+ghost use Rattle.rules.specs.Sizes.{base};
+ghost use Rattle.rules.specs.Slots.{edition1};
+ghost use Rattle.rules.specs.Needs as rule;
+ghost use Rattle.scopes.specs.View.{view, idOf};
+ghost use Rattle.scopes.specs.Sound.{Sound};
+ghost use Rattle.needs.specs.Kinds.{addressOf};
+ghost use Rattle.allocations.specs.Outcomes.{seenAddress, toldState};
+ghost use Rattle.allocations.specs.Inner.{placed, freedBy};
+use crate::AddressOutcome;
+use needs::Address;
+use needs::AddressAnswer;
+use needs::AddressKind;
+use needs::addresses::goes_back;
+use needs::addresses::is_freed;
+use scopes::Reply;
+use scopes::ScopeId;
+use scopes::Scopes;
+use scopes::place;
+
+fn placed(reply: Reply, kind: AddressKind) -> AddressAnswer
+    ensures { λ r. ⌜ r ≡ placed kind reply ⌝ }
+{
+    match reply {
+        Reply::At(a) => AddressAnswer::Got(Address { slot: a, kind }),
+        Reply::Refused(n) => AddressAnswer::Refused(n),
+        Reply::Done => AddressAnswer::Refused(0),
+        Reply::Empty => AddressAnswer::Refused(0),
+        Reply::Opened(_) => AddressAnswer::Refused(0),
+        Reply::Found(_) => AddressAnswer::Refused(0),
+    }
+}
+
+// Local, in the top scope: 3, 7.
+pub fn alloc(s: Scopes) -> AddressOutcome
+    requires { ⌜ Sound s ⌝ }
+    ensures { λ r. ⌜ (seenAddress r ≡ toldState (view s) (rule.allocAddress (edition1 (base .segments)) (view s))) × Sound (r .state) ⌝ }
+{
+    let o = place::alloc(s);
+    let t = o.state;
+    let reply = o.reply;
+    AddressOutcome {
+        state: t,
+        answer: placed(reply, AddressKind::Local),
+    }
+}
+
+// Scope, in the scope that has this id: 4, 7.
+pub fn alloc_in(s: Scopes, id: ScopeId) -> AddressOutcome
+    requires { ⌜ Sound s ⌝ }
+    ensures { λ r. ⌜ (seenAddress r ≡ toldState (view s) (rule.allocAddressIn base (edition1 (base .segments)) (idOf id) (view s))) × Sound (r .state) ⌝ }
+{
+    let o = place::alloc_in(s, id);
+    let t = o.state;
+    let reply = o.reply;
+    AddressOutcome {
+        state: t,
+        answer: placed(reply, AddressKind::Scope(id)),
+    }
+}
+
+fn freed_by(reply: Reply, a: Address) -> AddressAnswer
+    ensures { λ r. ⌜ r ≡ freedBy a reply ⌝ }
+{
+    match reply {
+        Reply::Done => AddressAnswer::Got(a),
+        Reply::Refused(n) => AddressAnswer::Refused(n),
+        Reply::At(_) => AddressAnswer::Refused(0),
+        Reply::Empty => AddressAnswer::Refused(0),
+        Reply::Opened(_) => AddressAnswer::Refused(0),
+        Reply::Found(_) => AddressAnswer::Refused(0),
+    }
+}
+
+// 13, then where the slot goes back 12.
+pub fn free(s: Scopes, a: Address, dangles: bool) -> AddressOutcome
+    requires { ⌜ Sound s ⌝ }
+    ensures { λ r. ⌜ (seenAddress r ≡ toldState (view s) (rule.freeAddress dangles (addressOf a) (view s))) × Sound (r .state) ⌝ }
+{
+    let kind = a.kind;
+    let slot = a.slot;
+    if is_freed(kind) {
+        return AddressOutcome {
+            state: s,
+            answer: AddressAnswer::Refused(13),
+        };
+    }
+    let freed = Address {
+        slot,
+        kind: AddressKind::Freed,
+    };
+    if !goes_back(&s.number, s.top, kind) {
+        return AddressOutcome {
+            state: s,
+            answer: AddressAnswer::Got(freed),
+        };
+    }
+    let o = place::give_back(s, slot, dangles);
+    let t = o.state;
+    let reply = o.reply;
+    AddressOutcome {
+        state: t,
+        answer: freed_by(reply, freed),
+    }
+}
