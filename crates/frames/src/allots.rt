@@ -2,10 +2,8 @@
 ghost use mathlib.Core.Path.{_≡_};
 ghost use Prim.Native.Nat.{_+_, _≤_, _<_};
 ghost use lib.ListN.{length};
-ghost use Rattle.rules.specs.Needs.{runKind};
 ghost use Rattle.rules.specs.Frames as frame;
 ghost use Rattle.scopes.specs.Lent.{withSlots};
-ghost use Rattle.needs.specs.Kinds.{kindOf};
 ghost use Rattle.frames.specs.Steps.{slotOr, onAllots, Stands, Leads, Grants};
 use crate::handles::grant;
 use crate::steps::Adds;
@@ -14,6 +12,7 @@ use crate::steps::adds_of;
 use crate::steps::meant;
 use crate::steps::refused;
 use needs::AddressKind;
+use needs::linear::run_kind;
 use scopes::LentOutcome;
 use scopes::Numbers;
 use scopes::Reply;
@@ -114,16 +113,6 @@ pub fn alloc_in<'a>(
     }
     let o = place::alloc_in(halves, links, owner, live, number, n, id);
     granted(o, handles, holders, handed, 1, AddressKind::Scope(id))
-}
-
-// "a run of n ≥ 2 Dangling, a run of 1 Local"
-fn run_kind(n: u16) -> AddressKind
-    ensures { λ r. ⌜ kindOf r ≡ runKind n ⌝ }
-{
-    if n == 1 {
-        return AddressKind::Local;
-    }
-    AddressKind::Dangling
 }
 
 pub fn linear(
