@@ -10,14 +10,14 @@ use Rattle.rules.specs.Needs as rule
 use Rattle.rules.proofs.Chains.{none-some}
 use Rattle.scopes.specs.View as state
 use Rattle.scopes.specs.declared.Reply.{Reply}
-use Rattle.scopes.specs.declared.Reply.the-variants as reply
-use Rattle.needs.specs.Kinds.{kindOf, addresses, Plain}
+use Rattle.needs.specs.Kinds.{kindOf, addresses}
 use Rattle.allocations.specs.Outcomes.{SeenState, toldState}
 use Rattle.needs.specs.Answers.{addressSays, runSays, PlainRun}
-use Rattle.allocations.specs.Inner.{placed, ranged, runFreedBy}
+use Rattle.allocations.specs.Inner.{placed, freedBy, ranged}
 use Rattle.needs.specs.declared.AddressKind.{AddressKind}
 use Rattle.needs.specs.declared.AddressAnswer.{AddressAnswer}
-use Rattle.needs.specs.declared.Run.{Run}
+use Rattle.needs.specs.declared.FreeAnswer.{FreeAnswer}
+use Rattle.needs.specs.declared.FreeAnswer.the-variants as free
 use Rattle.needs.proofs.Runs.{kind-for}
 
 -- the next state t and the reply r, as the state's operations tell them
@@ -35,21 +35,19 @@ unfolding _>>=_
 placed-told k c t r a (given x) p e = ap (λ (b : AddressAnswer). answerIn t (addressSays b)) p ∙ ap (λ (s : state.Seen). answerIn (s .next) (addressSays (placed k (s .says)))) e
 placed-told k c t r a (refused n) p e = ap (λ (b : AddressAnswer). answerIn t (addressSays b)) p ∙ ap (λ (s : state.Seen). answerIn (s .next) (addressSays (placed k (s .says)))) e
 
--- ---- slots that went back, or a refusal: f is what is answered to a reply, x what Done stands for
+-- ---- slots that went back, or a refusal
 
-pub freed-told : {X : Type 0} (f : Reply → Answer X) (x : X) → f reply.Done ≡ given x → ((n : ℕ) → f (reply.Refused n) ≡ refused n)
-    → (c t : Scopes) (r : Reply) (m : Answer Scopes) → replyIn t r ≡ state.toldOnly c m → answerIn t (f r) ≡ toldState c (m >>= λ d. given (x, d))
+-- x where they went back
+abbrev pub onceBack : {X : Type 0} → X → FreeAnswer → Answer X
+onceBack x free.Done = given x
+onceBack x (free.Refused n) = refused n
+
+-- the answer a is b
+pub freed-told : {X : Type 0} (x : X) (c t : Scopes) (r : Reply) (m : Answer Scopes) (a b : FreeAnswer) → a ≡ freedBy r → a ≡ b → replyIn t r ≡ state.toldOnly c m
+    → answerIn t (onceBack x b) ≡ toldState c (m >>= λ d. given (x, d))
 unfolding _>>=_
-freed-told f x p q c t r (given d) e = ap (λ (s : state.Seen). answerIn (s .next) (f (s .says))) e ∙ ap (answerIn d) p
-freed-told f x p q c t r (refused n) e = ap (λ (s : state.Seen). answerIn (s .next) (f (s .says))) e ∙ ap (answerIn c) (q n)
-
-pub freed-plain : (f : Run) (r : Reply) → Plain f → PlainRun (runFreedBy f r)
-freed-plain f reply.Done p = p
-freed-plain f (reply.At a) p = tt
-freed-plain f reply.Empty p = tt
-freed-plain f (reply.Opened i) p = tt
-freed-plain f (reply.Found b) p = tt
-freed-plain f (reply.Refused n) p = tt
+freed-told x c t r (given d) a b p q e = ap (λ (y : FreeAnswer). answerIn t (onceBack x y)) (sym q ∙ p) ∙ ap (λ (s : state.Seen). answerIn (s .next) (onceBack x (freedBy (s .says)))) e
+freed-told x c t r (refused n) a b p q e = ap (λ (y : FreeAnswer). answerIn t (onceBack x y)) (sym q ∙ p) ∙ ap (λ (s : state.Seen). answerIn (s .next) (onceBack x (freedBy (s .says)))) e
 
 -- ---- a run
 

@@ -1,11 +1,10 @@
 -- The loop that gives a run's slots back, and freeing a run by cases. Assumes nothing.
-use mathlib.Core.Path.{_≡_, refl, sym, ap, _∙_}
+use mathlib.Core.Path.{_≡_, sym, ap, _∙_}
 use mathlib.Core.Bool.{Bool, true, false, true≢false}
 use mathlib.Core.List.{List}
 use Prim.Native.Nat.{ℕ, suc, _+_, _-_, _<_}
 use native.Mathlib.Omega.{arith}
 use Rattle.rules.specs.Notation.{Answer, given, refused, _>>=_}
-use Rattle.rules.specs.AddressSets.{run}
 use Rattle.rules.specs.Scopes.{Scopes}
 use Rattle.rules.specs.Needs as rule
 use Rattle.scopes.specs.View as state
@@ -15,11 +14,11 @@ use Rattle.scopes.specs.declared.Scopes as declared
 use Rattle.scopes.specs.declared.Reply.{Reply}
 use Rattle.needs.specs.Kinds.{kindOf, addresses, runOf}
 use Rattle.allocations.specs.Outcomes.{SeenState, toldState}
-use Rattle.needs.specs.Answers.{runSays}
-use Rattle.allocations.specs.Inner.{runFreedBy, downFrom, backEach}
+use Rattle.allocations.specs.Inner.{freedBy, downFrom, backEach}
 use Rattle.needs.specs.Inner.{isDone, backFrom}
 use Rattle.needs.specs.declared.Run.{Run}
-use Rattle.allocations.proofs.Replies.{replyIn, answerIn, freed-told}
+use Rattle.needs.specs.declared.FreeAnswer.{FreeAnswer}
+use Rattle.allocations.proofs.Replies.{replyIn, answerIn, onceBack, freed-told}
 use Rattle.needs.proofs.Tops.{back-from}
 use Rattle.allocations.proofs.Keeps.{no-slot}
 use Rattle.needs.proofs.Runs.{ofKind}
@@ -110,7 +109,7 @@ module _ (s : declared.Scopes) (sound : Sound s) (dangles : Bool) (r : Run) wher
     back-each : toldState (view s) (backEach dangles (downFrom (r .first .0) (r .count)) (view s) >>= λ d. given (rule.forgetRun (runOf r), d)) ≡ runTold
     back-each = sym (ap (toldState (view s)) (run-back dangles (kindOf (r .kind)) (r .first .0) (r .count) (view s) e (sym (back-from s sound (r .kind)) ∙ g)))
 
-    pub told-back : (f : Run) → runOf f ≡ rule.forgetRun (runOf r) → (t : Scopes) (reply : Reply)
+    pub told-back : (t : Scopes) (reply : Reply) (a b : FreeAnswer) → a ≡ freedBy reply → a ≡ b
         → replyIn t reply ≡ toldOnly (view s) (backEach dangles (downFrom (r .first .0) (r .count)) (view s))
-        → answerIn t (runSays (runFreedBy f reply)) ≡ runTold
-    told-back f p t reply b = freed-told (λ x. runSays (runFreedBy f x)) (rule.forgetRun (runOf r)) (ap given p) (λ n. refl) (view s) t reply _ b ∙ back-each
+        → answerIn t (onceBack (rule.forgetRun (runOf r)) b) ≡ runTold
+    told-back t reply a b p q e = freed-told (rule.forgetRun (runOf r)) (view s) t reply _ a b p q e ∙ back-each

@@ -10,10 +10,10 @@ use Rattle.scopes.specs.declared.Reply.the-variants.{Done, At, Empty, Opened, F
 use Rattle.needs.specs.Kinds.{emptyRun}
 use Rattle.needs.specs.Inner.{kindFor}
 use Rattle.needs.specs.declared.AddressKind.{AddressKind}
-use Rattle.needs.specs.declared.Address.{Address}
-use Rattle.needs.specs.declared.Run.{Run}
 use Rattle.needs.specs.declared.AddressAnswer.{AddressAnswer}
 use Rattle.needs.specs.declared.AddressAnswer.the-variants as address
+use Rattle.needs.specs.declared.FreeAnswer.{FreeAnswer}
+use Rattle.needs.specs.declared.FreeAnswer.the-variants as free
 use Rattle.needs.specs.declared.RunAnswer.{RunAnswer}
 use Rattle.needs.specs.declared.RunAnswer.the-variants as run
 
@@ -28,23 +28,14 @@ placed k (Opened i) = address.Refused 0
 placed k (Found b) = address.Refused 0
 placed k (Refused n) = address.Refused n
 
--- the address a once its slot went back
-abbrev pub freedBy : Address → Reply → AddressAnswer
-freedBy a Done = address.Got a
-freedBy a (At b) = address.Refused 0
-freedBy a Empty = address.Refused 0
-freedBy a (Opened i) = address.Refused 0
-freedBy a (Found b) = address.Refused 0
-freedBy a (Refused n) = address.Refused n
-
--- the run r once its slots went back
-abbrev pub runFreedBy : Run → Reply → RunAnswer
-runFreedBy r Done = run.Got r
-runFreedBy r (At b) = run.Refused 0
-runFreedBy r Empty = run.Refused 0
-runFreedBy r (Opened i) = run.Refused 0
-runFreedBy r (Found b) = run.Refused 0
-runFreedBy r (Refused n) = run.Refused n
+-- did the slots go back
+abbrev pub freedBy : Reply → FreeAnswer
+freedBy Done = free.Done
+freedBy (At b) = free.Refused 0
+freedBy Empty = free.Refused 0
+freedBy (Opened i) = free.Refused 0
+freedBy (Found b) = free.Refused 0
+freedBy (Refused n) = free.Refused n
 
 -- the run of n from the slot that was given
 abbrev pub ranged : ℕ → Reply → RunAnswer

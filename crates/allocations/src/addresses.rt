@@ -12,6 +12,7 @@ use crate::AddressOutcome;
 use needs::Address;
 use needs::AddressAnswer;
 use needs::AddressKind;
+use needs::FreeAnswer;
 use needs::addresses::goes_back;
 use needs::addresses::is_freed;
 use scopes::Reply;
@@ -60,16 +61,16 @@ pub fn alloc_in(s: Scopes, id: ScopeId) -> AddressOutcome
     }
 }
 
-fn freed_by(reply: Reply, a: Address) -> AddressAnswer
-    ensures { λ r. ⌜ r ≡ freedBy a reply ⌝ }
+pub fn freed_by(reply: Reply) -> FreeAnswer
+    ensures { λ r. ⌜ r ≡ freedBy reply ⌝ }
 {
     match reply {
-        Reply::Done => AddressAnswer::Got(a),
-        Reply::Refused(n) => AddressAnswer::Refused(n),
-        Reply::At(_) => AddressAnswer::Refused(0),
-        Reply::Empty => AddressAnswer::Refused(0),
-        Reply::Opened(_) => AddressAnswer::Refused(0),
-        Reply::Found(_) => AddressAnswer::Refused(0),
+        Reply::Done => FreeAnswer::Done,
+        Reply::Refused(n) => FreeAnswer::Refused(n),
+        Reply::At(_) => FreeAnswer::Refused(0),
+        Reply::Empty => FreeAnswer::Refused(0),
+        Reply::Opened(_) => FreeAnswer::Refused(0),
+        Reply::Found(_) => FreeAnswer::Refused(0),
     }
 }
 
@@ -99,8 +100,15 @@ pub fn free(s: Scopes, a: Address, dangles: bool) -> AddressOutcome
     let o = place::give_back(s, slot, dangles);
     let t = o.state;
     let reply = o.reply;
-    AddressOutcome {
-        state: t,
-        answer: freed_by(reply, freed),
+    let back = freed_by(reply);
+    match back {
+        FreeAnswer::Done => AddressOutcome {
+            state: t,
+            answer: AddressAnswer::Got(freed),
+        },
+        FreeAnswer::Refused(n) => AddressOutcome {
+            state: t,
+            answer: AddressAnswer::Refused(n),
+        },
     }
 }

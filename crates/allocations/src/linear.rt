@@ -9,8 +9,10 @@ ghost use Rattle.scopes.specs.Sound.{Sound};
 ghost use Rattle.needs.specs.Kinds.{runOf};
 ghost use Rattle.needs.specs.Answers.{PlainRun};
 ghost use Rattle.allocations.specs.Outcomes.{seenRun, toldState};
-ghost use Rattle.allocations.specs.Inner.{ranged, runFreedBy, downFrom, backEach};
+ghost use Rattle.allocations.specs.Inner.{ranged, downFrom, backEach};
 use crate::RunOutcome;
+use crate::addresses::freed_by;
+use needs::FreeAnswer;
 use needs::Run;
 use needs::RunAnswer;
 use needs::addresses::goes_back;
@@ -91,19 +93,6 @@ fn give_back_run(s: Scopes, first: usize, count: usize, dangles: bool) -> Outcom
     }
 }
 
-fn freed_by(reply: Reply, run: Run) -> RunAnswer
-    ensures { λ r. ⌜ r ≡ runFreedBy run reply ⌝ }
-{
-    match reply {
-        Reply::Done => RunAnswer::Got(run),
-        Reply::Refused(n) => RunAnswer::Refused(n),
-        Reply::At(_) => RunAnswer::Refused(0),
-        Reply::Empty => RunAnswer::Refused(0),
-        Reply::Opened(_) => RunAnswer::Refused(0),
-        Reply::Found(_) => RunAnswer::Refused(0),
-    }
-}
-
 // 13, then where the slots go back 12.
 pub fn free_run(s: Scopes, run: Run, dangles: bool) -> RunOutcome
     requires { ⌜ Sound s ⌝ }
@@ -134,8 +123,15 @@ pub fn free_run(s: Scopes, run: Run, dangles: bool) -> RunOutcome
     let o = give_back_run(s, first, count, dangles);
     let t = o.state;
     let reply = o.reply;
-    RunOutcome {
-        state: t,
-        answer: freed_by(reply, freed),
+    let back = freed_by(reply);
+    match back {
+        FreeAnswer::Done => RunOutcome {
+            state: t,
+            answer: RunAnswer::Got(freed),
+        },
+        FreeAnswer::Refused(n) => RunOutcome {
+            state: t,
+            answer: RunAnswer::Refused(n),
+        },
     }
 }

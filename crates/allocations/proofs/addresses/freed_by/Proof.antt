@@ -23,10 +23,10 @@ enum-told-5 : tie.Need-enum-told-5
 enum-told-5 c = search needs
 
 returns : tie.Need-returns
-returns c = sym (ap (freedBy _) (c .enum-told .given .1))
+returns c = sym (ap freedBy (c .enum-told .given .1))
 
 returns-2 : tie.Need-returns-2
-returns-2 c = sym (ap (freedBy _) (c .before .reply .given .1))
+returns-2 c = sym (ap freedBy (c .before .reply .given .1))
 
 returns-3 : tie.Need-returns-3
 returns-3 c = search needs
