@@ -1,5 +1,4 @@
 // A need: allocated, freed; a refusal leaves it as it was. The calls over a need alone take no state, and are those of crate needs.
-ghost use mathlib.Core.Path.{_≡_};
 ghost use Rattle.scopes.specs.View.{view};
 ghost use Rattle.needs.specs.Kinds.{needOf};
 ghost use Rattle.allocations.specs.Outcomes.{allocation, outputAllocation, freeingNeed};

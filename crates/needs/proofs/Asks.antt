@@ -17,24 +17,20 @@ use Rattle.needs.specs.declared.SlotAnswer.the-variants.{At, Nothing, Re
 module _ {B : Type 0} (n : ℕ) (f : Unit {0} → Answer B) where
   pub when-yes : (b : Bool) → b ≡ true → ((refuse n when b) >>= f) ≡ refused n
   unfolding _>>=_ refuse_when_
-  when-yes true e = refl
-  when-yes false e = absurd (true≢false (sym e))
+  when-yes b e = ap (λ (x : Bool). (refuse n when x) >>= f) e
 
   pub when-no : (b : Bool) → b ≡ false → ((refuse n when b) >>= f) ≡ f tt
   unfolding _>>=_ refuse_when_
-  when-no true e = absurd (true≢false e)
-  when-no false e = refl
+  when-no b e = ap (λ (x : Bool). (refuse n when x) >>= f) e
 
 module _ {A : Type 0} (x y : A) where
   pub if-yes : (b : Bool) → b ≡ true → (if b then x else y) ≡ x
   unfolding if_then_else_
-  if-yes true e = refl
-  if-yes false e = absurd (true≢false (sym e))
+  if-yes b e = ap (λ (b : Bool). if b then x else y) e
 
   pub if-no : (b : Bool) → b ≡ false → (if b then x else y) ≡ y
   unfolding if_then_else_
-  if-no true e = absurd (true≢false e)
-  if-no false e = refl
+  if-no b e = ap (λ (b : Bool). if b then x else y) e
 
 -- ---- "Allocating it turns Dangling into Local."
 
