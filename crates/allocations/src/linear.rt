@@ -1,6 +1,5 @@
 // A run of addresses: allocated in one piece, freed last address first.
 ghost use mathlib.Core.Path.{_≡_};
-ghost use Prim.Native.Nat.{_<_};
 ghost use Rattle.rules.specs.Sizes.{base};
 ghost use Rattle.rules.specs.Slots.{edition1};
 ghost use Rattle.rules.specs.Needs as rule;
@@ -58,28 +57,24 @@ pub fn linear(s: Scopes, n: u16) -> RunOutcome
     }
 }
 
-fn wide(x: u16) -> usize
-    ensures { λ r. ⌜ (r ≡ x) × (r < 65536) ⌝ }
-{
-    x as usize
-}
-
 // The slots go back, the last one first: where that one is past 65,535 it is no slot. On a refusal the state is the one that came in.
-fn give_back_run(s: Scopes, first: usize, count: usize, dangles: bool) -> Outcome
-    requires { ⌜ Sound s × (first < 65536) × (count < 65536) ⌝ }
+fn give_back_run(s: Scopes, first: u16, count: u16, dangles: bool) -> Outcome
+    requires { ⌜ Sound s ⌝ }
     ensures { λ r. ⌜ (seen r ≡ toldOnly (view s) (backEach dangles (downFrom first count) (view s))) × Sound (r .state) ⌝ }
 {
-    if 65536 < first + count {
+    let from = first as usize;
+    let many = count as usize;
+    if 65536 < from + many {
         return Outcome {
             state: s,
             reply: Reply::Refused(12),
         };
     }
     let mut t = s;
-    let mut i = count;
+    let mut i = many;
     while 0 < i {
         i -= 1;
-        let a = (first + i) as u16;
+        let a = (from + i) as u16;
         let o = place::give_back(t, SlotAddress(a), dangles);
         t = o.state;
         let reply = o.reply;
@@ -98,11 +93,9 @@ pub fn free_run(s: Scopes, run: Run, dangles: bool) -> RunOutcome
     requires { ⌜ Sound s ⌝ }
     ensures { λ r. ⌜ (seenRun r ≡ toldState (view s) (rule.freeRun dangles (runOf run) (view s))) × PlainRun (r .answer) × Sound (r .state) ⌝ }
 {
-    let first = wide(run.first.0);
-    let count = wide(run.count);
     let kind = run.kind;
     let freed = forget_run(run);
-    if count == 0 {
+    if run.count == 0 {
         return RunOutcome {
             state: s,
             answer: RunAnswer::Got(freed),
@@ -120,7 +113,7 @@ pub fn free_run(s: Scopes, run: Run, dangles: bool) -> RunOutcome
             answer: RunAnswer::Got(freed),
         };
     }
-    let o = give_back_run(s, first, count, dangles);
+    let o = give_back_run(s, run.first.0, run.count, dangles);
     let t = o.state;
     let reply = o.reply;
     let back = freed_by(reply);

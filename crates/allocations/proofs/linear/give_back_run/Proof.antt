@@ -11,19 +11,19 @@ use Rattle.allocations.proofs.linear.give_back_run.Statement.{statement
 use Rattle.allocations.proofs.linear.give_back_run.Tie as tie
 
 abbrev Inv-loop : tie.InvT-loop
-Inv-loop s first count dangles t₀ i₀ t i = (i ≤ count) × Sound t × (backEach dangles (downFrom first i) (view t) ≡ backEach dangles (downFrom first count) (view s))
+Inv-loop s first count dangles from many t₀ i₀ t i = (i ≤ count) × Sound t × (backEach dangles (downFrom first i) (view t) ≡ backEach dangles (downFrom first count) (view s))
 
 abbrev μ-loop : tie.MeasureT-loop
-μ-loop s first count dangles t₀ i₀ t i = i
+μ-loop s first count dangles from many t₀ i₀ t i = i
 
 add-if1 : tie.Need-add-if1 Inv-loop μ-loop
-add-if1 c = omega (arith, c .pre .1, c .pre .2)
+add-if1 c = omega arith
 
 returns : tie.Need-returns Inv-loop μ-loop
-returns c = (ap (toldOnly (view (c .before .args .s))) (far-refused (c .before .args .s) (c .before .pre .0) (c .before .args .dangles) (c .before .args .first) (c .before .args .count) (c .before .pre .1) (c .if1 .taken)), c .before .pre .0)
+returns c = (ap (toldOnly (view (c .before .args .s))) (far-refused (c .before .args .s) (c .before .pre) (c .before .args .dangles) (c .before .args .first) (c .before .args .count) (omega arith) (c .if1 .taken)), c .before .pre)
 
 loop-holds : tie.Need-loop-holds Inv-loop μ-loop
-loop-holds c = (search needs, c .before .pre .0, refl)
+loop-holds c = (search needs, c .before .pre, refl)
 
 sub-i : tie.Need-sub-i Inv-loop μ-loop
 sub-i c = search needs
@@ -44,7 +44,7 @@ returns-2 : tie.Need-returns-2 Inv-loop μ-loop
 returns-2 c = (
   turn-refused (backEach (c .before .before .before .before .before .before .before .args .dangles) (downFrom (c .before .before .before .before .before .before .before .args .first) ((c .before .before .before .before .before .loop .i) - 1))) _ _ _ (view (c .before .before .before .before .before .before .before .args .s)) _ _ (sym (c .before .is-done .ensures) ∙ not-true _ (c .if2 .taken)) (c .before .before .before .give-back .ensures .0)
       (sym (down-step (c .before .before .before .before .before .before .before .args .dangles) (c .before .before .before .before .before .before .before .args .first) (c .before .before .before .before .before .loop .i) ((c .before .before .before .before .before .loop .i) - 1) (view (c .before .before .before .before .before .loop .t)) (omega arith)) ∙ c .before .before .before .before .before .loop .inv .2),
-  c .before .before .before .before .before .before .before .pre .0,
+  c .before .before .before .before .before .before .before .pre,
 )
 
 loop-less : tie.Need-loop-less Inv-loop μ-loop
