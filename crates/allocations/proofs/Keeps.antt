@@ -11,9 +11,9 @@ use Rattle.rules.proofs.Tables.{by-eqb, put-same}
 use Rattle.rules.proofs.Chains.{All, all-given, all-when, all-unless, none-some}
 use Rattle.scopes.specs.View.{view}
 use Rattle.scopes.specs.Sound.{Sound}
+use Rattle.scopes.specs.declared.Scopes as state
 use Rattle.scopes.proofs.Finds.{no-top, Topped, topped}
 use Rattle.scopes.proofs.Frees.{far}
-use Rattle.scopes.specs.declared.Scopes as state
 
 -- ---- the top, and what stands there
 

@@ -11,14 +11,14 @@ use Rattle.rules.proofs.Chains.{none-some}
 use Rattle.scopes.specs.View as state
 use Rattle.scopes.specs.declared.Reply.{Reply}
 use Rattle.needs.specs.Kinds.{kindOf, addresses}
-use Rattle.allocations.specs.Outcomes.{SeenState, toldState}
 use Rattle.needs.specs.Answers.{addressSays, runSays, PlainRun}
-use Rattle.allocations.specs.Inner.{placed, freedBy, ranged}
 use Rattle.needs.specs.declared.AddressKind.{AddressKind}
 use Rattle.needs.specs.declared.AddressAnswer.{AddressAnswer}
 use Rattle.needs.specs.declared.FreeAnswer.{FreeAnswer}
 use Rattle.needs.specs.declared.FreeAnswer.the-variants as free
 use Rattle.needs.proofs.Runs.{kind-for}
+use Rattle.allocations.specs.Outcomes.{SeenState, toldState}
+use Rattle.allocations.specs.Inner.{asAddress, freedBy, asRun}
 
 -- the next state t and the reply r, as the state's operations tell them
 abbrev pub replyIn : Scopes → Reply → state.Seen
@@ -29,11 +29,11 @@ answerIn t a = record { next = t; says = a }
 
 -- ---- a slot that was given, as an address of kind k
 
-pub placed-told : (k : AddressKind) (c t : Scopes) (r : Reply) (a : AddressAnswer) (m : Answer (ℕ × Scopes)) → a ≡ placed k r → replyIn t r ≡ state.told state.at c m
+pub as-address-told : (k : AddressKind) (c t : Scopes) (r : Reply) (a : AddressAnswer) (m : Answer (ℕ × Scopes)) → a ≡ asAddress k r → replyIn t r ≡ state.told state.at c m
     → answerIn t (addressSays a) ≡ toldState c (m >>= λ x. given (rule.address (x .0) (kindOf k), x .1))
 unfolding _>>=_
-placed-told k c t r a (given x) p e = ap (λ (b : AddressAnswer). answerIn t (addressSays b)) p ∙ ap (λ (s : state.Seen). answerIn (s .next) (addressSays (placed k (s .says)))) e
-placed-told k c t r a (refused n) p e = ap (λ (b : AddressAnswer). answerIn t (addressSays b)) p ∙ ap (λ (s : state.Seen). answerIn (s .next) (addressSays (placed k (s .says)))) e
+as-address-told k c t r a (given x) p e = ap (λ (b : AddressAnswer). answerIn t (addressSays b)) p ∙ ap (λ (s : state.Seen). answerIn (s .next) (addressSays (asAddress k (s .says)))) e
+as-address-told k c t r a (refused n) p e = ap (λ (b : AddressAnswer). answerIn t (addressSays b)) p ∙ ap (λ (s : state.Seen). answerIn (s .next) (addressSays (asAddress k (s .says)))) e
 
 -- ---- slots that went back, or a refusal
 
@@ -68,22 +68,22 @@ none-first place c d a = go (topScope c)
     go (some t) e = none-some (ap firstIn e)
 
 module _ (place : Placement) (n : ℕ) (c t : Scopes) (r : Reply) where
-  pub ranged-told : replyIn t r ≡ state.told state.atFirst c (allocRun place n c) → answerIn t (runSays (ranged n r)) ≡ toldState c (rule.allocAddresses place n c)
+  pub as-run-told : replyIn t r ≡ state.told state.atFirst c (allocRun place n c) → answerIn t (runSays (asRun n r)) ≡ toldState c (rule.allocAddresses place n c)
   unfolding rule.allocAddresses _>>=_ run
-  ranged-told = go (allocRun place n c)
+  as-run-told = go (allocRun place n c)
     where
-      go : (m : Answer (Option ℕ × Scopes)) → replyIn t r ≡ state.told state.atFirst c m → answerIn t (runSays (ranged n r)) ≡ toldState c (m >>= λ x. given (rule.runFrom n (x .0), x .1))
-      go (given (none, d)) e = ap (λ (s : state.Seen). answerIn (s .next) (runSays (ranged n (s .says)))) e
+      go : (m : Answer (Option ℕ × Scopes)) → replyIn t r ≡ state.told state.atFirst c m → answerIn t (runSays (asRun n r)) ≡ toldState c (m >>= λ x. given (rule.runFrom n (x .0), x .1))
+      go (given (none, d)) e = ap (λ (s : state.Seen). answerIn (s .next) (runSays (asRun n (s .says)))) e
       go (given (some b, d)) e =
-          ap (λ (s : state.Seen). answerIn (s .next) (runSays (ranged n (s .says)))) e ∙ ap (λ (k : rule.Kind). answerIn d (given (addresses k b n))) (kind-for n)
-      go (refused m) e = ap (λ (s : state.Seen). answerIn (s .next) (runSays (ranged n (s .says)))) e
+          ap (λ (s : state.Seen). answerIn (s .next) (runSays (asRun n (s .says)))) e ∙ ap (λ (k : rule.Kind). answerIn d (given (addresses k b n))) (kind-for n)
+      go (refused m) e = ap (λ (s : state.Seen). answerIn (s .next) (runSays (asRun n (s .says)))) e
 
-  pub ranged-plain : replyIn t r ≡ state.told state.atFirst c (allocRun place n c) → PlainRun (ranged n r)
-  ranged-plain = go (allocRun place n c) refl
+  pub as-run-plain : replyIn t r ≡ state.told state.atFirst c (allocRun place n c) → PlainRun (asRun n r)
+  as-run-plain = go (allocRun place n c) refl
     where
-      go : (m : Answer (Option ℕ × Scopes)) → allocRun place n c ≡ m → replyIn t r ≡ state.told state.atFirst c m → PlainRun (ranged n r)
-      go (given (none, d)) q e = subst⁻¹ (λ (s : state.Seen). PlainRun (ranged n (s .says))) e (λ z. refl)
+      go : (m : Answer (Option ℕ × Scopes)) → allocRun place n c ≡ m → replyIn t r ≡ state.told state.atFirst c m → PlainRun (asRun n r)
+      go (given (none, d)) q e = subst⁻¹ (λ (s : state.Seen). PlainRun (asRun n (s .says))) e (λ z. refl)
       go (given (some b, d)) q e =
-          subst⁻¹ (λ (s : state.Seen). PlainRun (ranged n (s .says))) e
+          subst⁻¹ (λ (s : state.Seen). PlainRun (asRun n (s .says))) e
           (λ z. absurd (none-first place c d b (ap (λ (m : ℕ). allocRun place m c) (sym z) ∙ q)))
-      go (refused m) q e = subst⁻¹ (λ (s : state.Seen). PlainRun (ranged n (s .says))) e tt
+      go (refused m) q e = subst⁻¹ (λ (s : state.Seen). PlainRun (asRun n (s .says))) e tt

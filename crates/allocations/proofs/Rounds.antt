@@ -13,15 +13,15 @@ use Rattle.scopes.specs.Sound.{Sound}
 use Rattle.scopes.specs.declared.Scopes as declared
 use Rattle.scopes.specs.declared.Reply.{Reply}
 use Rattle.needs.specs.Kinds.{kindOf, addresses, runOf}
-use Rattle.allocations.specs.Outcomes.{SeenState, toldState}
-use Rattle.allocations.specs.Inner.{freedBy, downFrom, backEach}
 use Rattle.needs.specs.Inner.{isDone, backFrom}
 use Rattle.needs.specs.declared.Run.{Run}
 use Rattle.needs.specs.declared.FreeAnswer.{FreeAnswer}
-use Rattle.allocations.proofs.Replies.{replyIn, answerIn, onceBack, freed-told}
 use Rattle.needs.proofs.Tops.{back-from}
-use Rattle.allocations.proofs.Keeps.{no-slot}
 use Rattle.needs.proofs.Runs.{ofKind}
+use Rattle.allocations.specs.Outcomes.{SeenState, toldState}
+use Rattle.allocations.specs.Inner.{freedBy, downFrom, backEach}
+use Rattle.allocations.proofs.Replies.{replyIn, answerIn, onceBack, freed-told}
+use Rattle.allocations.proofs.Keeps.{no-slot}
 use Rattle.allocations.proofs.Downwards.{run-down, each-spent, each-kept, each-back}
 
 some-more : {n : ℕ} → (n ≡ 0 → ⊥) → n ≡ suc (n - 1)

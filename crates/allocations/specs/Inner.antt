@@ -20,13 +20,13 @@ use Rattle.needs.specs.declared.RunAnswer.the-variants as run
 -- ---- what is made of a reply; 0 stands where the operation never gives that reply
 
 -- an address of kind k at the slot that was given
-abbrev pub placed : AddressKind → Reply → AddressAnswer
-placed k Done = address.Refused 0
-placed k (At a) = address.Got (record { slot = a; kind = k })
-placed k Empty = address.Refused 0
-placed k (Opened i) = address.Refused 0
-placed k (Found b) = address.Refused 0
-placed k (Refused n) = address.Refused n
+abbrev pub asAddress : AddressKind → Reply → AddressAnswer
+asAddress k Done = address.Refused 0
+asAddress k (At a) = address.Got (record { slot = a; kind = k })
+asAddress k Empty = address.Refused 0
+asAddress k (Opened i) = address.Refused 0
+asAddress k (Found b) = address.Refused 0
+asAddress k (Refused n) = address.Refused n
 
 -- did the slots go back
 abbrev pub freedBy : Reply → FreeAnswer
@@ -38,13 +38,13 @@ freedBy (Found b) = free.Refused 0
 freedBy (Refused n) = free.Refused n
 
 -- the run of n from the slot that was given
-abbrev pub ranged : ℕ → Reply → RunAnswer
-ranged n Done = run.Refused 0
-ranged n (At a) = run.Got (record { first = a; count = n; kind = kindFor n })
-ranged n Empty = run.Got emptyRun
-ranged n (Opened i) = run.Refused 0
-ranged n (Found b) = run.Refused 0
-ranged n (Refused m) = run.Refused m
+abbrev pub asRun : ℕ → Reply → RunAnswer
+asRun n Done = run.Refused 0
+asRun n (At a) = run.Got (record { first = a; count = n; kind = kindFor n })
+asRun n Empty = run.Got emptyRun
+asRun n (Opened i) = run.Refused 0
+asRun n (Found b) = run.Refused 0
+asRun n (Refused m) = run.Refused m
 
 -- ---- a run's slots go back
 

@@ -7,7 +7,7 @@ ghost use Rattle.scopes.specs.View.{view, idOf};
 ghost use Rattle.scopes.specs.Sound.{Sound};
 ghost use Rattle.needs.specs.Kinds.{addressOf};
 ghost use Rattle.allocations.specs.Outcomes.{seenAddress, toldState};
-ghost use Rattle.allocations.specs.Inner.{placed, freedBy};
+ghost use Rattle.allocations.specs.Inner.{asAddress, freedBy};
 use crate::AddressOutcome;
 use needs::Address;
 use needs::AddressAnswer;
@@ -20,8 +20,8 @@ use scopes::ScopeId;
 use scopes::Scopes;
 use scopes::place;
 
-fn placed(reply: Reply, kind: AddressKind) -> AddressAnswer
-    ensures { λ r. ⌜ r ≡ placed kind reply ⌝ }
+fn as_address(reply: Reply, kind: AddressKind) -> AddressAnswer
+    ensures { λ r. ⌜ r ≡ asAddress kind reply ⌝ }
 {
     match reply {
         Reply::At(a) => AddressAnswer::Got(Address { slot: a, kind }),
@@ -43,7 +43,7 @@ pub fn alloc(s: Scopes) -> AddressOutcome
     let reply = o.reply;
     AddressOutcome {
         state: t,
-        answer: placed(reply, AddressKind::Local),
+        answer: as_address(reply, AddressKind::Local),
     }
 }
 
@@ -57,7 +57,7 @@ pub fn alloc_in(s: Scopes, id: ScopeId) -> AddressOutcome
     let reply = o.reply;
     AddressOutcome {
         state: t,
-        answer: placed(reply, AddressKind::Scope(id)),
+        answer: as_address(reply, AddressKind::Scope(id)),
     }
 }
 

@@ -8,7 +8,7 @@ ghost use Rattle.scopes.specs.Sound.{Sound};
 ghost use Rattle.needs.specs.Kinds.{runOf};
 ghost use Rattle.needs.specs.Answers.{PlainRun};
 ghost use Rattle.allocations.specs.Outcomes.{seenRun, toldState};
-ghost use Rattle.allocations.specs.Inner.{ranged, downFrom, backEach};
+ghost use Rattle.allocations.specs.Inner.{asRun, downFrom, backEach};
 use crate::RunOutcome;
 use crate::addresses::freed_by;
 use needs::FreeAnswer;
@@ -26,8 +26,8 @@ use scopes::Scopes;
 use scopes::place;
 use slots::SlotAddress;
 
-fn ranged(reply: Reply, n: u16) -> RunAnswer
-    ensures { λ r. ⌜ r ≡ ranged n reply ⌝ }
+fn as_run(reply: Reply, n: u16) -> RunAnswer
+    ensures { λ r. ⌜ r ≡ asRun n reply ⌝ }
 {
     match reply {
         Reply::At(a) => RunAnswer::Got(Run {
@@ -53,7 +53,7 @@ pub fn linear(s: Scopes, n: u16) -> RunOutcome
     let reply = o.reply;
     RunOutcome {
         state: t,
-        answer: ranged(reply, n),
+        answer: as_run(reply, n),
     }
 }
 

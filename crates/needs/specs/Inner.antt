@@ -13,6 +13,7 @@ use Rattle.needs.specs.declared.SlotAnswer.the-variants as slot
 use Rattle.needs.specs.declared.OutputAnswer.{OutputAnswer}
 use Rattle.needs.specs.declared.OutputAnswer.the-variants as output
 
+-- the operation was done
 abbrev pub isDone : Reply → Bool
 isDone Done = true
 isDone (At a) = false

@@ -3,13 +3,13 @@ use borrow.Author.Tests.{not-true, not-false}
 use borrow.Author.Needs.{needs}
 use Rattle.rules.specs.Needs as rule
 use Rattle.scopes.specs.View.{view}
-use Rattle.allocations.specs.Outcomes.{toldState}
 use Rattle.needs.specs.Kinds.{addressOf}
 use Rattle.needs.specs.declared.FreeAnswer.{FreeAnswer}
 use Rattle.needs.specs.declared.FreeAnswer.the-variants.{Done, Refused}
+use Rattle.needs.proofs.Tops.{back-from}
+use Rattle.allocations.specs.Outcomes.{toldState}
 use Rattle.allocations.proofs.Frees.{free-spent, free-kept, free-back}
 use Rattle.allocations.proofs.Replies.{answerIn, onceBack, freed-told}
-use Rattle.needs.proofs.Tops.{back-from}
 use Rattle.allocations.proofs.addresses.free.Statement.{statement}
 use Rattle.allocations.proofs.addresses.free.Tie as tie
 

@@ -1,6 +1,6 @@
 use mathlib.Core.Path.{sym, ap}
-use Rattle.allocations.specs.Inner.{freedBy}
 use borrow.Author.Needs.{needs}
+use Rattle.allocations.specs.Inner.{freedBy}
 use Rattle.allocations.proofs.addresses.freed_by.Statement.{statement}
 use Rattle.allocations.proofs.addresses.freed_by.Tie as tie
 

@@ -1,12 +1,12 @@
 use mathlib.Core.Path.{sym, ap, _∙_}
 use mathlib.Core.Option.{some}
+use borrow.Author.Needs.{needs}
 use Rattle.rules.specs.Notation.{given}
 use Rattle.rules.specs.Needs as rule
 use Rattle.scopes.specs.View.{view}
 use Rattle.needs.specs.Kinds.{needOf}
-use Rattle.allocations.specs.Outcomes.{allocation}
 use Rattle.needs.specs.declared.Need.{Need}
-use borrow.Author.Needs.{needs}
+use Rattle.allocations.specs.Outcomes.{allocation}
 use Rattle.allocations.proofs.any.allocate.Statement.{statement}
 use Rattle.allocations.proofs.any.allocate.Tie as tie
 

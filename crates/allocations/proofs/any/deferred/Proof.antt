@@ -1,11 +1,11 @@
 use mathlib.Core.Path.{sym, ap, _∙_}
+use borrow.Author.Needs.{needs}
 use Rattle.rules.specs.Needs as rule
 use Rattle.scopes.specs.View.{view, idOf}
 use Rattle.needs.specs.Answers.{addressSays}
 use Rattle.needs.specs.declared.AddressAnswer.{AddressAnswer}
 use Rattle.allocations.proofs.Replies.{answerIn}
 use Rattle.allocations.proofs.Served.{served, served-told}
-use borrow.Author.Needs.{needs}
 use Rattle.allocations.proofs.any.deferred.Statement.{statement}
 use Rattle.allocations.proofs.any.deferred.Tie as tie
 

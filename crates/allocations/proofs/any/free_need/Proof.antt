@@ -1,15 +1,15 @@
 use mathlib.Core.Path.{sym, ap, subst⁻¹, _∙_}
+use borrow.Author.Needs.{needs}
 use Rattle.rules.specs.Needs as rule
 use Rattle.scopes.specs.View.{view}
 use Rattle.scopes.specs.Sound.{Sound}
 use Rattle.needs.specs.Kinds.{addressOf, needOf}
-use Rattle.allocations.specs.Outcomes.{toldBoth, doneFreeing}
 use Rattle.needs.specs.Answers.{addressSays}
 use Rattle.needs.specs.declared.Need.{Need}
 use Rattle.needs.specs.declared.AddressAnswer.{AddressAnswer}
+use Rattle.allocations.specs.Outcomes.{toldBoth, doneFreeing}
 use Rattle.allocations.proofs.Replies.{answerIn}
 use Rattle.allocations.proofs.Served.{rid, rid-told}
-use borrow.Author.Needs.{needs}
 use Rattle.allocations.proofs.any.free_need.Statement.{statement}
 use Rattle.allocations.proofs.any.free_need.Tie as tie
 

@@ -2,11 +2,11 @@ use mathlib.Core.Path.{_≡_, refl, sym, ap, _∙_}
 use Prim.Native.Nat.{_-_, _≤_}
 use borrow.Author.Tests.{not-true, not-false}
 use native.Mathlib.Omega.{arith}
+use borrow.Author.Needs.{needs}
 use Rattle.scopes.specs.View.{view, toldOnly}
 use Rattle.scopes.specs.Sound.{Sound}
 use Rattle.allocations.specs.Inner.{downFrom, backEach}
 use Rattle.allocations.proofs.Rounds.{down-step, down-none, turn-done, turn-refused, far-refused}
-use borrow.Author.Needs.{needs}
 use Rattle.allocations.proofs.linear.give_back_run.Statement.{statement}
 use Rattle.allocations.proofs.linear.give_back_run.Tie as tie
 

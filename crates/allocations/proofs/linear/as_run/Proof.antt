@@ -1,10 +1,10 @@
 use mathlib.Core.Path.{sym, ap, _∙_}
-use Rattle.allocations.specs.Inner.{ranged}
+use borrow.Author.Needs.{needs}
 use Rattle.needs.specs.declared.AddressKind.{AddressKind}
 use Rattle.needs.specs.declared.RunAnswer.the-variants.{Got}
-use borrow.Author.Needs.{needs}
-use Rattle.allocations.proofs.linear.ranged.Statement.{statement}
-use Rattle.allocations.proofs.linear.ranged.Tie as tie
+use Rattle.allocations.specs.Inner.{asRun}
+use Rattle.allocations.proofs.linear.as_run.Statement.{statement}
+use Rattle.allocations.proofs.linear.as_run.Tie as tie
 
 enum-known-reply : tie.Need-enum-known-reply
 enum-known-reply c = search needs
@@ -31,13 +31,13 @@ enum-told-4 : tie.Need-enum-told-4
 enum-told-4 c = search needs
 
 returns : tie.Need-returns
-returns c = ap (λ (k : AddressKind). Got (record { first = c .before .before .reply .given .0 .0; count = c .before .before .before .before .args .n; kind = k })) (c .run-kind .ensures .0) ∙ sym (ap (ranged _) (c .before .before .reply .given .1))
+returns c = ap (λ (k : AddressKind). Got (record { first = c .before .before .reply .given .0 .0; count = c .before .before .before .before .args .n; kind = k })) (c .run-kind .ensures .0) ∙ sym (ap (asRun _) (c .before .before .reply .given .1))
 
 returns-2 : tie.Need-returns-2
-returns-2 c = ap Got (c .empty .ensures) ∙ sym (ap (ranged _) (c .before .enum-told .given .1))
+returns-2 c = ap Got (c .empty .ensures) ∙ sym (ap (asRun _) (c .before .enum-told .given .1))
 
 returns-3 : tie.Need-returns-3
-returns-3 c = sym (ap (ranged _) (c .before .reply2 .given .1))
+returns-3 c = sym (ap (asRun _) (c .before .reply2 .given .1))
 
 returns-4 : tie.Need-returns-4
 returns-4 c = search needs
@@ -48,8 +48,8 @@ returns-5 c = search needs
 returns-6 : tie.Need-returns-6
 returns-6 c = search needs
 
-pub ranged-spec : {M : Type 1} → statement M
-ranged-spec =
+pub as-run-spec : {M : Type 1} → statement M
+as-run-spec =
     tie.close
     (tie.spec
     enum-known-reply

@@ -1,8 +1,8 @@
 use mathlib.Core.Path.{sym, ap}
-use Rattle.allocations.specs.Inner.{placed}
 use borrow.Author.Needs.{needs}
-use Rattle.allocations.proofs.addresses.placed.Statement.{statement}
-use Rattle.allocations.proofs.addresses.placed.Tie as tie
+use Rattle.allocations.specs.Inner.{asAddress}
+use Rattle.allocations.proofs.addresses.as_address.Statement.{statement}
+use Rattle.allocations.proofs.addresses.as_address.Tie as tie
 
 enum-known-reply : tie.Need-enum-known-reply
 enum-known-reply c = search needs
@@ -23,10 +23,10 @@ enum-told-4 : tie.Need-enum-told-4
 enum-told-4 c = search needs
 
 returns : tie.Need-returns
-returns c = sym (ap (placed _) (c .before .reply .given .1))
+returns c = sym (ap (asAddress _) (c .before .reply .given .1))
 
 returns-2 : tie.Need-returns-2
-returns-2 c = sym (ap (placed _) (c .before .reply2 .given .1))
+returns-2 c = sym (ap (asAddress _) (c .before .reply2 .given .1))
 
 returns-3 : tie.Need-returns-3
 returns-3 c = search needs
@@ -40,8 +40,8 @@ returns-5 c = search needs
 returns-6 : tie.Need-returns-6
 returns-6 c = search needs
 
-pub placed-spec : {M : Type 1} → statement M
-placed-spec =
+pub as-address-spec : {M : Type 1} → statement M
+as-address-spec =
     tie.close
     (tie.spec
     enum-known-reply
