@@ -28,7 +28,7 @@ use Rattle.scopes.specs.declared.Outcome.{Outcome}
 use Rattle.scopes.specs.declared.Reply.the-variants as reply
 use Rattle.needs.specs.Kinds.{kindOf}
 use Rattle.needs.specs.declared.AddressKind.{AddressKind}
-use Rattle.frames.specs.Handles.{stateOf}
+use Rattle.handles.specs.Handles.{stateOf}
 use Rattle.frames.specs.Steps.{stepped, Few, Stands, Works, Grants, Reached}
 use Rattle.frames.specs.declared.steps.Adds.{Adds}
 use Rattle.frames.specs.declared.steps.Adds.the-variants.{One, Refused}

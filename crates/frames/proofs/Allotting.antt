@@ -29,10 +29,10 @@ use Rattle.scopes.specs.declared.Reply.{Reply}
 use Rattle.scopes.specs.declared.Reply.the-variants as reply
 use Rattle.needs.specs.Kinds.{kindOf}
 use Rattle.needs.specs.declared.AddressKind.{AddressKind}
-use Rattle.frames.specs.Handles.{handleAt, stateOf, Hands}
+use Rattle.handles.specs.Handles.{handleAt, stateOf, Hands}
 use Rattle.frames.specs.Steps.{stepped, addsOf, slotOr, Stands, Works, Grants, Reached}
 use Rattle.frames.specs.declared.steps.Adds.{Adds}
-use Rattle.frames.proofs.Changes.{Granted, granting}
+use Rattle.handles.proofs.Changes.{Granted, granting}
 
 -- ---- the slot that was answered
 

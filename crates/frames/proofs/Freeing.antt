@@ -24,11 +24,11 @@ use Rattle.scopes.specs.declared.Reply.{Reply}
 use Rattle.scopes.specs.declared.Reply.the-variants as reply
 use Rattle.needs.specs.Kinds.{kindOf}
 use Rattle.needs.specs.Inner.{isDone}
-use Rattle.frames.specs.Handles.{slotIn, kindIn, handleAt, stateOf, Coded, freedAs}
+use Rattle.handles.specs.Handles.{slotIn, kindIn, handleAt, stateOf, Coded, freedAs}
 use Rattle.frames.specs.Steps.{stepped, addsOf, freeing, freeCode, Stands, Works, Reached}
-use Rattle.frames.specs.declared.handles.Handle.{Handle as Known}
+use Rattle.handles.specs.declared.Handle.{Handle as Known}
 use Rattle.frames.specs.declared.steps.Adds.the-variants.{Nothing}
-use Rattle.frames.proofs.Changes.{recoding, clearing}
+use Rattle.handles.proofs.Changes.{recoding, clearing}
 use Rattle.frames.proofs.Moving.{few-reply}
 use Rattle.frames.proofs.Allocations.{when-true, when-false, refused-on}
 use Rattle.frames.proofs.Handling.{spent-unknown, spent-freed, unspent, set-freed, now-long}

@@ -18,11 +18,11 @@ use Rattle.slots.specs.Halves.{occ}
 use Rattle.scopes.specs.View.{view}
 use Rattle.scopes.specs.declared.Scopes.{Scopes}
 use Rattle.needs.specs.Kinds.{kindOf, addressOf}
-use Rattle.frames.specs.Handles.{slotIn, kindIn, handleAt, stateOf, Coded, freedAs}
+use Rattle.handles.specs.Handles.{slotIn, kindIn, handleAt, stateOf, Coded, freedAs}
 use Rattle.frames.specs.Steps.{stepped, loading, LoadsOf, Stands, Works}
-use Rattle.frames.specs.declared.handles.Handle.{Handle as Known}
+use Rattle.handles.specs.declared.Handle.{Handle as Known}
 use Rattle.frames.specs.declared.steps.Adds.the-variants.{Nothing, Store, Load}
-use Rattle.frames.proofs.Changes.{recoding}
+use Rattle.handles.proofs.Changes.{recoding}
 use Rattle.frames.proofs.Allocations.{when-true, when-false}
 
 -- ---- 13

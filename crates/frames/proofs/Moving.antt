@@ -28,9 +28,9 @@ use Rattle.scopes.specs.declared.ScopeId.{ScopeId}
 use Rattle.scopes.specs.declared.Outcome.{Outcome}
 use Rattle.scopes.specs.declared.Reply.{Reply}
 use Rattle.scopes.specs.declared.Reply.the-variants as reply
-use Rattle.frames.specs.Handles.{handleAt, stateOf}
+use Rattle.handles.specs.Handles.{handleAt, stateOf}
 use Rattle.frames.specs.Steps.{stepped, addsOf, Few, Stands, Works, Reached}
-use Rattle.frames.proofs.Changes.{closing}
+use Rattle.handles.proofs.Changes.{closing}
 
 pub few-reply : (y : Reply) → Few (addsOf y)
 few-reply reply.Done = tt

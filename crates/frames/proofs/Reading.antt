@@ -24,9 +24,9 @@ use Rattle.scopes.specs.declared.Outcome.{Outcome}
 use Rattle.scopes.specs.declared.Reply.{Reply}
 use Rattle.scopes.specs.declared.Reply.the-variants as reply
 use Rattle.needs.specs.Kinds.{kindOf}
-use Rattle.frames.specs.Handles.{handleAt, stateOf, Coded}
+use Rattle.handles.specs.Handles.{handleAt, stateOf, Coded}
 use Rattle.frames.specs.Steps.{stepped, addsOf, handleOr, Few, loading, LoadsOf, Stands, Works, Reached}
-use Rattle.frames.specs.declared.handles.Handle.{Handle as Known}
+use Rattle.handles.specs.declared.Handle.{Handle as Known}
 use Rattle.frames.specs.declared.steps.Adds.{Adds}
 use Rattle.frames.specs.declared.steps.Adds.the-variants.{Drained}
 use Rattle.frames.proofs.Moving.{few-reply, over-same, told-does, only-does}

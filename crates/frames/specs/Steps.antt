@@ -22,7 +22,7 @@ use Rattle.scopes.specs.Lent.{numbersOf, made, Whole}
 use Rattle.slots.specs.declared.SlotAddress.{SlotAddress}
 use Rattle.needs.specs.Kinds.{kindOf}
 use Rattle.needs.specs.declared.AddressKind.{AddressKind}
-use Rattle.frames.specs.Handles.{stateOf, Hands}
+use Rattle.handles.specs.Handles.{stateOf, Hands}
 use Rattle.frames.specs.declared.steps.Adds.{Adds}
 use Rattle.frames.specs.declared.steps.Adds.the-variants.{Nothing, One, Store, Load, Drained, Refused}
 use Rattle.frames.specs.declared.steps.Stepped.{Stepped}

@@ -163,7 +163,8 @@ fn free_step(
 {
     let op = f.opcode;
     let h = HandleNumber(f.a);
-    if op == 0x0c {
+    if op < 0x0e {
+        let dangles = op == 0x0c;
         return frees::free(
             halves,
             links,
@@ -174,21 +175,7 @@ fn free_step(
             holders,
             handed,
             h,
-            true,
-        );
-    }
-    if op == 0x0d {
-        return frees::free(
-            halves,
-            links,
-            owner,
-            number,
-            n,
-            handles,
-            holders,
-            handed,
-            h,
-            false,
+            dangles,
         );
     }
     let adds = frees::forget(handles, handed, h);

@@ -9,18 +9,16 @@ ghost use Rattle.rules.specs.Frames as frame;
 ghost use Rattle.scopes.specs.View.{view};
 ghost use Rattle.scopes.specs.Lent.{withSlots};
 ghost use Rattle.needs.specs.Kinds.{kindOf};
-ghost use Rattle.frames.specs.Handles.{Coded, freedAs};
+ghost use Rattle.handles.specs.Handles.{Coded};
 ghost use Rattle.frames.specs.Steps.{freeing, freeCode, onFrees, Tables, Stands, Leads, Stays};
-use crate::handles::Handle;
-use crate::handles::is_held;
-use crate::handles::packed;
-use crate::handles::unpacked;
 use crate::steps::Adds;
 use crate::steps::Stepped;
 use crate::steps::ended;
 use crate::steps::refused;
-use needs::Address;
-use needs::AddressKind;
+use handles::Handle;
+use handles::forgotten;
+use handles::is_held;
+use handles::unpacked;
 use needs::addresses::goes_back;
 use needs::addresses::is_done;
 use needs::addresses::is_freed;
@@ -28,22 +26,6 @@ use scopes::HandleNumber;
 use scopes::Numbers;
 use scopes::Scopes;
 use scopes::lent::place;
-
-// The same handle, with its kind Freed, in one number.
-fn forgotten(x: Handle) -> u64
-    requires { ⌜ x .address .slot .0 < 1024 ⌝ }
-    ensures { λ r. ⌜ Coded r (freedAs x) ⌝ }
-{
-    let address = x.address;
-    let slot = address.slot;
-    packed(Handle {
-        address: Address {
-            slot,
-            kind: AddressKind::Freed,
-        },
-        written: x.written,
-    })
-}
 
 // The slot of h, which is known as x, goes back: 14, 12.
 fn hand_back(

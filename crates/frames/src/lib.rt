@@ -1,5 +1,4 @@
 // One step for each frame of a script, over the lent arrays of the state and the handles.
-pub mod handles; // handles as numbers of a table
 pub mod steps; // what a step is
 pub mod scoped; // 01 to 05
 pub mod allots; // 06 to 08

@@ -41,7 +41,7 @@ use Rattle.text.proofs.Splits.{split-end}
 use Rattle.text.proofs.Rows.{frame-code}
 use Rattle.text.proofs.Bounds.{ScriptIn, script-in}
 use Rattle.text.proofs.Over.{over-nothing, next}
-use Rattle.frames.specs.Handles.{stateOf}
+use Rattle.handles.specs.Handles.{stateOf}
 use Rattle.frames.specs.Steps.{stepped, Few, Stands, Works, Reached}
 use Rattle.translate.specs.Whole.{frameIn, linesOf, linesText, onwardOf, Read, Ends, listed, refused as told}
 use Rattle.frames.specs.declared.steps.Adds.{Adds}

@@ -4,7 +4,7 @@ use mathlib.Core.Path.{_≡_, refl, sym, subst, _∙_}
 use mathlib.Core.Bool.{Bool, true, false, _&&_}
 use mathlib.Core.Option.{Option, none, some}
 use mathlib.Core.List.{List, [], _∷_}
-use Prim.Native.Nat.{ℕ, zero, suc, _+_, _/_, _%_, _≤_, _<_}
+use Prim.Native.Nat.{ℕ, zero, suc, _+_, _≤_, _<_}
 use native.Mathlib.Omega.{arith}
 use lib.Dec.{leb}
 use lib.ListN.{length}
@@ -23,6 +23,8 @@ use Rattle.rules.proofs.KeepsSteps.{keeps-step}
 use Rattle.rules.proofs.Fits.{base-wide}
 use Rattle.rules.proofs.Pages.{list-length}
 use Rattle.text.proofs.Bounds.{ScriptIn, script-in}
+pub use Rattle.text.proofs.Halves.{count, number}
+use Rattle.text.proofs.Halves.{Halves as Both, by-count, by-number}
 use Rattle.translate.proofs.Going.{fair, owes-none}
 
 -- ---- the number of a refusal
@@ -178,18 +180,18 @@ comes script = go (scriptFrom base 0 (split script)) (script-in base (split scri
 
 -- ---- the two halves of the answer
 
-pub data Halves (list : List ℕ) (l : Translation) : Type 0 where
-  count : l .answer / 4294967296 ≡ 0 → l .answer ≤ length list → l .answer ≤ 30727 → Halves list l
-  number : (n i : ℕ) → l .answer / 4294967296 ≡ n → l .answer % 4294967296 ≡ i → 1 ≤ n → n ≤ 20 → i ≤ 2048 → l .list ≡ list → Halves list l
+-- `number`: the list is the one that came in
+abbrev pub Halves : List ℕ → Translation → Type 0
+Halves list l = Both (length list) 30727 2048 (l .list ≡ list) (l .answer)
 
 halves-of : (list : List ℕ) (o : Outcome) → Comes o → Halves list (listLeft o list)
 unfolding listLeft if_then_else_
-halves-of list _ (to-stop n i a b c) = number n i (omega arith) (omega arith) a b c refl
+halves-of list _ (to-stop n i a b c) = by-number _ _ _ _ n i (omega arith) a b c refl
 halves-of list _ (to-list {ls = ls} {size = size} a) = go (leb (length (listText ls size)) (length list)) refl
   where
     go : (b : Bool) → leb (length (listText ls size)) (length list) ≡ b → Halves list (listLeft (accepted ls size) list)
-    go true e = rw (e, if_then_else_) (count (omega arith) (leb-true _ _ e) a)
-    go false e = rw (e, if_then_else_) (number 17 0 refl refl (omega arith) (omega arith) (omega arith) refl)
+    go true e = rw (e, if_then_else_) (by-count _ _ _ _ _ (omega arith) (leb-true _ _ e) a)
+    go false e = rw (e, if_then_else_) (by-number _ _ _ _ 17 0 (omega arith) (omega arith) (omega arith) (omega arith) refl)
 
 pub translate-halves : (script list : List ℕ) → Halves list (translateEntry base (edition1 8) script list)
 unfolding translateEntry base

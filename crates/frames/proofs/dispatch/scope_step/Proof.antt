@@ -1,9 +1,13 @@
 -- 01 to 05. Assumes nothing.
 use native.Mathlib.Omega.{arith}
+use mathlib.Core.Path.{refl}
 use Rattle.rules.specs.Frames as frame
+use Rattle.rules.specs.Text.{rowed, frameTable}
+use Rattle.text.specs.Lines.{frameOf}
+use Rattle.text.specs.Shapes.{shapeOf, frameShapes}
 use Rattle.scopes.specs.Lent.{made}
 use Rattle.scopes.specs.declared.Scopes.{Scopes}
-use Rattle.frames.proofs.Opcodes.{works-as, no-frame, is-none, is-child, is-pop, is-dangle, is-restore, is-pop-last}
+use Rattle.frames.proofs.Opcodes.{works-as, opcode-is, no-frame}
 use Rattle.frames.proofs.dispatch.scope_step.Statement.{statement}
 use Rattle.frames.proofs.dispatch.scope_step.Tie as tie
 
@@ -15,37 +19,43 @@ child-requires : tie.Need-child-requires
 child-requires c κs = let st = c .before .before .before .before in (state st, st .pre .0)
 
 returns : tie.Need-returns
-returns c = λ g q handles holders stands drained. let st = c .before .before .before .before .before in let f = st .args .f in works-as f 0x01 frame.child g (c .before .before .before .before .if1 .taken) (is-child f (c .before .before .before .before .if1 .taken)) q (c .child .ensures (state st) handles holders stands drained)
+unfolding frameOf rowed frameTable shapeOf frameShapes
+returns c = λ g q handles holders stands drained. let st = c .before .before .before .before .before in let f = st .args .f in works-as f 0x01 frame.child g (c .before .before .before .before .if1 .taken) refl q (c .child .ensures (state st) handles holders stands drained)
 
 pop-requires : tie.Need-pop-requires
 pop-requires c κs = c .before .before .before .before .before .before .before .before .before .before .pre .0
 
 returns-2 : tie.Need-returns-2
-returns-2 c = λ g q handles holders stands drained. let st = c .before .before .before .before .before .before .before .before .before .before .before in let f = st .args .f in works-as f 0x02 (frame.pop (f .a)) g (c .before .before .before .before .before .before .before .before .before .if2 .taken) (is-pop f (c .before .before .before .before .before .before .before .before .before .if2 .taken)) q (c .pop .ensures handles holders stands drained)
+unfolding frameOf rowed frameTable shapeOf frameShapes
+returns-2 c = λ g q handles holders stands drained. let st = c .before .before .before .before .before .before .before .before .before .before .before in let f = st .args .f in works-as f 0x02 (frame.pop (f .a)) g (c .before .before .before .before .before .before .before .before .before .if2 .taken) refl q (c .pop .ensures handles holders stands drained)
 
 dangle-requires : tie.Need-dangle-requires
 dangle-requires c κs = let st = c .before .before .before .before .before .before .before in (state st, st .pre .0)
 
 returns-3 : tie.Need-returns-3
-returns-3 c = λ g q handles holders stands drained. let st = c .before .before .before .before .before .before .before .before in let f = st .args .f in works-as f 0x03 (frame.dangle (f .a)) g (c .before .before .before .before .before .if3 .taken) (is-dangle f (c .before .before .before .before .before .if3 .taken)) q (c .dangle .ensures (state st) handles holders stands drained)
+unfolding frameOf rowed frameTable shapeOf frameShapes
+returns-3 c = λ g q handles holders stands drained. let st = c .before .before .before .before .before .before .before .before in let f = st .args .f in works-as f 0x03 (frame.dangle (f .a)) g (c .before .before .before .before .before .if3 .taken) refl q (c .dangle .ensures (state st) handles holders stands drained)
 
 restore-requires : tie.Need-restore-requires
 restore-requires c κs = let st = c .before .before .before .before .before .before .before in (state st, st .pre .0)
 
 returns-4 : tie.Need-returns-4
-returns-4 c = λ g q handles holders stands drained. let st = c .before .before .before .before .before .before .before .before in let f = st .args .f in works-as f 0x04 (frame.restore (f .a)) g (c .before .before .before .before .if4 .taken) (is-restore f (c .before .before .before .before .if4 .taken)) q (c .restore .ensures (state st) handles holders stands drained)
+unfolding frameOf rowed frameTable shapeOf frameShapes
+returns-4 c = λ g q handles holders stands drained. let st = c .before .before .before .before .before .before .before .before in let f = st .args .f in works-as f 0x04 (frame.restore (f .a)) g (c .before .before .before .before .if4 .taken) refl q (c .restore .ensures (state st) handles holders stands drained)
 
 pop-last-requires : tie.Need-pop-last-requires
 pop-last-requires c κs = c .before .before .before .before .before .before .before .before .before .before .before .before .before .pre .0
 
 returns-5 : tie.Need-returns-5
-returns-5 c = λ g q handles holders stands drained. let st = c .before .before .before .before .before .before .before .before .before .before .before .before .before .before in let f = st .args .f in works-as f 0x05 frame.popLast g (c .before .before .before .before .before .before .before .before .before .if5 .taken) (is-pop-last f (c .before .before .before .before .before .before .before .before .before .if5 .taken)) q (c .pop-last .ensures handles holders stands drained)
+unfolding frameOf rowed frameTable shapeOf frameShapes
+returns-5 c = λ g q handles holders stands drained. let st = c .before .before .before .before .before .before .before .before .before .before .before .before .before .before in let f = st .args .f in works-as f 0x05 frame.popLast g (c .before .before .before .before .before .before .before .before .before .if5 .taken) refl q (c .pop-last .ensures handles holders stands drained)
 
 refused-requires : tie.Need-refused-requires
 refused-requires c κs = tt
 
 returns-6 : tie.Need-returns-6
-returns-6 c = λ g q. let st = c .before .before .before .before .before .before in no-frame (is-none (st .args .f) (omega (arith, st .pre .1, c .before .before .before .before .before .if1 .left, c .before .before .before .before .if2 .left, c .before .before .before .if3 .left, c .before .before .if4 .left, c .before .if5 .left))) q
+unfolding frameOf rowed frameTable shapeOf frameShapes
+returns-6 c = λ g q. let st = c .before .before .before .before .before .before in no-frame (opcode-is (st .args .f) 0 (omega (arith, st .pre .1, c .before .before .before .before .before .if1 .left, c .before .before .before .before .if2 .left, c .before .before .before .if3 .left, c .before .before .if4 .left, c .before .if5 .left)) refl) q
 
 pub scope-step-spec : {M : Type 1} → statement M
 scope-step-spec =

@@ -1,10 +1,14 @@
 -- One step, by its opcode. Assumes nothing.
 use native.Mathlib.Omega.{arith}
+use mathlib.Core.Path.{refl}
 use Rattle.rules.specs.Frames as frame
+use Rattle.rules.specs.Text.{rowed, frameTable}
+use Rattle.text.specs.Lines.{frameOf}
+use Rattle.text.specs.Shapes.{shapeOf, frameShapes}
 use Rattle.scopes.specs.Lent.{made}
 use Rattle.scopes.specs.declared.Scopes.{Scopes}
 use Rattle.frames.proofs.Reading.{drain-works}
-use Rattle.frames.proofs.Opcodes.{works-as, is-drain}
+use Rattle.frames.proofs.Opcodes.{works-as}
 use Rattle.frames.proofs.dispatch.step.Statement.{statement}
 use Rattle.frames.proofs.dispatch.step.Tie as tie
 
@@ -39,10 +43,11 @@ drain-requires : tie.Need-drain-requires
 drain-requires c κs = let st = c .before .before .before .before .before .before .before .before in (state st, st .pre .0 .whole, st .pre .1)
 
 returns-5 : tie.Need-returns-5
+unfolding frameOf rowed frameTable shapeOf frameShapes
 returns-5 c =
     let st = c .before .before .before .before .before .before .before .before .before in
     let d = c .drain .ensures .0 (state st) (st .pre .0 .whole) in (
-      λ g q. works-as (st .args .f) 0x0f frame.drain g (c .before .before .before .before .if5 .taken) (is-drain (st .args .f) (c .before .before .before .before .if5 .taken)) q
+      λ g q. works-as (st .args .f) 0x0f frame.drain g (c .before .before .before .before .if5 .taken) refl q
           (drain-works _ _ _ _ (st .pre .0) _ (c .drain .result) _ (d .0) (d .1) (d .2) (c .drain .ensures .1 .1) (c .drain .ensures .1 .2)),
       c .drain .ensures .1 .1,
     )

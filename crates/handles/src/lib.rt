@@ -7,7 +7,7 @@ ghost use lib.ListN.{length};
 ghost use Rattle.slots.specs.Halves.{occ};
 ghost use Rattle.scopes.specs.View.{idOf};
 ghost use Rattle.needs.specs.Kinds.{kindOf};
-ghost use Rattle.frames.specs.Handles.{Coded, kindCoded, codeOfKind, idOfKind, Hands};
+ghost use Rattle.handles.specs.Handles.{Coded, kindCoded, codeOfKind, idOfKind, freedAs, Hands};
 use needs::Address;
 use needs::AddressKind;
 use scopes::ScopeId;
@@ -108,6 +108,22 @@ pub fn unpacked(b: u64) -> Handle
         address: Address { slot, kind },
         written: b % 2 == 1,
     }
+}
+
+// The same handle, with its kind Freed, in one number.
+pub fn forgotten(x: Handle) -> u64
+    requires { ⌜ x .address .slot .0 < 1024 ⌝ }
+    ensures { λ r. ⌜ Coded r (freedAs x) ⌝ }
+{
+    let address = x.address;
+    let slot = address.slot;
+    packed(Handle {
+        address: Address {
+            slot,
+            kind: AddressKind::Freed,
+        },
+        written: x.written,
+    })
 }
 
 // ---- held

@@ -10,7 +10,7 @@ use lib.Dec.{eqb}
 use lib.ListN.{length, getD, set}
 use lib.Seq.{getD-set-same, getD-set-other}
 use Rattle.rules.specs.Needs.{Kind}
-use Rattle.frames.specs.Handles.{slotIn, kindIn, Hands}
+use Rattle.handles.specs.Handles.{slotIn, kindIn, Hands}
 
 -- a table with x at place k: what is asked of the places from `first` on, `i` of them and then one more
 module _ (t : List ℕ) (first i x : ℕ) (fits : first + i < length t) (P : ℕ → ℕ → Type 0) where

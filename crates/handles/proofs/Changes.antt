@@ -17,7 +17,7 @@ use Rattle.rules.specs.Needs.{Kind, freed}
 use Rattle.rules.specs.Frames.{Handle, held≔, kind≔, grant, letGo}
 use Rattle.rules.proofs.Tables.{by-eqb, put-same, put-other, grant-cases}
 use Rattle.rules.proofs.Tells.{decided}
-use Rattle.frames.specs.Handles.{slotIn, kindIn, handleAt, Hands}
+use Rattle.handles.specs.Handles.{slotIn, kindIn, handleAt, Hands}
 
 and-false : (b : Bool) → (b && false) ≡ false
 and-false true = refl

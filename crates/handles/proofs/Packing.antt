@@ -12,8 +12,8 @@ use Rattle.scopes.specs.declared.ScopeId.{ScopeId}
 use Rattle.needs.specs.Kinds.{kindOf}
 use Rattle.needs.specs.declared.AddressKind.{AddressKind}
 use Rattle.needs.specs.declared.AddressKind.the-variants as kind
-use Rattle.frames.specs.Handles.{slotIn, idIn, kindCoded, kindIn, codeOfKind, idOfKind, Coded}
-use Rattle.frames.specs.declared.handles.Handle.{Handle}
+use Rattle.handles.specs.Handles.{slotIn, idIn, kindCoded, kindIn, codeOfKind, idOfKind, Coded}
+use Rattle.handles.specs.declared.Handle.{Handle}
 
 kind-coded : (k : AddressKind) → kindCoded (codeOfKind k) (idOf (idOfKind k)) ≡ kindOf k
 kind-coded kind.Local = refl

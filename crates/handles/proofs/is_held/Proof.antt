@@ -1,17 +1,14 @@
 use mathlib.Core.Path.{sym, _∙_}
 use borrow.Author.Needs.{needs}
-use Rattle.frames.proofs.handles.is_held.Statement.{statement}
-use Rattle.frames.proofs.handles.is_held.Tie as tie
+use Rattle.handles.proofs.is_held.Statement.{statement}
+use Rattle.handles.proofs.is_held.Tie as tie
 
--- src/handles.rt:118:8
 occupied-requires : tie.Need-occupied-requires
 occupied-requires c κs = search needs
 
--- src/handles.rt:119:9
 returns : tie.Need-returns
 returns c = rw (sym (c .before .occupied .ensures) ∙ c .if1 .taken)
 
--- src/handles.rt:114:1
 returns-2 : tie.Need-returns-2
 returns-2 c = rw (sym (c .before .occupied .ensures) ∙ c .if1 .left)
 

@@ -4,10 +4,10 @@ use native.Mathlib.Omega.{arith}
 use borrow.Author.Needs.{needs}
 use lib.ListN.{length, length-set}
 use Rattle.needs.specs.Kinds.{kindOf}
-use Rattle.frames.specs.Handles.{Hands}
-use Rattle.frames.proofs.Grants.{hands-more, hands-none, hands-all}
-use Rattle.frames.proofs.handles.grant.Statement.{statement}
-use Rattle.frames.proofs.handles.grant.Tie as tie
+use Rattle.handles.specs.Handles.{Hands}
+use Rattle.handles.proofs.Grants.{hands-more, hands-none, hands-all}
+use Rattle.handles.proofs.grant.Statement.{statement}
+use Rattle.handles.proofs.grant.Tie as tie
 
 abbrev Inv-loop : tie.InvT-loop
 Inv-loop handles₀ holders₀ handed n a kind i₀ handles holders i = (i ≤ n) × Hands handles₀ handles holders₀ holders handed i a (kindOf kind) × (length handles ≡ 2048) × (length holders ≡ 1024)
@@ -15,59 +15,45 @@ Inv-loop handles₀ holders₀ handed n a kind i₀ handles holders i = (i ≤ n
 abbrev μ-loop : tie.MeasureT-loop
 μ-loop handles₀ holders₀ handed n a kind i₀ handles holders i = n - i
 
--- src/handles.rt:142:5
 loop-holds : tie.Need-loop-holds Inv-loop μ-loop
 loop-holds c = (omega arith, hands-none _ _ _ _ _, c .pre .2, c .pre .3)
 
--- src/handles.rt:143:20
 add-slot : tie.Need-add-slot Inv-loop μ-loop
 add-slot c = search needs
 
--- src/handles.rt:144:17
 add-h : tie.Need-add-h Inv-loop μ-loop
 add-h c = search needs
 
--- src/handles.rt:147:35
 cast-holders : tie.Need-cast-holders Inv-loop μ-loop
 cast-holders c = search needs
 
--- src/handles.rt:145:13
 packed-requires : tie.Need-packed-requires Inv-loop μ-loop
 packed-requires c κs = search needs
 
--- src/handles.rt:152:9
 mul-handles : tie.Need-mul-handles Inv-loop μ-loop
 mul-handles c = search needs
 
--- src/handles.rt:152:9
 element-write-handles : tie.Need-element-write-handles Inv-loop μ-loop
 element-write-handles c = search needs
 
--- src/handles.rt:153:25
 cast-holders-2 : tie.Need-cast-holders-2 Inv-loop μ-loop
 cast-holders-2 c = search needs
 
--- src/handles.rt:153:9
 mul-holders : tie.Need-mul-holders Inv-loop μ-loop
 mul-holders c = search needs
 
--- src/handles.rt:153:9
 element-write-holders : tie.Need-element-write-holders Inv-loop μ-loop
 element-write-holders c = search needs
 
--- src/handles.rt:154:9
 add-i : tie.Need-add-i Inv-loop μ-loop
 add-i c = search needs
 
--- src/handles.rt:142:5
 loop-less : tie.Need-loop-less Inv-loop μ-loop
 loop-less c = search needs
 
--- src/handles.rt:142:5
 loop-again : tie.Need-loop-again Inv-loop μ-loop
 loop-again c = (omega arith, hands-more _ _ _ _ _ _ _ _ (c .before .before .loop .inv .1) _ (omega arith) (omega arith) (c .packed .ensures .slot) (c .packed .ensures .kind) (c .packed .ensures .written), simp length-set (c .before .before .loop .inv .2), simp length-set (c .before .before .loop .inv .3))
 
--- src/handles.rt:129:1
 returns : tie.Need-returns Inv-loop μ-loop
 returns c = (hands-all (c .before .loop .i) (c .before .before .args .n) (omega arith) (omega arith) (c .before .loop .inv .1), (c .before .loop .inv .2, c .before .loop .inv .3))
 

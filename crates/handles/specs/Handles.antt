@@ -14,7 +14,7 @@ use Rattle.scopes.specs.declared.ScopeId.{ScopeId}
 use Rattle.needs.specs.declared.AddressKind.{AddressKind}
 use Rattle.needs.specs.declared.AddressKind.the-variants as kind
 use Rattle.needs.specs.Kinds.{kindOf}
-use Rattle.frames.specs.declared.handles.Handle.{Handle as Handle′}
+use Rattle.handles.specs.declared.Handle.{Handle as Handle′}
 
 -- A handle in one number, from the low end: written 1 bit, kind 3 bits, slot 10 (6 bits more stay 0), index 8 and number 32 of a Scope kind. 0 is a handle
 -- that was never handed out.
