@@ -1,13 +1,9 @@
 //! `run`, as a host calls it: 01's session, each refusal, what is left of lent memory, and the model beside it.
 
-use mboxalind::{run, Answer, Refusal};
+mod common;
 
-const LIST: &[u8] =
-    b"010001\n080000\n10000100ff\n09\n120001\n0e\n0c\n02\n0f0003000200000001\n060000\n05\n900003\n";
-
-fn refused(number: u8, line: u32) -> Answer {
-    Answer::Refused(Refusal { number, line })
-}
+use common::{refused, stored, LIST};
+use mboxalind::{run, Answer};
 
 /// The answer; cells and out have to be as they were if it is a refusal.
 fn run_over(list: &[u8], cells: usize, out: usize) -> Answer {
@@ -55,16 +51,8 @@ fn by_model(list: &[u8], cells: &mut [u8], out: &mut [u8]) -> Answer {
 /// Each list as it is, and with one byte of it another.
 #[test]
 fn the_stored_lists_and_the_model() {
-    let bytes = std::fs::read("../crates/replay/data/answers.txt").expect("the stored answers");
-    let mut rest = &bytes[..];
     let mut asked = 0;
-    while !rest.is_empty() {
-        let length = |at| {
-            let digits = std::str::from_utf8(&rest[at..at + 8]).expect("digits");
-            usize::from_str_radix(digits, 16).expect("a length")
-        };
-        let (script, answer) = (18 + length(1), length(9));
-        let mut list = rest[script..script + answer].to_vec();
+    for (_, mut list) in stored() {
         for bend in 0..4 {
             if bend > 0 {
                 let at = (asked * 31 + bend * 97) % list.len();
@@ -77,7 +65,6 @@ fn the_stored_lists_and_the_model() {
             assert!(cells == their_cells && out == their_out);
             asked += 1;
         }
-        rest = &rest[script + answer..];
     }
     assert!(asked > 1000);
 }

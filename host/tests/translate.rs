@@ -1,15 +1,12 @@
 //! `translate`, as a host calls it: 01's session, lent memory, and the stored answers.
 #![cfg(translate)]
 
-use mboxalind::{run, translate, Answer, Refusal};
+mod common;
+
+use common::{refused, stored, LIST};
+use mboxalind::{run, translate, Answer};
 
 const SCRIPT: &[u8] = include_bytes!("../../samples/whole-session.script");
-const LIST: &[u8] =
-    b"010001\n080000\n10000100ff\n09\n120001\n0e\n0c\n02\n0f0003000200000001\n060000\n05\n900003\n";
-
-fn refused(number: u8, line: u32) -> Answer {
-    Answer::Refused(Refusal { number, line })
-}
 
 #[test]
 fn the_whole_session() {
@@ -46,18 +43,9 @@ fn printed(script: &[u8]) -> Vec<u8> {
 
 #[test]
 fn the_stored_answers() {
-    let bytes = std::fs::read("../crates/replay/data/answers.txt").expect("the stored answers");
-    let mut rest = &bytes[..];
-    let mut replayed = 0;
-    while !rest.is_empty() {
-        let length = |at| {
-            let digits = std::str::from_utf8(&rest[at..at + 8]).expect("digits");
-            usize::from_str_radix(digits, 16).expect("a length")
-        };
-        let (script, end) = (18 + length(1), 18 + length(1) + length(9));
-        assert_eq!(printed(&rest[18..script]), rest[script..end]);
-        rest = &rest[end..];
-        replayed += 1;
+    let records = stored();
+    assert_eq!(records.len(), 314);
+    for (script, answer) in records {
+        assert_eq!(printed(&script), answer);
     }
-    assert_eq!(replayed, 314);
 }

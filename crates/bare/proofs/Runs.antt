@@ -16,7 +16,7 @@ use Rattle.rules.proofs.Kept.{base-fair}
 use Rattle.slots.specs.Halves.{occ, slotsOf, firstClear}
 use Rattle.slots.specs.Promises.{Seen, placedOr7, removal, checked}
 use Rattle.slots.proofs.Steps.{checked-yes, insert-within, insert-refused, insert-placed}
-use Rattle.bare.specs.Bare.{Called, numbered, placeNumber, removeNumber, inserting, pushing, called, rowOf, rows, addressOf, filled, halfFull, summed, segmentsAfter, headAfter, addressAt, Inserted}
+use Rattle.bare.specs.Bare.{Called, numbered, placeNumber, removeNumber, inserting, pushing, called, callRow, rows, addressGiven, inserts, halfFull, summed, segmentsAfter, headAfter, addressAt, Inserted}
 
 -- ---- soundness
 
@@ -43,21 +43,21 @@ unchecked s x y h e = e ∙ sym (checked-yes (base .segments) s y h)
 
 -- ---- half full
 
-pub filled-turn : (i : ℕ) (s t : rule.Slots) → i < 512 → t ≡ inserting s .next → filled (512 - i) s ≡ halfFull → filled (512 - (i + 1)) t ≡ halfFull
-unfolding filled
-filled-turn i s t l e h =
+pub inserts-turn : (i : ℕ) (s t : rule.Slots) → i < 512 → t ≡ inserting s .next → inserts (512 - i) s ≡ halfFull → inserts (512 - (i + 1)) t ≡ halfFull
+unfolding inserts
+inserts-turn i s t l e h =
     let k : 512 - i ≡ suc (512 - (i + 1)) = omega arith in
-    ap (filled (512 - (i + 1))) e ∙ rw k at h
+    ap (inserts (512 - (i + 1))) e ∙ rw k at h
 
-pub filled-end : (i : ℕ) (s : rule.Slots) → 512 ≤ i → filled (512 - i) s ≡ halfFull → s ≡ halfFull
-unfolding filled
-filled-end i s l h = let k : 512 - i ≡ 0 = omega arith in rw k at h
+pub inserts-end : (i : ℕ) (s : rule.Slots) → 512 ≤ i → inserts (512 - i) s ≡ halfFull → s ≡ halfFull
+unfolding inserts
+inserts-end i s l h = let k : 512 - i ≡ 0 = omega arith in rw k at h
 
 -- ---- pairs
 
 module _ (stride n : ℕ) where
   pub summed-turn : {r : ℕ} (i a : ℕ) (s t : rule.Slots) (sum b g : ℕ) → i < n → t ≡ inserting (rule.remove a s) .next
-      → b ≡ (a + stride) % 512 → g ≡ (sum + addressOf (inserting (rule.remove a s) .says)) % 2 ^ 64
+      → b ≡ (a + stride) % 512 → g ≡ (sum + addressGiven (inserting (rule.remove a s) .says)) % 2 ^ 64
       → summed stride (n - i) a s sum ≡ r → summed stride (n - (i + 1)) b t g ≡ r
   unfolding summed
   summed-turn i a s t sum b g l e p q h =
@@ -82,11 +82,11 @@ pair-shown a s t b x y p q =
 
 module _ (calls : List ℕ) (n : ℕ) where
   pub rows-turn : {r : List ℕ} (i : ℕ) (s : rule.Slots) (x : Called) (shown new : List ℕ) → i < n → x ≡ called (getD calls i 0) s
-      → new ≡ rowOf shown i x → rows calls (n - i) i s shown ≡ r → rows calls (n - (i + 1)) (i + 1) (x .next) new ≡ r
+      → new ≡ callRow shown i x → rows calls (n - i) i s shown ≡ r → rows calls (n - (i + 1)) (i + 1) (x .next) new ≡ r
   unfolding rows
   rows-turn i s x shown new l e f h =
       let k : n - i ≡ suc (n - (i + 1)) = omega arith in
-      (λ u. rows calls (n - (i + 1)) (i + 1) (e u .next) ((f ∙ ap (rowOf shown i) e) u)) ∙ rw k at h
+      (λ u. rows calls (n - (i + 1)) (i + 1) (e u .next) ((f ∙ ap (callRow shown i) e) u)) ∙ rw k at h
 
   pub rows-start : (s : rule.Slots) (shown : List ℕ) → s ≡ rule.freshSlots → rows calls (n - 0) 0 s shown ≡ rows calls n 0 rule.freshSlots shown
   rows-start s shown e = let k : n - 0 ≡ n = omega arith in λ u. rows calls (k u) 0 (e u) shown
@@ -130,7 +130,7 @@ module _ (hs : List ℕ) (l h : ℕ) (y : Sound (slotsOf hs l h)) (m a : ℕ) (s
       record {
         within = put-within;
         next = (λ u. record { occupied = occ hs; segments = sym (segments-none a z l) u; head = sym (head-none a z h) u }) ∙ ap (λ (x : Seen ℕ). x .next) q;
-        gives = sym (address-none a z) ∙ ap (λ (x : Seen ℕ). addressOf (x .says)) q;
+        gives = sym (address-none a z) ∙ ap (λ (x : Seen ℕ). addressGiven (x .says)) q;
       }
 
   pub put-some : (new : List ℕ) → (a ≡ 1024 → ⊥) → occ new ≡ put (occ hs) a true → Inserted (slotsOf hs l h) new a
@@ -140,7 +140,7 @@ module _ (hs : List ℕ) (l h : ℕ) (y : Sound (slotsOf hs l h)) (m a : ℕ) (s
       record {
         within = put-within;
         next = (λ u. record { occupied = occ new; segments = sym (segments-some a z l) u; head = sym (head-some a z h) u }) ∙ ap (λ (x : Seen ℕ). x .next) q;
-        gives = sym (address-some a z) ∙ ap (λ (x : Seen ℕ). addressOf (x .says)) q;
+        gives = sym (address-some a z) ∙ ap (λ (x : Seen ℕ). addressGiven (x .says)) q;
       }
 
 -- a pair on lent halves: s before, t between, `hs` after
@@ -148,8 +148,8 @@ module _ (a : ℕ) (s t : rule.Slots) (hs : List ℕ) (b : ℕ) (e : t ≡ rule.
   pub pair-next : (l h : ℕ) → l ≡ segmentsAfter (t .segments) b → h ≡ headAfter (t .head) b → record { occupied = occ hs; segments = l; head = h } ≡ inserting (rule.remove a s) .next
   pair-next l h p q = (λ u. record { occupied = occ hs; segments = p u; head = q u }) ∙ i .next ∙ ap (λ (x : rule.Slots). inserting x .next) e
 
-  pub pair-gives : (x : ℕ) → x ≡ addressAt b → x ≡ addressOf (inserting (rule.remove a s) .says)
-  pair-gives x p = p ∙ i .gives ∙ ap (λ (y : rule.Slots). addressOf (inserting y .says)) e
+  pub pair-gives : (x : ℕ) → x ≡ addressAt b → x ≡ addressGiven (inserting (rule.remove a s) .says)
+  pair-gives x p = p ∙ i .gives ∙ ap (λ (y : rule.Slots). addressGiven (inserting y .says)) e
 
 -- ---- one call, by number
 

@@ -19,8 +19,8 @@ pub record Called : Type 0 where
   pub next : rule.Slots
   pub says : ℕ
 
-abbrev pub seen : Shown → Called
-seen r = record { next = view (r .state); says = r .says }
+abbrev pub shownCall : Shown → Called
+shownCall r = record { next = view (r .state); says = r .says }
 
 -- an address stands for itself, yes for 1, no for 0; a refusal is 65,536 and its number
 abbrev pub placeNumber : Answer ℕ → ℕ
@@ -59,34 +59,34 @@ called c s =
 abbrev pub row : List ℕ → ℕ → ℕ → ℕ → ℕ → List ℕ
 row shown w says l h = set (set (set shown w says) (w + 1) l) (w + 2) h
 
-abbrev pub rowOf : List ℕ → ℕ → Called → List ℕ
-rowOf shown i r = row shown (3 * i) (r .says) (r .next .segments) (r .next .head)
+abbrev pub callRow : List ℕ → ℕ → Called → List ℕ
+callRow shown i r = row shown (3 * i) (r .says) (r .next .segments) (r .next .head)
 
 -- k calls from number i on: call i writes row i
 unfoldable pub rows : List ℕ → ℕ → ℕ → rule.Slots → List ℕ → List ℕ
 rows calls zero i s shown = shown
 rows calls (suc k) i s shown =
-    rows calls k (i + 1) (called (getD calls i 0) s .next) (rowOf shown i (called (getD calls i 0) s))
+    rows calls k (i + 1) (called (getD calls i 0) s .next) (callRow shown i (called (getD calls i 0) s))
 
 -- ---- pairs of a remove and an insert
 
-abbrev pub addressOf : Answer ℕ → ℕ
-addressOf (given a) = a
-addressOf (refused n) = 0
+abbrev pub addressGiven : Answer ℕ → ℕ
+addressGiven (given a) = a
+addressGiven (refused n) = 0
 
 -- n inserts
-unfoldable pub filled : ℕ → rule.Slots → rule.Slots
-filled zero s = s
-filled (suc n) s = filled n (inserting s .next)
+unfoldable pub inserts : ℕ → rule.Slots → rule.Slots
+inserts zero s = s
+inserts (suc n) s = inserts n (inserting s .next)
 
 unfoldable pub halfFull : rule.Slots
-halfFull = filled 512 rule.freshSlots
+halfFull = inserts 512 rule.freshSlots
 
 -- the sum of the addresses given by k pairs: slot a is removed and one inserted, then slot (a + stride) mod 512, and so on
 unfoldable pub summed : ℕ → ℕ → ℕ → rule.Slots → ℕ → ℕ
 summed stride zero a s sum = sum
 summed stride (suc k) a s sum =
-    summed stride k ((a + stride) % 512) (inserting (rule.remove a s) .next) ((sum + addressOf (inserting (rule.remove a s) .says)) % 2 ^ 64)
+    summed stride k ((a + stride) % 512) (inserting (rule.remove a s) .next) ((sum + addressGiven (inserting (rule.remove a s) .says)) % 2 ^ 64)
 
 unfoldable pub pairsSum : ℕ → ℕ → ℕ
 pairsSum stride n = summed stride n 0 halfFull 0
@@ -105,4 +105,4 @@ addressAt a = elim (eqb a 1024) [ true ↦ 0 | false ↦ a ]
 pub record Inserted (s : rule.Slots) (halves : List ℕ) (a : ℕ) : Type 0 where
   pub within : a < 1025
   pub next : record { occupied = occ halves; segments = segmentsAfter (s .segments) a; head = headAfter (s .head) a } ≡ inserting s .next
-  pub gives : addressAt a ≡ addressOf (inserting s .says)
+  pub gives : addressAt a ≡ addressGiven (inserting s .says)

@@ -1,7 +1,7 @@
 // A call on the slots as a number: 65,535 inserts, 65,534 pushes, every other number removes the slot of that address.
 ghost use mathlib.Core.Path.{_≡_};
 ghost use Rattle.slots.specs.Promises.{view, seenPlacing, seenRemoving, placeSays, removeSays};
-ghost use Rattle.bare.specs.Bare.{seen, numbered, placeNumber, removeNumber, called};
+ghost use Rattle.bare.specs.Bare.{shownCall, numbered, placeNumber, removeNumber, called};
 use slots::PlaceAnswer;
 use slots::Placing;
 use slots::RemoveAnswer;
@@ -38,7 +38,7 @@ fn remove_number(x: RemoveAnswer) -> u64
 }
 
 fn placed(p: Placing) -> Shown
-    ensures { λ r. ⌜ seen r ≡ numbered placeNumber (seenPlacing p) ⌝ }
+    ensures { λ r. ⌜ shownCall r ≡ numbered placeNumber (seenPlacing p) ⌝ }
 {
     let state = p.state;
     let answer = p.answer;
@@ -47,7 +47,7 @@ fn placed(p: Placing) -> Shown
 }
 
 fn removed(p: Removing) -> Shown
-    ensures { λ r. ⌜ seen r ≡ numbered removeNumber (seenRemoving p) ⌝ }
+    ensures { λ r. ⌜ shownCall r ≡ numbered removeNumber (seenRemoving p) ⌝ }
 {
     let state = p.state;
     let answer = p.answer;
@@ -56,7 +56,7 @@ fn removed(p: Removing) -> Shown
 }
 
 pub fn call(s: Slots, c: u16) -> Shown
-    ensures { λ r. ⌜ seen r ≡ called c (view s) ⌝ }
+    ensures { λ r. ⌜ shownCall r ≡ called c (view s) ⌝ }
 {
     if c == 65535 {
         return placed(insert(s));

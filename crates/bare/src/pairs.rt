@@ -8,7 +8,7 @@ ghost use Rattle.rules.specs.Sound.{soundSlots};
 ghost use Rattle.rules.specs.Slots as rule;
 ghost use Rattle.slots.specs.Halves.{slotsOf};
 ghost use Rattle.slots.specs.Promises.{view, placeSays};
-ghost use Rattle.bare.specs.Bare.{addressOf, addressAt, halfFull, pairsSum, summed, Inserted, segmentsAfter, headAfter};
+ghost use Rattle.bare.specs.Bare.{addressGiven, addressAt, halfFull, pairsSum, summed, Inserted, segmentsAfter, headAfter};
 use slots::PlaceAnswer;
 use slots::SlotAddress;
 use slots::Slots;
@@ -40,7 +40,7 @@ fn next(a: u16, stride: u16) -> u16
 }
 
 fn address_of(x: PlaceAnswer) -> u64
-    ensures { λ r. ⌜ r ≡ addressOf (placeSays x) ⌝ }
+    ensures { λ r. ⌜ r ≡ addressGiven (placeSays x) ⌝ }
 {
     match x {
         PlaceAnswer::At(a) => a.0 as u64,

@@ -277,22 +277,18 @@ fn circle(case: &[u8]) {
 }
 
 // Scope 2 is closed, but for what it owns and what it binds.
-fn half_closed(case: &[u8]) {
+fn half_closed() -> Scopes {
     let mut s = whole();
     s.live[2] = false;
     s.parent[2] = 64;
     s.number[2] = 0;
     s.top = 1;
-    say(case, s);
+    s
 }
 
 // .. and but for what it owns.
 fn owns_closed(case: &[u8]) {
-    let mut s = whole();
-    s.live[2] = false;
-    s.parent[2] = 64;
-    s.number[2] = 0;
-    s.top = 1;
+    let mut s = half_closed();
     s.bindings[1] = 0;
     s.count = 1;
     say(case, s);
@@ -377,7 +373,7 @@ fn owners() {
     owner(b"owner of 9 is root", 9, 0);
     owner(b"owner of 9 is the dangling list", 9, 64);
     owner(b"owner of 9 is 66", 9, 66);
-    half_closed(b"scope 2 is closed, owns and binds");
+    say(b"scope 2 is closed, owns and binds", half_closed());
     owns_closed(b"scope 2 is closed and owns");
 }
 

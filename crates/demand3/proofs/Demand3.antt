@@ -18,7 +18,7 @@ use Rattle.rules.specs.Entries.{translated, listLeft, translateEntry, overFront
 use Rattle.translate.specs.Whole as translate
 use Rattle.translate.proofs.Numbers.{Comes, to-list, to-stop, comes}
 use Rattle.machine.proofs.Cells.{cells-length}
-use Rattle.demand3.specs.Promises.{Translates, Runs, Accepts, means, Prints, Above, Shows, Demand3Code}
+use Rattle.demand3.specs.Promises.{TranslatePromise, RunPromise, Accepts, means, PrintsMeaning, Above, Shows, Demand3Code}
 use Rattle.demand3.proofs.Reported.{text-reports, reports-one}
 use Rattle.demand3.proofs.Frame.{text-length, cells-back, odd-back}
 use Rattle.demand3.proofs.Ran.{reads, below, ran-on, loaded, above}
@@ -53,7 +53,7 @@ listing script list _ e (to-list {ls = ls} {size = size} a) r list′ h k = go (
           is = ap (take r) y ∙ take-at (listText ls size) (drop (length (listText ls size)) list) r (sym x);
         }
 
-pub listed-by : (script list : List ℕ) (r : ℕ) (list′ : List ℕ) → Translates script list r list′ → Accepts r → Listing script (take r list′)
+pub listed-by : (script list : List ℕ) (r : ℕ) (list′ : List ℕ) → TranslatePromise script list r list′ → Accepts r → Listing script (take r list′)
 unfolding translateEntry
 listed-by script list r list′ h k = listing script list (translated base (edition1 8) script) refl (come script) r list′ h k
 
@@ -70,7 +70,7 @@ left-ran x cells out h =
 
 module _ (script : List ℕ) (ls : List Line) (size : ℕ) (ok : translated base (edition1 8) script ≡ accepted ls size) where
   larger : (cells out : List ℕ) → 2 * size ≤ length cells → 7 * length (means script) ≤ length out
-      → (a : ℕ) (cells′ out′ : List ℕ) → Runs (listText ls size) cells out a cells′ out′ → Prints script out a out′ × Above size cells cells′
+      → (a : ℕ) (cells′ out′ : List ℕ) → RunPromise (listText ls size) cells out a cells′ out′ → PrintsMeaning script out a out′ × Above size cells cells′
   unfolding runEntry
   larger cells out h k a cells′ out′ run =
       let cs : List ℕ = cellsOf cells in

@@ -17,11 +17,11 @@ use Rattle.rules.specs.Entries.{translated, listLeft, translateEntry, overFront
 use Rattle.translate.specs.Whole as translate
 use Rattle.text.proofs.Halves.{by-number}
 use Rattle.translate.proofs.Numbers.{Comes, to-list, to-stop, Halves, count, number, translate-halves}
-use Rattle.machine.specs.Machine.{Leaves, Bytes}
+use Rattle.machine.specs.Machine.{Leaves, Bytes, refusal}
 use Rattle.machine.proofs.Cells.{cells-length}
 use Rattle.machine.proofs.Answer as machine
-use Rattle.demand3.specs.Promises.{Translates, Runs, Accepts, means, Prints}
-use Rattle.demand3.specs.Together.{refusal, frameAfter, worked, togetherOn, together}
+use Rattle.demand3.specs.Promises.{TranslatePromise, RunPromise, Accepts, means, PrintsMeaning}
+use Rattle.demand3.specs.Together.{frameAfter, worked, togetherOn, together}
 use Rattle.demand3.proofs.Frame.{text-length, frame-front}
 use Rattle.demand3.proofs.Ran.{below, ran-short, ran-on, loaded}
 use Rattle.demand3.proofs.Demand3.{come, listed-by, left-ran}
@@ -64,7 +64,7 @@ module _ (script : List ℕ) (ls : List Line) (size : ℕ) (ok : translated base
 
 -- ---- by what translate answered
 
-module _ (script page : List ℕ) (r : ℕ) (page′ : List ℕ) (said : Translates script page r page′) where
+module _ (script page : List ℕ) (r : ℕ) (page′ : List ℕ) (said : TranslatePromise script page r page′) where
   -- the list lies on the page
   pub on-page : Accepts r → r ≤ length page
   on-page k = go (translate-halves script page)
@@ -73,7 +73,7 @@ module _ (script page : List ℕ) (r : ℕ) (page′ : List ℕ) (said : Transla
       go (count a b c) = omega (arith, said .answered)
       go (number n i a b c d e f) = absurd (omega (arith, said .answered))
 
-  pub accepted-both : Accepts r → (cells out : List ℕ) → Bytes cells → (a : ℕ) (cells′ out′ : List ℕ) → Runs (take r page′) cells out a cells′ out′ → Leaves (together script cells out) a cells′ out′
+  pub accepted-both : Accepts r → (cells out : List ℕ) → Bytes cells → (a : ℕ) (cells′ out′ : List ℕ) → RunPromise (take r page′) cells out a cells′ out′ → Leaves (together script cells out) a cells′ out′
   unfolding together
   accepted-both k cells out bytes a cells′ out′ run =
       let l = listed-by script page r page′ said k in
@@ -97,17 +97,17 @@ module _ (script page : List ℕ) (r : ℕ) (page′ : List ℕ) (said : Transla
 -- ---- of the promise
 
 -- demand 3: an answer below 2^32 counts the bytes of the script's meaning, and they lie at the front of out
-pub together-prints : (script cells out : List ℕ) (r : ℕ) (cells′ out′ : List ℕ) → Leaves (together script cells out) r cells′ out′ → Accepts r → Prints script out r out′
+pub together-prints : (script cells out : List ℕ) (r : ℕ) (cells′ out′ : List ℕ) → Leaves (together script cells out) r cells′ out′ → Accepts r → PrintsMeaning script out r out′
 unfolding together togetherOn if_then_else_
 together-prints script cells out r cells′ out′ h k = go (translated base (edition1 8) script) (come script) h
   where
-    go : (o : Outcome) → Comes o → Leaves (togetherOn o (means script) cells out) r cells′ out′ → Prints script out r out′
+    go : (o : Outcome) → Comes o → Leaves (togetherOn o (means script) cells out) r cells′ out′ → PrintsMeaning script out r out′
     go _ (to-stop n i a b c) h = absurd (omega (arith, h .answered))
     go _ (to-list {ls = ls} {size = size} a) h = on (leb (2 * size) (length cells) && leb (7 * length (means script)) (length out)) h
       where
         on : (b : Bool)
             → Leaves (if b then worked ls size (means script) cells out else refusal 17 0 cells out) r cells′ out′
-            → Prints script out r out′
+            → PrintsMeaning script out r out′
         on true h = record { count = h .answered; text = h .out-left }
         on false h = absurd (omega (arith, h .answered))
 

@@ -18,12 +18,12 @@ use Rattle.machine.specs.Machine as machine
 -- ---- the two promises
 
 -- translate may answer r and leave list′, where it was lent list
-abbrev pub Translates : List ℕ → List ℕ → ℕ → List ℕ → Type 0
-Translates script list r list′ = translate.Leaves (translateEntry base (edition1 8) script list) r list′
+abbrev pub TranslatePromise : List ℕ → List ℕ → ℕ → List ℕ → Type 0
+TranslatePromise script list r list′ = translate.Leaves (translateEntry base (edition1 8) script list) r list′
 
 -- run may answer a and leave cells′ and out′, where it was lent cells and out
-abbrev pub Runs : List ℕ → List ℕ → List ℕ → ℕ → List ℕ → List ℕ → Type 0
-Runs list cells out a cells′ out′ = machine.Leaves (runEntry base list cells out) a cells′ out′
+abbrev pub RunPromise : List ℕ → List ℕ → List ℕ → ℕ → List ℕ → List ℕ → Type 0
+RunPromise list cells out a cells′ out′ = machine.Leaves (runEntry base list cells out) a cells′ out′
 
 -- a refusal has its number, 1 or more, in the high 32 bits
 abbrev pub Accepts : ℕ → Type 0
@@ -47,7 +47,7 @@ pub record Inside (list : List ℕ) (size : ℕ) : Type 0 where
   pub below : high size 0 lines ≡ none
 
 -- "prints what the script means", 7 bytes a load; what is lent beyond it stays
-pub record Prints (script out : List ℕ) (a : ℕ) (out′ : List ℕ) : Type 0 where
+pub record PrintsMeaning (script out : List ℕ) (a : ℕ) (out′ : List ℕ) : Type 0 where
   pub count : a ≡ 7 * length (means script)
   pub text : out′ ≡ overFront (loadsText (means script)) out
 
@@ -66,11 +66,11 @@ pub record Shows (script list : List ℕ) : Type 0 where
   pub inside : Inside list size
   -- on a frame of exactly the reported size
   pub exact : (cells out : List ℕ) → length cells ≡ 2 * size → 7 * length (means script) ≤ length out
-      → (a : ℕ) (cells′ out′ : List ℕ) → Runs list cells out a cells′ out′ → Prints script out a out′
+      → (a : ℕ) (cells′ out′ : List ℕ) → RunPromise list cells out a cells′ out′ → PrintsMeaning script out a out′
   -- on a larger one
   pub larger : (cells out : List ℕ) → 2 * size ≤ length cells → 7 * length (means script) ≤ length out
-      → (a : ℕ) (cells′ out′ : List ℕ) → Runs list cells out a cells′ out′ → Prints script out a out′ × Above size cells cells′
+      → (a : ℕ) (cells′ out′ : List ℕ) → RunPromise list cells out a cells′ out′ → PrintsMeaning script out a out′ × Above size cells cells′
 
 -- for every script that translate accepts, whatever its promise admits: the list is as many bytes as the answer counts
 unfoldable pub Demand3Code : Type 0
-Demand3Code = (script list : List ℕ) (r : ℕ) (list′ : List ℕ) → Translates script list r list′ → Accepts r → Shows script (take r list′)
+Demand3Code = (script list : List ℕ) (r : ℕ) (list′ : List ℕ) → TranslatePromise script list r list′ → Accepts r → Shows script (take r list′)

@@ -10,12 +10,9 @@ use Rattle.rules.specs.Sizes.{base}
 use Rattle.rules.specs.Slots.{edition1}
 use Rattle.rules.specs.Frames.{Line, Outcome, accepted, refusedAt}
 use Rattle.rules.specs.Meaning.{obey}
-use Rattle.rules.specs.Entries.{translated, refusalAnswer, overFront, loadsText, bytesOf, Running}
+use Rattle.rules.specs.Entries.{translated, overFront, loadsText, bytesOf, Running}
+use Rattle.machine.specs.Machine.{refusal}
 use Rattle.demand3.specs.Promises.{means}
-
--- a refusal: "lent memory unchanged"
-abbrev pub refusal : ℕ → ℕ → List ℕ → List ℕ → Running
-refusal n i cells out = record { answer = refusalAnswer n i; cells = cells; out = out }
 
 -- the bytes of a zeroed frame of exactly the size, after the lines
 abbrev pub frameAfter : List Line → ℕ → List ℕ

@@ -1,4 +1,4 @@
-// What a program reads: standard input, or the file that its first argument names.
+// What a program reads: standard input, or a file that an argument names.
 ghost use mathlib.Core.Path.{_≡_};
 ghost use Prim.Native.Nat.{ℕ, _≤_};
 ghost use lib.ListN.{length};
@@ -56,17 +56,24 @@ fn read_file(path: &[u8], buf: &mut [u8]) -> Input
     r
 }
 
+// The file that argument k names.
+pub fn read_argument(k: usize, buf: &mut [u8]) -> Input
+    ensures { λ r. ⌜ Within r (length (now (buf .entry))) ⌝ }
+{
+    let mut path = io::buffer();
+    let n = os::arg(k, &mut path);
+    if os::errno() != 0 {
+        os::fail(b"argument");
+        return Input::Failed;
+    }
+    read_file(&path[..n], buf)
+}
+
 pub fn read_input(buf: &mut [u8]) -> Input
     ensures { λ r. ⌜ Within r (length (now (buf .entry))) ⌝ }
 {
     if os::arg_count() < 2 {
         return fill_or_say(0, buf, b"standard input");
     }
-    let mut path = io::buffer();
-    let n = os::arg(1, &mut path);
-    if os::errno() != 0 {
-        os::fail(b"argument");
-        return Input::Failed;
-    }
-    read_file(&path[..n], buf)
+    read_argument(1, buf)
 }

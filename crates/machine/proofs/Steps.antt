@@ -16,14 +16,14 @@ use Rattle.text.specs.Writing.{over}
 use Rattle.text.specs.declared.lines.Taken as text-taken
 use Rattle.text.proofs.Splits.{split-end}
 use Rattle.text.proofs.Over.{over-nothing}
-use Rattle.machine.specs.Machine.{entryOf, entries, Took, loadsOf, overOf, surveyOf, cellAt, storedOf, printedOf, obeyCells, obeyText, loadsIn, Reach, Reaches}
+use Rattle.machine.specs.Machine.{entryOf, entries, TookEntry, loadsOf, overOf, surveyOf, cellAt, storedOf, printedOf, obeyCells, obeyText, loadsIn, Reach, Reaches}
 use Rattle.machine.specs.declared.entries.Entry.{Entry}
 use Rattle.machine.specs.declared.entries.Entry.the-variants.{Skip, Store, Load}
 use Rattle.machine.specs.declared.entries.Taken.{Taken}
 use Rattle.machine.specs.declared.passes.Survey.the-variants.{High, Loads}
 
 -- the entry of a line that was read
-pub took : (s : List ℕ) (p : ℕ) (t : text-taken.Taken) (e : Entry) → text.Took lineReading s p t → e ≡ entryOf (t .reading) → Took s p (record { entry = e; next = t .next })
+pub took : (s : List ℕ) (p : ℕ) (t : text-taken.Taken) (e : Entry) → text.Took lineReading s p t → e ≡ entryOf (t .reading) → TookEntry s p (record { entry = e; next = t .next })
 unfolding entries
 took s p t e k q = record { here = rw (k .here, q, k .as-read); forward = k .forward; within = k .within }
 
@@ -38,7 +38,7 @@ module _ (s : List ℕ) (p i n size : ℕ) where
   unfolding surveyOf
   survey-end h = rw (entries-end s p h)
 
-  module _ (t : Taken) (k : Took s p t) (b : Bool) (e : b ≡ overOf size (t .entry)) where
+  module _ (t : Taken) (k : TookEntry s p t) (b : Bool) (e : b ≡ overOf size (t .entry)) where
     survey-step : surveyOf size i n (entries (drop p s)) ≡ pick b (High i) (surveyOf size (i + 1) (n + loadsOf (t .entry)) (entries (drop (t .next) s)))
     unfolding surveyOf
     survey-step = rw (k .here, e)
@@ -117,7 +117,7 @@ going-start s cells out r = record {
 }
 
 module _ (s cells₀ out₀ : List ℕ) (p w : ℕ) (cells out : List ℕ) (room : 7 * loadsIn (entries s) ≤ length out₀) (g : Going s cells₀ out₀ p w cells out) where
-  module _ (t : Taken) (k : Took s p t) where
+  module _ (t : Taken) (k : TookEntry s p t) where
     counted : loadsIn (entries (drop p s)) ≡ loadsOf (t .entry) + loadsIn (entries (drop (t .next) s))
     unfolding loadsIn
     counted = rw (k .here)

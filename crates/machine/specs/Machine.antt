@@ -40,7 +40,7 @@ unfoldable pub entries : List ℕ → List Entry
 entries s = map entryAt (split s)
 
 -- a line's entry was taken at p, and the next line begins at `next`
-pub record Took (s : List ℕ) (p : ℕ) (r : Taken) : Type 0 where
+pub record TookEntry (s : List ℕ) (p : ℕ) (r : Taken) : Type 0 where
   pub here : entries (drop p s) ≡ r .entry ∷ entries (drop (r .next) s)
   pub forward : p < r .next
   pub within : r .next ≤ length s
@@ -101,6 +101,7 @@ Reaches m (x ∷ es) = Reach m x × Reaches m es
 
 -- ---- a list that is read: 20, then 17, or the work
 
+-- "lent memory unchanged"
 abbrev pub refusal : ℕ → ℕ → List ℕ → List ℕ → Running
 refusal n i cells out = record { answer = refusalAnswer n i; cells = cells; out = out }
 

@@ -5,7 +5,7 @@ use text::lines::list_line_at;
 ghost use mathlib.Core.Path.{_≡_};
 ghost use Prim.Native.Nat.{_<_};
 ghost use lib.ListN.{length};
-ghost use Rattle.machine.specs.Machine.{entryOf, loadsOf, overOf, Took};
+ghost use Rattle.machine.specs.Machine.{entryOf, loadsOf, overOf, TookEntry};
 
 pub enum Entry {
     Skip,
@@ -45,7 +45,7 @@ fn entry_of(x: Reading) -> Entry
 // The entry of the line at p, and where the next line begins.
 pub fn entry_at(s: &[u8], p: usize) -> Taken
     requires { ⌜ p < length (now s) ⌝ }
-    ensures { λ r. ⌜ Took (now (s .entry)) p r ⌝ }
+    ensures { λ r. ⌜ TookEntry (now (s .entry)) p r ⌝ }
 {
     let t = list_line_at(s, p);
     let x = t.reading;

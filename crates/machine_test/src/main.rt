@@ -1,29 +1,12 @@
-// Runs lists on lent memory and prints, for each, the reading that it shows, what came of it, and the lent memory afterwards: docs/parts/text.md
-// says why each line is what it is.
+// Runs lists on lent memory and prints, for each, the reading that it shows, what came of it, and behind > the lent memory afterwards, LF as /:
+// docs/parts/text.md says why each line is what it is.
+use cases::put;
+use cases::put_lines;
+use cases::say;
+use cases::show;
 use text::writing::put_byte;
-use text::writing::put_refusal;
-ghost use Prim.Native.Nat.{_+_, _*_, _≤_};
+ghost use Prim.Native.Nat.{_≤_};
 ghost use lib.ListN.{length};
-
-// What `run` answered: what the loads wrote, `-` where that is nothing, or the `ee` line.
-fn say(r: u64, out: &[u8]) {
-    if r < 4294967296 {
-        let n = io::count(r as isize, out);
-        if n == 0 {
-            io::write_all(1, b"-\n");
-        }
-        io::write_all(1, &out[..n]);
-        return;
-    }
-    let mut line = [0u8; 9];
-    put_refusal(
-        &mut line,
-        0,
-        (r / 4294967296 % 256) as u8,
-        (r % 65536) as u16,
-    );
-    io::write_all(1, &line);
-}
 
 fn show_byte(b: u8) {
     let mut two = [0u8; 2];
@@ -35,23 +18,6 @@ fn show_cells(cells: &[u8]) {
     let mut i: usize = 0;
     while i < cells.len() {
         show_byte(cells[i]);
-        i += 1;
-    }
-}
-
-// LF as /.
-fn show_char(b: u8) {
-    if b == 10 {
-        io::write_all(1, b"/");
-    } else {
-        io::write_all(1, &[b]);
-    }
-}
-
-fn show_out(out: &[u8]) {
-    let mut i: usize = 0;
-    while i < out.len() {
-        show_char(out[i]);
         i += 1;
     }
 }
@@ -72,34 +38,13 @@ fn case(label: &[u8], list: &[u8], c: usize, o: usize) {
         if o <= 17 {
             io::write_all(1, label);
             let r = lend(list, &mut cells, c, &mut out, o);
-            say(r, &out);
+            say(r, &out, 17);
+            io::write_all(1, b" > ");
             show_cells(&cells);
             io::write_all(1, b" ");
-            show_out(&out);
+            show(&out, 0, 17);
             io::write_all(1, b"\n");
         }
-    }
-}
-
-// n lines `0f0000` at the start of list.
-fn put_lines(list: &mut [u8], n: usize)
-    requires { ⌜ 7 * n ≤ length (now list) ⌝ }
-{
-    let line = b"0f0000\n";
-    let mut i: usize = 0;
-    while i < 7 * n {
-        list[i] = line[i % 7];
-        i += 1;
-    }
-}
-
-fn put_tail(list: &mut [u8], w: usize, tail: &[u8])
-    requires { ⌜ w + length (now tail) ≤ length (now list) ⌝ }
-{
-    let mut i: usize = 0;
-    while i < tail.len() {
-        list[w + i] = tail[i];
-        i += 1;
     }
 }
 
@@ -112,15 +57,9 @@ fn part(label: &[u8], list: &[u8], end: usize)
 // A list of n lines `0f0000`, and what follows them.
 fn long(label: &[u8], n: usize, tail: &[u8]) {
     let mut list = [0u8; 14400];
-    if n <= 2048 {
-        let w = 7 * n;
-        if tail.len() <= 64 {
-            let end = w + tail.len();
-            put_lines(&mut list, n);
-            put_tail(&mut list, w, tail);
-            part(label, &list, end);
-        }
-    }
+    let w = put_lines(&mut list, 0, b"0f0000\n", n);
+    let end = put(&mut list, w, tail);
+    part(label, &list, end);
 }
 
 // The whole session of document 01.

@@ -8,7 +8,7 @@ use lib.ListN.{length, getD}
 use lib.Seq.{slice}
 use lib.Dec.{ltb, eqb}
 use borrow.Author.Tests.{eq-eqb, ne-eqb, lt-ltb, le-ltb, ltb-false}
-use Rattle.records.specs.Records.{marked, allHex, headAt, numberAt, brokenIf, foundBy, foundAt, Bounded}
+use Rattle.records.specs.Records.{marked, allHex, headAt, numberAt, brokenIf, recordBy, recordAt, Bounded}
 use Rattle.records.specs.declared.Found.{Found}
 use Rattle.records.specs.declared.Found.the-variants.{Broken, Record}
 
@@ -45,57 +45,57 @@ module _ (s : List ℕ) (p : ℕ) (r : Bool) (m : r ≡ marked (getD s p 0)) whe
 
 -- ---- its lengths
 
-no-head-by : (p left a b : ℕ) → left < 18 → foundBy p left a b ≡ Broken
+no-head-by : (p left a b : ℕ) → left < 18 → recordBy p left a b ≡ Broken
 unfolding brokenIf
 no-head-by p left a b h = rw (lt-ltb left 18 h) refl
 
-no-script-by : (p left a b : ℕ) → 18 ≤ left → left - 18 < a → foundBy p left a b ≡ Broken
+no-script-by : (p left a b : ℕ) → 18 ≤ left → left - 18 < a → recordBy p left a b ≡ Broken
 unfolding brokenIf
 no-script-by p left a b h k = rw (le-ltb left 18 h, lt-ltb (left - 18) a k) refl
 
-no-answer-by : (p left a b : ℕ) → 18 ≤ left → a ≤ left - 18 → left - 18 - a < b → foundBy p left a b ≡ Broken
+no-answer-by : (p left a b : ℕ) → 18 ≤ left → a ≤ left - 18 → left - 18 - a < b → recordBy p left a b ≡ Broken
 unfolding brokenIf
 no-answer-by p left a b h k m = rw (le-ltb left 18 h, le-ltb (left - 18) a k, lt-ltb (left - 18 - a) b m) refl
 
-whole-by : (p left a b : ℕ) → 18 ≤ left → a ≤ left - 18 → b ≤ left - 18 - a → foundBy p left a b ≡ Record (p + 18) (p + 18 + a) (p + 18 + a + b)
+whole-by : (p left a b : ℕ) → 18 ≤ left → a ≤ left - 18 → b ≤ left - 18 - a → recordBy p left a b ≡ Record (p + 18) (p + 18 + a) (p + 18 + a + b)
 unfolding brokenIf
 whole-by p left a b h k m = rw (le-ltb left 18 h, le-ltb (left - 18) a k, le-ltb (left - 18 - a) b m) refl
 
 module _ (s : List ℕ) (p : ℕ) where
   abbrev lengths : Found
-  lengths = foundBy p (length s - p) (numberAt s (p + 1)) (numberAt s (p + 9))
+  lengths = recordBy p (length s - p) (numberAt s (p + 1)) (numberAt s (p + 9))
 
-  pub headless : headAt s p ≡ false → Broken ≡ foundAt s p
-  unfolding foundAt brokenIf
+  pub headless : headAt s p ≡ false → Broken ≡ recordAt s p
+  unfolding recordAt brokenIf
   headless h = ap (λ (x : Bool). brokenIf (not x) lengths) (sym h)
 
-  headed : headAt s p ≡ true → foundAt s p ≡ lengths
-  unfolding foundAt brokenIf
+  headed : headAt s p ≡ true → recordAt s p ≡ lengths
+  unfolding recordAt brokenIf
   headed h = ap (λ (x : Bool). brokenIf (not x) lengths) h
 
-  pub no-head : length s - p < 18 → Broken ≡ foundAt s p
+  pub no-head : length s - p < 18 → Broken ≡ recordAt s p
   no-head h = go (headAt s p) refl
     where
-      go : (x : Bool) → headAt s p ≡ x → Broken ≡ foundAt s p
+      go : (x : Bool) → headAt s p ≡ x → Broken ≡ recordAt s p
       go true e = sym (headed e ∙ no-head-by p (length s - p) (numberAt s (p + 1)) (numberAt s (p + 9)) h)
       go false e = headless e
 
   module _ (hd : headAt s p ≡ true) (h : 18 ≤ length s - p) (a : ℕ) (e : a ≡ numberAt s (p + 1)) where
-    pub no-script : length s - p - 18 < a → Broken ≡ foundAt s p
-    no-script k = sym (headed hd ∙ ap (λ (x : ℕ). foundBy p (length s - p) x (numberAt s (p + 9))) (sym e) ∙ no-script-by p (length s - p) a (numberAt s (p + 9)) h k)
+    pub no-script : length s - p - 18 < a → Broken ≡ recordAt s p
+    no-script k = sym (headed hd ∙ ap (λ (x : ℕ). recordBy p (length s - p) x (numberAt s (p + 9))) (sym e) ∙ no-script-by p (length s - p) a (numberAt s (p + 9)) h k)
 
     module _ (k : a ≤ length s - p - 18) (b : ℕ) (f : b ≡ numberAt s (p + 9)) where
-      numbers : foundAt s p ≡ foundBy p (length s - p) a b
+      numbers : recordAt s p ≡ recordBy p (length s - p) a b
       numbers =
-          headed hd ∙ ap (λ (x : ℕ). foundBy p (length s - p) x (numberAt s (p + 9))) (sym e) ∙ ap (λ (y : ℕ). foundBy p (length s - p) a y) (sym f)
+          headed hd ∙ ap (λ (x : ℕ). recordBy p (length s - p) x (numberAt s (p + 9))) (sym e) ∙ ap (λ (y : ℕ). recordBy p (length s - p) a y) (sym f)
 
-      pub no-answer : length s - p - 18 - a < b → Broken ≡ foundAt s p
+      pub no-answer : length s - p - 18 - a < b → Broken ≡ recordAt s p
       no-answer m = sym (numbers ∙ no-answer-by p (length s - p) a b h k m)
 
-      pub whole : b ≤ length s - p - 18 - a → Record (p + 18) (p + 18 + a) (p + 18 + a + b) ≡ foundAt s p
+      pub whole : b ≤ length s - p - 18 - a → Record (p + 18) (p + 18 + a) (p + 18 + a + b) ≡ recordAt s p
       whole m = sym (numbers ∙ whole-by p (length s - p) a b h k m)
 
-bounded-by : (p n a b : ℕ) → p ≤ n → Bounded p n (foundBy p (n - p) a b)
+bounded-by : (p n a b : ℕ) → p ≤ n → Bounded p n (recordBy p (n - p) a b)
 unfolding brokenIf
 bounded-by p n a b h = go (ltb (n - p) 18) refl (ltb (n - p - 18) a) refl (ltb (n - p - 18 - a) b) refl
   where
@@ -112,7 +112,7 @@ bounded-by p n a b h = go (ltb (n - p) 18) refl (ltb (n - p - 18) a) refl (ltb (
         (omega arith, omega arith, omega arith, omega (arith, i, j, k, h))
 
 -- what a record is told to be lies within the text
-pub bounded : (s : List ℕ) (p : ℕ) → p ≤ length s → (f : Found) → foundAt s p ≡ f → Bounded p (length s) f
+pub bounded : (s : List ℕ) (p : ℕ) → p ≤ length s → (f : Found) → recordAt s p ≡ f → Bounded p (length s) f
 bounded s p h f e = go (headAt s p) refl
   where
     go : (x : Bool) → headAt s p ≡ x → Bounded p (length s) f

@@ -38,12 +38,12 @@ brokenIf true f = Broken
 brokenIf false f = f
 
 -- a record at p, by what is left from there and by its two lengths
-abbrev pub foundBy : ℕ → ℕ → ℕ → ℕ → Found
-foundBy p left a b =
+abbrev pub recordBy : ℕ → ℕ → ℕ → ℕ → Found
+recordBy p left a b =
     brokenIf (ltb left 18) (brokenIf (ltb (left - 18) a) (brokenIf (ltb (left - 18 - a) b) (Record (p + 18) (p + 18 + a) (p + 18 + a + b))))
 
-unfoldable pub foundAt : List ℕ → ℕ → Found
-foundAt s p = brokenIf (not (headAt s p)) (foundBy p (length s - p) (numberAt s (p + 1)) (numberAt s (p + 9)))
+unfoldable pub recordAt : List ℕ → ℕ → Found
+recordAt s p = brokenIf (not (headAt s p)) (recordBy p (length s - p) (numberAt s (p + 1)) (numberAt s (p + 9)))
 
 -- the parts of a record lie in a row behind its head, below n
 abbrev pub Bounded : ℕ → ℕ → Found → Type 0

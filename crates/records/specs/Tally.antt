@@ -10,21 +10,21 @@ use Rattle.rules.specs.Entries.{translatorPrints}
 use Rattle.records.specs.declared.Found.{Found}
 use Rattle.records.specs.declared.Found.the-variants.{Broken, Record}
 use Rattle.records.specs.declared.tally.Tally.{Tally}
-use Rattle.records.specs.Records.{sameText, foundAt}
+use Rattle.records.specs.Records.{sameText, recordAt}
 
 -- the bytes from a on, below e
 abbrev pub part : ℕ → ℕ → List ℕ → List ℕ
 part a e s = take (e - a) (drop a s)
 
 -- whether the answer from b to e is what the rules have the translating program print for the script from a to b
-abbrev pub agreeing : List ℕ → ℕ → ℕ → ℕ → Bool
-agreeing s a b e = sameText (translatorPrints base (edition1 8) (part a b s)) (part b e s)
+abbrev pub agrees : List ℕ → ℕ → ℕ → ℕ → Bool
+agrees s a b e = sameText (translatorPrints base (edition1 8) (part a b s)) (part b e s)
 
 abbrev pub tally : ℕ → ℕ → ℕ → Bool → Tally
 tally n d f b = record { records = n; differ = d; first = f; broken = b }
 
-abbrev pub none : Tally
-none = tally 0 0 0 false
+abbrev pub noRecords : Tally
+noRecords = tally 0 0 0 false
 
 -- one more record, which agrees or not; the first that doesn't is remembered
 unfoldable pub oneMore : Tally → Bool → Tally
@@ -37,8 +37,8 @@ tallied zero s p t = t
 tallied (suc k) s p t =
     elim (ltb p (length s)) [
       | false ↦ t
-      | true ↦ elim (foundAt s p) [
+      | true ↦ elim (recordAt s p) [
         | Broken ↦ tally (t .records) (t .differ) (t .first) true
-        | Record a b e ↦ tallied k s e (oneMore t (agreeing s a b e))
+        | Record a b e ↦ tallied k s e (oneMore t (agrees s a b e))
       ]
     ]

@@ -6,7 +6,7 @@ ghost use Prim.Native.Nat.{ℕ, _+_, _≤_};
 ghost use lib.ListN.{length};
 ghost use lib.Seq.{slice};
 ghost use Rattle.text.specs.Lines.{wordAt};
-ghost use Rattle.records.specs.Records.{sameText, marked, allHex, headAt, numberAt, foundAt};
+ghost use Rattle.records.specs.Records.{sameText, marked, allHex, headAt, numberAt, recordAt};
 
 pub mod tally; // the records of a text, replayed and counted
 
@@ -104,7 +104,7 @@ fn head_at(s: &[u8], p: usize) -> bool
 // The record at p.
 fn record_at(s: &[u8], p: usize) -> Found
     requires { ⌜ p ≤ length (now s) ⌝ }
-    ensures { λ r. ⌜ r ≡ foundAt (now (s .entry)) p ⌝ }
+    ensures { λ r. ⌜ r ≡ recordAt (now (s .entry)) p ⌝ }
 {
     let left = s.len() - p;
     if left < 18 {

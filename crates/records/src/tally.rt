@@ -10,7 +10,7 @@ ghost use Rattle.rules.specs.Sizes.{base};
 ghost use Rattle.rules.specs.Slots.{edition1};
 ghost use Rattle.rules.specs.Entries.{translatorPrints};
 ghost use Rattle.records.specs.Records.{sameText};
-ghost use Rattle.records.specs.Tally.{none, oneMore, tallied};
+ghost use Rattle.records.specs.Tally.{noRecords, oneMore, tallied};
 
 // The first that differs is counted from 1, and is 0 where none does. A broken record ends the count.
 pub struct Tally {
@@ -61,7 +61,7 @@ fn counted(t: Tally, agrees: bool) -> Tally
 
 // Replays the stored answers of a text.
 pub fn replayed(text: &[u8]) -> Tally
-    ensures { λ r. ⌜ r ≡ tallied (length (now (text .entry))) (now (text .entry)) 0 none ⌝ }
+    ensures { λ r. ⌜ r ≡ tallied (length (now (text .entry))) (now (text .entry)) 0 noRecords ⌝ }
 {
     let mut t = Tally {
         records: 0,

@@ -1,7 +1,7 @@
-// Replays the stored answers of a file, the one that its first argument names, through what the translating program prints, and says how many
-// there are and how many differ.
+// Replays the stored answers of each file that an argument names through what the translating program prints, and says how many there are and
+// how many differ.
 use input::Input;
-use input::read_input;
+use input::read_argument;
 use records::tally::Tally;
 use records::tally::replayed;
 
@@ -20,13 +20,22 @@ fn say(t: Tally) {
     }
 }
 
-fn main() {
+fn replay(k: usize) {
     let mut text = [0u8; 262144];
-    match read_input(&mut text) {
+    match read_argument(k, &mut text) {
         Input::Failed => {}
         Input::Full => {
             io::write_all(1, b"no room for the file\n");
         }
         Input::Whole(n) => say(replayed(&text[..n])),
+    }
+}
+
+fn main() {
+    let n = os::arg_count();
+    let mut k: usize = 1;
+    while k < n {
+        replay(k);
+        k += 1;
     }
 }

@@ -1,56 +1,11 @@
 // Document 01's sessions A to K and its five to run, and scripts of ours: for each its label, what `translate` makes of it, the list or the `ee`
 // line, and behind > what `translate_and_run` prints on a frame of so many cells. LF is shown as /, nothing as -. Of a long list the last two
 // lines are shown.
-use text::writing::put_refusal;
-ghost use Prim.Native.Nat.{_+_, _*_, _≤_};
+use cases::put;
+use cases::put_lines;
+use cases::say;
+ghost use Prim.Native.Nat.{_≤_};
 ghost use lib.ListN.{length};
-
-fn show_char(b: u8) {
-    if b == 10 {
-        io::write_all(1, b"/");
-    } else {
-        io::write_all(1, &[b]);
-    }
-}
-
-// The bytes of text before `to`, from `from` on.
-fn show(text: &[u8], from: usize, to: usize)
-    requires { ⌜ to ≤ length (now text) ⌝ }
-{
-    let mut i = from;
-    while i < to {
-        show_char(text[i]);
-        i += 1;
-    }
-}
-
-// Where the last bytes of n begin.
-fn back(n: usize, last: usize) -> usize {
-    if n > last {
-        return n - last;
-    }
-    0
-}
-
-// What was answered: the last of r bytes of text, or the `ee` line.
-fn say(r: u64, text: &[u8], last: usize) {
-    if r < 4294967296 {
-        let n = io::count(r as isize, text);
-        if n == 0 {
-            io::write_all(1, b"-");
-        }
-        show(text, back(n, last), n);
-        return;
-    }
-    let mut line = [0u8; 9];
-    put_refusal(
-        &mut line,
-        0,
-        (r / 4294967296 % 256) as u8,
-        (r % 65536) as u16,
-    );
-    show(&line, 0, 9);
-}
 
 // Lends the first n bytes of cells.
 fn lend(script: &[u8], cells: &mut [u8], n: usize, out: &mut [u8]) -> u64
@@ -81,28 +36,6 @@ fn case(label: &[u8], script: &[u8], last: usize, size: usize)
     io::write_all(1, b"\n");
 }
 
-// n allocs from w on.
-fn put_allocs(script: &mut [u8], w: usize, n: usize)
-    requires { ⌜ w + 3 * n ≤ length (now script) ⌝ }
-{
-    let line = b"06\n";
-    let mut i: usize = 0;
-    while i < 3 * n {
-        script[w + i] = line[i % 3];
-        i += 1;
-    }
-}
-
-fn put_tail(script: &mut [u8], w: usize, tail: &[u8])
-    requires { ⌜ w + length (now tail) ≤ length (now script) ⌝ }
-{
-    let mut i: usize = 0;
-    while i < tail.len() {
-        script[w + i] = tail[i];
-        i += 1;
-    }
-}
-
 // The script's first `end` bytes, of whose list the last two lines are shown.
 fn part(label: &[u8], script: &[u8], end: usize, size: usize)
     requires { ⌜ end ≤ length (now script) ⌝ }
@@ -116,25 +49,19 @@ fn long(label: &[u8], n: usize, tail: &[u8], size: usize)
     requires { ⌜ size ≤ 1024 ⌝ }
 {
     let mut script = [0u8; 1024];
-    if n <= 256 {
-        let w = 3 * n;
-        if tail.len() <= 64 {
-            let end = w + tail.len();
-            put_allocs(&mut script, 0, n);
-            put_tail(&mut script, w, tail);
-            part(label, &script, end, size);
-        }
-    }
+    let w = put_lines(&mut script, 0, b"06\n", n);
+    let end = put(&mut script, w, tail);
+    part(label, &script, end, size);
 }
 
 // 128 allocs, child, 384 allocs, pop 1, linear 2, alloc: 256, where an insert meets H above L.
 fn head_above() {
     let mut script = [0u8; 2048];
-    put_allocs(&mut script, 0, 128);
-    put_tail(&mut script, 384, b"01\n");
-    put_allocs(&mut script, 387, 384);
-    put_tail(&mut script, 1539, b"020001\n080002\n06\n");
-    part(b"R5   ", &script, 1556, 512);
+    let first = put_lines(&mut script, 0, b"06\n", 128);
+    let child = put(&mut script, first, b"01\n");
+    let more = put_lines(&mut script, child, b"06\n", 384);
+    let end = put(&mut script, more, b"020001\n080002\n06\n");
+    part(b"R5   ", &script, end, 512);
 }
 
 fn whole_session(label: &[u8], size: usize)

@@ -57,7 +57,7 @@ impl Comparison {
     }
 
     fn differs(&mut self, script: &[u8]) -> Option<String> {
-        let printed = self.ours.answers(&[script.to_vec()]).remove(0);
+        let printed = self.ours.answer(script);
         match judge(script, &printed, self.against) {
             Verdict::Differs(why) => Some(why),
             _ => None,

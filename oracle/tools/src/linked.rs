@@ -44,7 +44,18 @@ impl Default for Translate {
 }
 
 impl Translate {
-    fn ask(&mut self, script: &[u8]) -> Vec<u8> {
+    /// "lent memory too short for the answer": by one byte, and nothing is written.
+    fn ask_short(&mut self, script: &[u8], bytes: usize, shown: Vec<u8>) -> Vec<u8> {
+        let answer = mboxalind::translate(script, &mut self.list[..bytes - 1]);
+        match printed(answer, &self.list) == refusal(17, 0) {
+            true => shown,
+            false => b"one byte too few was not refused by 17".to_vec(),
+        }
+    }
+}
+
+impl Ours for Translate {
+    fn answer(&mut self, script: &[u8]) -> Vec<u8> {
         if script.len() > BUFFER {
             return refusal(17, 0);
         }
@@ -58,35 +69,16 @@ impl Translate {
         }
     }
 
-    /// "lent memory too short for the answer": by one byte, and nothing is written.
-    fn ask_short(&mut self, script: &[u8], bytes: usize, shown: Vec<u8>) -> Vec<u8> {
-        let answer = mboxalind::translate(script, &mut self.list[..bytes - 1]);
-        match printed(answer, &self.list) == refusal(17, 0) {
-            true => shown,
-            false => b"one byte too few was not refused by 17".to_vec(),
-        }
-    }
-}
-
-impl Ours for Translate {
-    fn answers(&mut self, scripts: &[Vec<u8>]) -> Vec<Vec<u8>> {
-        scripts.iter().map(|script| self.ask(script)).collect()
-    }
-
     fn name(&self) -> String {
         "translate, linked".into()
-    }
-
-    fn batch(&self) -> usize {
-        1024
     }
 }
 
 /// `run`.
 pub struct Run;
 
-impl Run {
-    fn ask(&self, list: &[u8]) -> Vec<u8> {
+impl Ours for Run {
+    fn answer(&mut self, list: &[u8]) -> Vec<u8> {
         if list.len() > BUFFER {
             return refusal(17, 0);
         }
@@ -99,18 +91,8 @@ impl Run {
             false => b"the cells are not the model's".to_vec(),
         }
     }
-}
-
-impl Ours for Run {
-    fn answers(&mut self, lists: &[Vec<u8>]) -> Vec<Vec<u8>> {
-        lists.iter().map(|list| self.ask(list)).collect()
-    }
 
     fn name(&self) -> String {
         "run, linked".into()
-    }
-
-    fn batch(&self) -> usize {
-        1024
     }
 }

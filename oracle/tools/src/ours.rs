@@ -6,22 +6,28 @@ use std::process::{Child, Command, Stdio};
 
 /// The model, a program, or the linked functions (`linked`).
 pub trait Ours {
+    /// What is printed for a script.
+    fn answer(&mut self, script: &[u8]) -> Vec<u8>;
+
     /// What is printed for each script, in order.
-    fn answers(&mut self, scripts: &[Vec<u8>]) -> Vec<Vec<u8>>;
+    fn answers(&mut self, scripts: &[Vec<u8>]) -> Vec<Vec<u8>> {
+        scripts.iter().map(|script| self.answer(script)).collect()
+    }
 
     fn name(&self) -> String;
 
     /// How many scripts to hand over at once.
-    fn batch(&self) -> usize;
+    fn batch(&self) -> usize {
+        1024
+    }
 }
 
 /// The model, perhaps with a planted fault.
 pub struct Model(pub Plant);
 
 impl Ours for Model {
-    fn answers(&mut self, scripts: &[Vec<u8>]) -> Vec<Vec<u8>> {
-        let one = |script: &Vec<u8>| model::translator_with(script, self.0);
-        scripts.iter().map(one).collect()
+    fn answer(&mut self, script: &[u8]) -> Vec<u8> {
+        model::translator_with(script, self.0)
     }
 
     fn name(&self) -> String {
@@ -29,10 +35,6 @@ impl Ours for Model {
             None => "the model".into(),
             Some(fault) => format!("the model with {fault:?}"),
         }
-    }
-
-    fn batch(&self) -> usize {
-        1024
     }
 }
 
@@ -64,15 +66,20 @@ impl Program {
     }
 }
 
+fn printed(child: Child) -> Vec<u8> {
+    child.wait_with_output().expect("the program ends").stdout
+}
+
 impl Ours for Program {
+    fn answer(&mut self, script: &[u8]) -> Vec<u8> {
+        printed(self.start(script))
+    }
+
     fn answers(&mut self, scripts: &[Vec<u8>]) -> Vec<Vec<u8>> {
         let mut answers = Vec::new();
         for few in scripts.chunks(AT_ONCE) {
             let children: Vec<Child> = few.iter().map(|script| self.start(script)).collect();
-            for child in children {
-                let output = child.wait_with_output().expect("the program ends");
-                answers.push(output.stdout);
-            }
+            answers.extend(children.into_iter().map(printed));
         }
         answers
     }

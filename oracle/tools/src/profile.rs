@@ -15,80 +15,37 @@ pub struct Profile {
     pub rise: usize,
 }
 
-const MIXED: Profile = Profile {
-    name: "mixed",
-    weights: [8, 6, 4, 5, 1, 14, 7, 8, 8, 4, 3, 12, 4, 2, 2, 8, 4, 3],
-    run: 6,
-    names: 6,
-    refusal: 60,
-    rise: 400,
-};
+const fn row(
+    name: &'static str,
+    weights: [u32; 18],
+    run: usize,
+    names: usize,
+    refusal: usize,
+    rise: usize,
+) -> Profile {
+    Profile {
+        name,
+        weights,
+        run,
+        names,
+        refusal,
+        rise,
+    }
+}
 
-const DEEP: Profile = Profile {
-    name: "deep",
-    weights: [40, 14, 6, 12, 0, 8, 8, 3, 8, 5, 3, 6, 2, 1, 1, 2, 1, 1],
-    run: 4,
-    names: 12,
-    refusal: 60,
-    rise: 2000,
-};
-
-const WIDE: Profile = Profile {
-    name: "wide",
-    weights: [6, 3, 2, 2, 0, 60, 8, 6, 1, 1, 1, 24, 6, 1, 1, 2, 1, 1],
-    run: 180,
-    names: 4,
-    refusal: 60,
-    rise: 300,
-};
-
-const FULL: Profile = Profile {
-    name: "full",
-    weights: [6, 4, 2, 2, 0, 20, 6, 16, 1, 1, 1, 20, 6, 1, 1, 1, 1, 1],
-    run: 700,
-    names: 4,
-    refusal: 60,
-    rise: 60,
-};
-
-const NAMES: Profile = Profile {
-    name: "names",
-    weights: [6, 2, 2, 3, 0, 5, 2, 1, 60, 10, 8, 3, 1, 1, 1, 4, 1, 6],
-    run: 4,
-    names: 300,
-    refusal: 60,
-    rise: 2000,
-};
-
-const CHURN: Profile = Profile {
-    name: "churn",
-    weights: [14, 12, 3, 4, 0, 24, 6, 6, 1, 1, 1, 20, 8, 2, 6, 2, 1, 1],
-    run: 40,
-    names: 4,
-    refusal: 60,
-    rise: 300,
-};
-
-const ENDING: Profile = Profile {
-    name: "ending",
-    weights: [3, 6, 3, 4, 8, 8, 8, 3, 4, 3, 2, 8, 4, 3, 6, 3, 3, 3],
-    run: 3,
-    names: 3,
-    refusal: 12,
-    rise: 200,
-};
-
-/// Scopes over several segments, popped; then runs that shrink L.
-const HEAD: Profile = Profile {
-    name: "head",
-    weights: [12, 12, 1, 2, 0, 14, 3, 16, 1, 1, 1, 8, 4, 1, 2, 1, 1, 1],
-    run: 400,
-    names: 3,
-    refusal: 60,
-    rise: 12,
-};
-
-pub const PROFILES: [&Profile; 8] = [&MIXED, &DEEP, &WIDE, &FULL, &NAMES, &CHURN, &ENDING, &HEAD];
+#[rustfmt::skip]
+pub static PROFILES: [Profile; 8] = [
+    //             01  02  03  04  05  06  07  08  09  0a  0b  0c  0d  0e  0f  10  11  12   run names refusal rise
+    row("mixed",  [ 8,  6,  4,  5,  1, 14,  7,  8,  8,  4,  3, 12,  4,  2,  2,  8,  4,  3],   6,   6, 60,  400),
+    row("deep",   [40, 14,  6, 12,  0,  8,  8,  3,  8,  5,  3,  6,  2,  1,  1,  2,  1,  1],   4,  12, 60, 2000),
+    row("wide",   [ 6,  3,  2,  2,  0, 60,  8,  6,  1,  1,  1, 24,  6,  1,  1,  2,  1,  1], 180,   4, 60,  300),
+    row("full",   [ 6,  4,  2,  2,  0, 20,  6, 16,  1,  1,  1, 20,  6,  1,  1,  1,  1,  1], 700,   4, 60,   60),
+    row("names",  [ 6,  2,  2,  3,  0,  5,  2,  1, 60, 10,  8,  3,  1,  1,  1,  4,  1,  6],   4, 300, 60, 2000),
+    row("churn",  [14, 12,  3,  4,  0, 24,  6,  6,  1,  1,  1, 20,  8,  2,  6,  2,  1,  1],  40,   4, 60,  300),
+    row("ending", [ 3,  6,  3,  4,  8,  8,  8,  3,  4,  3,  2,  8,  4,  3,  6,  3,  3,  3],   3,   3, 12,  200),
+    // scopes over several segments, popped; then runs that shrink L
+    row("head",   [12, 12,  1,  2,  0, 14,  3, 16,  1,  1,  1,  8,  4,  1,  2,  1,  1,  1], 400,   3, 60,   12),
+];
 
 /// How many frames: mostly few, at times as many as a script may have.
 pub fn length(rng: &mut Rng) -> usize {

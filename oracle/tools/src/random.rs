@@ -24,7 +24,7 @@ struct Maker<'a> {
 
 /// One script; nine of ten stay where the Rust is the oracle.
 pub fn script(rng: &mut Rng) -> Made {
-    let profile = PROFILES[rng.below(PROFILES.len())];
+    let profile = &PROFILES[rng.below(PROFILES.len())];
     let frames = length(rng);
     let inside = !rng.once_in(10);
     let mut maker = Maker {

@@ -22,7 +22,7 @@ fn printed(frames: &[Frame]) -> Vec<u8> {
     #[cfg(feature = "linked")]
     {
         use oracle::{linked::Translate, ours::Ours};
-        assert_eq!(Translate::default().answers(&[script])[0], printed);
+        assert_eq!(Translate::default().answer(&script), printed);
     }
     printed
 }

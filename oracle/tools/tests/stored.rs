@@ -1,13 +1,28 @@
-//! The stored answers are what the model prints, and those marked `o` what the original lists.
+//! The stored answers are what the model prints, and those marked `o` what the original lists; of the wrong ones every fifth is, beginning with
+//! the first.
 
 use oracle::records;
 use std::fs;
 use std::path::Path;
 
+fn data(name: &str) -> Vec<u8> {
+    let folder = Path::new(env!("CARGO_MANIFEST_DIR")).join("../../crates/replay/data");
+    fs::read(folder.join(name)).expect("the stored answers")
+}
+
+#[test]
+fn wrong_answers() {
+    let bytes = data("wrong.txt");
+    let records = records::read(&bytes).expect("records");
+    for (i, (_, script, printed)) in records.into_iter().enumerate() {
+        assert_eq!(model::translator(script) == printed, i % 5 == 0);
+    }
+    assert_eq!(records::read(&data("broken.txt")), None);
+}
+
 #[test]
 fn stored_answers() {
-    let path = Path::new(env!("CARGO_MANIFEST_DIR")).join("../../crates/replay/data/answers.txt");
-    let bytes = fs::read(path).expect("the stored answers");
+    let bytes = data("answers.txt");
     let records = records::read(&bytes).expect("records");
     assert!(records.len() >= 300);
     for (mark, script, printed) in records {

@@ -1,70 +1,46 @@
--- `main` is safe and ends; what it says is `replayed`'s. Assumes nothing.
-use Rattle.input.proofs.Read.{whole-in, whole-all}
+-- `main` is safe and ends. Assumes nothing.
+use Prim.Native.Nat.{_-_}
 use borrow.Author.Needs.{needs}
 use Rattle.replay.proofs.main.Statement.{statement}
 use Rattle.replay.proofs.main.Tie as tie
 
-slice-aggregate-read-input : tie.Need-slice-aggregate-read-input
-slice-aggregate-read-input c = search needs
+abbrev Inv-loop : tie.InvT-loop
+Inv-loop n k₀ k = Unit {0}
 
-read-input-requires : tie.Need-read-input-requires
-read-input-requires c κs = search needs
+abbrev μ-loop : tie.MeasureT-loop
+μ-loop n k₀ k = n - k
 
-enum-told : tie.Need-enum-told
-enum-told c = search needs
+arg-count-requires : tie.Need-arg-count-requires Inv-loop μ-loop
+arg-count-requires c κs = search needs
 
-enum-told-2 : tie.Need-enum-told-2
-enum-told-2 c = search needs
+loop-holds : tie.Need-loop-holds Inv-loop μ-loop
+loop-holds c = search needs
 
-slice-aggregate-write-all : tie.Need-slice-aggregate-write-all
-slice-aggregate-write-all c = search needs
+replay-requires : tie.Need-replay-requires Inv-loop μ-loop
+replay-requires c κs = search needs
 
-write-all-requires : tie.Need-write-all-requires
-write-all-requires c κs = search needs
+add-k : tie.Need-add-k Inv-loop μ-loop
+add-k c = search needs
 
-enum-known-n : tie.Need-enum-known-n
-enum-known-n c = search needs
+loop-less : tie.Need-loop-less Inv-loop μ-loop
+loop-less c = search needs
 
-array-share-prefix-text : tie.Need-array-share-prefix-text
-array-share-prefix-text c =
-    let r = c .before .before .before .before .read-input in
-    whole-in (r .result) _ _ (r .last .0) (r .ensures) (r .kept .0) (c .before .n .given .1)
+loop-again : tie.Need-loop-again Inv-loop μ-loop
+loop-again c = search needs
 
-slice-aggregate-replayed : tie.Need-slice-aggregate-replayed
-slice-aggregate-replayed c =
-    let r = c .before .before .before .before .before .read-input in
-    whole-all (r .result) _ _ (r .last .0) (r .ensures) (r .kept .0) (c .before .before .n .given .1)
-
-replayed-requires : tie.Need-replayed-requires
-replayed-requires c κs = search needs
-
-say-requires : tie.Need-say-requires
-say-requires c κs = search needs
-
-returns : tie.Need-returns
+returns : tie.Need-returns Inv-loop μ-loop
 returns c = search needs
-
-returns-2 : tie.Need-returns-2
-returns-2 c = search needs
-
-returns-3 : tie.Need-returns-3
-returns-3 c = search needs
 
 pub main-spec : {M : Type 1} → statement M
 main-spec =
     tie.close
     (tie.spec
-    slice-aggregate-read-input
-    read-input-requires
-    enum-told
-    enum-told-2
-    slice-aggregate-write-all
-    write-all-requires
-    enum-known-n
-    array-share-prefix-text
-    slice-aggregate-replayed
-    replayed-requires
-    say-requires
-    returns
-    returns-2
-    returns-3)
+    Inv-loop
+    μ-loop
+    arg-count-requires
+    loop-holds
+    replay-requires
+    add-k
+    loop-less
+    loop-again
+    returns)

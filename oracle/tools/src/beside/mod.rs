@@ -54,7 +54,7 @@ const BOTH: Against = Against {
 };
 
 fn ask(ours: &mut dyn Ours, script: &[u8]) -> Vec<u8> {
-    ours.answers(&[script.to_vec()]).remove(0)
+    ours.answer(script)
 }
 
 /// The lines of the frames; the size line too, if the list has one for all of them.

@@ -189,7 +189,7 @@ fn lists(plan: &Plan) -> usize {
     let differs = phases::lists_run(runner.as_mut(), plan.lists, plan.seed);
     println!("{} lists to {}", plan.lists, runner.name());
     if let Some(list) = &differs {
-        let printed = runner.answers(std::slice::from_ref(list)).remove(0);
+        let printed = runner.answer(list);
         println!("DIFFERENCE: the list {}", shown(list));
         println!("  the model prints {}", shown(&model::runner(list)));
         println!("  ours prints {}", shown(&printed));

@@ -1,4 +1,5 @@
-//! Writes stored answers (see `records`) to standard output: 01's sessions and limits first, then scripts by chance.
+//! Writes stored answers (see `records`) to standard output: 01's sessions and limits first, then scripts by chance. With --wrong, the short
+//! sessions with their answer as it is and spoilt in each of four ways; with --broken, one record and another that is cut off.
 
 use model::Frame;
 use oracle::args::Args;
@@ -58,8 +59,44 @@ fn by_chance(rng: &mut Rng, i: u64) -> Vec<u8> {
     }
 }
 
-fn main() {
-    let args = Args::new();
+/// A byte changed in the middle (a refusal's number) and before the end (its line, or a list's size), a byte missing, a byte too many.
+fn spoilt(printed: &[u8]) -> [Vec<u8>; 4] {
+    let changed = |at: usize| {
+        let mut bytes = printed.to_vec();
+        bytes[at] ^= 1;
+        bytes
+    };
+    let last = printed.len() - 1;
+    [
+        changed(last / 2 - 1),
+        changed(last - 1),
+        printed[..last].to_vec(),
+        [printed, b"\n"].concat(),
+    ]
+}
+
+fn wrong() -> Vec<u8> {
+    let mut out = Vec::new();
+    for script in sessions().iter().filter(|script| script.len() < 100) {
+        let printed = model::translator(script);
+        let mark = store(script, &mut out);
+        for spoilt in spoilt(&printed) {
+            records::write(mark, script, &spoilt, &mut out);
+        }
+    }
+    out
+}
+
+fn broken() -> Vec<u8> {
+    let mut out = Vec::new();
+    let script = &sessions()[0];
+    store(script, &mut out);
+    store(script, &mut out);
+    out.pop();
+    out
+}
+
+fn answers(args: &Args) -> Vec<u8> {
     let count = args.number("--count", 240);
     let seed = args.number("--seed", 1);
     let mut rng = Rng::new(seed);
@@ -71,7 +108,6 @@ fn main() {
     for i in 0..count {
         marks.push(store(&by_chance(&mut rng, i), &mut out));
     }
-    std::io::stdout().write_all(&out).expect("the records");
     let of = |mark: Mark| marks.iter().filter(|m| **m == mark).count();
     eprintln!(
         "{} records: {} lists of the original, {} refused by it too, {} by 01 alone",
@@ -80,4 +116,15 @@ fn main() {
         of(Mark::Refused),
         of(Mark::Ours)
     );
+    out
+}
+
+fn main() {
+    let args = Args::new();
+    let out = match (args.flag("--wrong"), args.flag("--broken")) {
+        (true, _) => wrong(),
+        (_, true) => broken(),
+        _ => answers(&args),
+    };
+    std::io::stdout().write_all(&out).expect("the records");
 }

@@ -1,28 +1,22 @@
--- `put_tail` is safe and ends. Assumes nothing.
+-- `put_lines` stays within its buffer, and says where it ends. Assumes nothing.
 use mathlib.Core.Path.{_≡_}
 use Prim.Native.Nat.{_≤_, _-_}
 use lib.ListN.{length}
 use borrow.Author.Needs.{needs}
-use Rattle.sessions.proofs.put_tail.Statement.{statement}
-use Rattle.sessions.proofs.put_tail.Tie as tie
+use Rattle.cases.proofs.put_lines.Statement.{statement}
+use Rattle.cases.proofs.put_lines.Tie as tie
 
 abbrev Inv-loop : tie.InvT-loop
-Inv-loop script₀ w tail i₀ script i = (i ≤ length tail) × (length script ≡ length script₀)
+Inv-loop buf₀ w line n at₀ i₀ buf at i = (at ≤ length buf₀) × (length buf ≡ length buf₀)
 
 abbrev μ-loop : tie.MeasureT-loop
-μ-loop script₀ w tail i₀ script i = length tail - i
+μ-loop buf₀ w line n at₀ i₀ buf at i = n - i
 
 loop-holds : tie.Need-loop-holds Inv-loop μ-loop
 loop-holds c = search needs
 
-shared-slice-read-script : tie.Need-shared-slice-read-script Inv-loop μ-loop
-shared-slice-read-script c = search needs
-
-add-script : tie.Need-add-script Inv-loop μ-loop
-add-script c = search needs
-
-slice-write-script : tie.Need-slice-write-script Inv-loop μ-loop
-slice-write-script c = search needs
+put-requires : tie.Need-put-requires Inv-loop μ-loop
+put-requires c κs = search needs
 
 add-i : tie.Need-add-i Inv-loop μ-loop
 add-i c = search needs
@@ -39,16 +33,14 @@ same-length c = search needs
 returns : tie.Need-returns Inv-loop μ-loop
 returns c = search needs
 
-pub put-tail-spec : {M : Type 1} → statement M
-put-tail-spec =
+pub put-lines-spec : {M : Type 1} → statement M
+put-lines-spec =
     tie.close
     (tie.spec
     Inv-loop
     μ-loop
     loop-holds
-    shared-slice-read-script
-    add-script
-    slice-write-script
+    put-requires
     add-i
     loop-less
     loop-again

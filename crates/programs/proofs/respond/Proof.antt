@@ -1,8 +1,8 @@
--- `main` is safe and ends. Assumes nothing.
+-- `respond` is safe and ends. Assumes nothing.
 use Rattle.input.proofs.Read.{whole-in, whole-all}
 use borrow.Author.Needs.{needs}
-use Rattle.runner.proofs.main.Statement.{statement}
-use Rattle.runner.proofs.main.Tie as tie
+use Rattle.programs.proofs.respond.Statement.{statement}
+use Rattle.programs.proofs.respond.Tie as tie
 
 slice-aggregate-read-input : tie.Need-slice-aggregate-read-input
 slice-aggregate-read-input c = search needs
@@ -25,8 +25,8 @@ print-requires c κs = search needs
 enum-known-n : tie.Need-enum-known-n
 enum-known-n c = search needs
 
-array-share-prefix-list : tie.Need-array-share-prefix-list
-array-share-prefix-list c =
+array-share-prefix-text : tie.Need-array-share-prefix-text
+array-share-prefix-text c =
     let r = c .before .before .before .before .read-input in
     whole-in (r .result) _ _ (r .last .0) (r .ensures) (r .kept .0) (c .before .n .given .1)
 
@@ -47,8 +47,8 @@ returns-2 c = search needs
 returns-3 : tie.Need-returns-3
 returns-3 c = search needs
 
-pub main-spec : {M : Type 1} → statement M
-main-spec =
+pub respond-spec : {M : Type 1} → statement M
+respond-spec =
     tie.close
     (tie.spec
     slice-aggregate-read-input
@@ -58,7 +58,7 @@ main-spec =
     slice-aggregate-print
     print-requires
     enum-known-n
-    array-share-prefix-list
+    array-share-prefix-text
     slice-aggregate-print-2
     print-requires-2
     returns

@@ -1,15 +1,14 @@
--- `show_out` is safe and ends. Assumes nothing.
-use Prim.Native.Nat.{_≤_, _-_}
-use lib.ListN.{length}
+-- `show` is safe and ends. Assumes nothing.
+use Prim.Native.Nat.{_-_}
 use borrow.Author.Needs.{needs}
-use Rattle.machine_test.proofs.show_out.Statement.{statement}
-use Rattle.machine_test.proofs.show_out.Tie as tie
+use Rattle.cases.proofs.show.Statement.{statement}
+use Rattle.cases.proofs.show.Tie as tie
 
 abbrev Inv-loop : tie.InvT-loop
-Inv-loop out i₀ i = i ≤ length out
+Inv-loop text from to i₀ i = Unit {0}
 
 abbrev μ-loop : tie.MeasureT-loop
-μ-loop out i₀ i = length out - i
+μ-loop text from to i₀ i = to - i
 
 loop-holds : tie.Need-loop-holds Inv-loop μ-loop
 loop-holds c = search needs
@@ -32,8 +31,8 @@ loop-again c = search needs
 returns : tie.Need-returns Inv-loop μ-loop
 returns c = search needs
 
-pub show-out-spec : {M : Type 1} → statement M
-show-out-spec =
+pub show-spec : {M : Type 1} → statement M
+show-spec =
     tie.close
     (tie.spec
     Inv-loop

@@ -1,17 +1,17 @@
--- `print` is safe and ends; what it prints is `ran`'s. Assumes nothing.
+-- `print` is safe and ends; what it prints is `answered`'s. Assumes nothing.
 use Rattle.answers.proofs.Printed.{prints-in, prints-all}
 use borrow.Author.Needs.{needs}
-use Rattle.runner.proofs.print.Statement.{statement}
-use Rattle.runner.proofs.print.Tie as tie
+use Rattle.programs.proofs.print.Statement.{statement}
+use Rattle.programs.proofs.print.Tie as tie
 
-ran-requires : tie.Need-ran-requires
-ran-requires c κs = search needs
+answered-requires : tie.Need-answered-requires
+answered-requires c κs = search needs
 
 array-share-prefix-out : tie.Need-array-share-prefix-out
-array-share-prefix-out c = prints-in (c .ran .ensures)
+array-share-prefix-out c = prints-in (c .answered .ensures)
 
 slice-aggregate-write-all : tie.Need-slice-aggregate-write-all
-slice-aggregate-write-all c = prints-all (c .before .ran .ensures)
+slice-aggregate-write-all c = prints-all (c .before .answered .ensures)
 
 write-all-requires : tie.Need-write-all-requires
 write-all-requires c κs = search needs
@@ -23,7 +23,7 @@ pub print-spec : {M : Type 1} → statement M
 print-spec =
     tie.close
     (tie.spec
-    ran-requires
+    answered-requires
     array-share-prefix-out
     slice-aggregate-write-all
     write-all-requires

@@ -1,0 +1,85 @@
+// What test programs share: a long text put together, and an answer shown on a line.
+use text::writing::put_refusal;
+ghost use mathlib.Core.Path.{_≡_};
+ghost use Prim.Native.Nat.{_≤_};
+ghost use lib.ListN.{length};
+
+// The text from w on, as far as there is room. Answers where it ends.
+pub fn put(buf: &mut [u8], w: usize, text: &[u8]) -> usize
+    requires { ⌜ w ≤ length (now buf) ⌝ }
+    ensures { λ r. ⌜ (r ≤ length (now (buf .exit))) × (length (now (buf .exit)) ≡ length (now (buf .entry))) ⌝ }
+{
+    let mut at = w;
+    let mut i: usize = 0;
+    while i < text.len() {
+        if at >= buf.len() {
+            return at;
+        }
+        buf[at] = text[i];
+        at += 1;
+        i += 1;
+    }
+    at
+}
+
+// The line n times.
+pub fn put_lines(buf: &mut [u8], w: usize, line: &[u8], n: usize) -> usize
+    requires { ⌜ w ≤ length (now buf) ⌝ }
+    ensures { λ r. ⌜ (r ≤ length (now (buf .exit))) × (length (now (buf .exit)) ≡ length (now (buf .entry))) ⌝ }
+{
+    let mut at = w;
+    let mut i: usize = 0;
+    while i < n {
+        at = put(buf, at, line);
+        i += 1;
+    }
+    at
+}
+
+// LF is shown as /.
+fn show_char(b: u8) {
+    if b == 10 {
+        io::write_all(1, b"/");
+    } else {
+        io::write_all(1, &[b]);
+    }
+}
+
+// The bytes of text before `to`, from `from` on.
+pub fn show(text: &[u8], from: usize, to: usize)
+    requires { ⌜ to ≤ length (now text) ⌝ }
+{
+    let mut i = from;
+    while i < to {
+        show_char(text[i]);
+        i += 1;
+    }
+}
+
+// Where the last bytes of n begin.
+fn back(n: usize, last: usize) -> usize {
+    if n > last {
+        return n - last;
+    }
+    0
+}
+
+// What was answered: the last of r bytes of text, `-` where there are none; or the `ee` line.
+pub fn say(r: u64, text: &[u8], last: usize) {
+    if r < 4294967296 {
+        let n = io::count(r as isize, text);
+        if n == 0 {
+            io::write_all(1, b"-");
+        }
+        show(text, back(n, last), n);
+        return;
+    }
+    let mut line = [0u8; 9];
+    put_refusal(
+        &mut line,
+        0,
+        (r / 4294967296 % 256) as u8,
+        (r % 65536) as u16,
+    );
+    show(&line, 0, 9);
+}
