@@ -82,6 +82,11 @@ climb live parent (suc k) i =
       | false ↦ false
     ]
 
+-- the scopes of which it is known that parents lead to root
+pub record Known (live : List Bool) (parent : List ℕ) (known : List Bool) : Type 0 where
+  pub long : length known ≡ 64
+  pub leads : (k : ℕ) → getD known k false ≡ true → Leads live parent k
+
 pub record RootedAt (live dangled : List Bool) (parent number : List ℕ) (i : ℕ) : Type 0 where
   pub leads : getD live i false ≡ true → Leads live parent i
   pub dead : getD live i false ≡ false → (getD dangled i false ≡ false) × (getD parent i 0 ≡ 64) × (getD number i 0 ≡ 0)
