@@ -9,7 +9,8 @@ use Prim.Native.Nat.{ℕ, zero, suc, _-_, _≤_, _<_}
 use native.Mathlib.Decide.{decLt}
 use native.Mathlib.Omega.{arith}
 use lib.Dec.{eqb, ltb}
-use lib.ListN.{length, getD, List·getD-eq-default}
+use lib.ListN.{length, getD, set, replicate, length-replicate, length-set, List·getD-eq-default}
+use lib.Seq.{getD-set-other}
 use borrow.Author.Tests.{eq-eqb, ne-eqb, eqb-true, lt-ltb, le-ltb, ltb-true, ltb-false}
 use Rattle.rules.specs.Notation.{isSome}
 use Rattle.rules.specs.Scopes.{Scope}
@@ -20,7 +21,7 @@ use Rattle.rules.proofs.Climb.{height, height-below}
 use Rattle.rules.proofs.Tells.{Tells, decided, clash}
 use Rattle.scopes.specs.View.{index, onlyIf, scopeAt, scopesFrom}
 use Rattle.scopes.specs.Sound.{Leads, root, up}
-use Rattle.soundness.specs.Parts.{climb}
+use Rattle.soundness.specs.Parts.{climb, Known}
 
 -- ---- an index below 64, or none
 
@@ -162,3 +163,30 @@ module _ (live : List Bool) (parent : List ℕ) where
 
   pub beyond : (k i : ℕ) → length live ≤ i → climb live parent k i ≡ false
   beyond k i h = climb-dead k i (List·getD-eq-default live false h)
+
+  -- ---- a way, scope by scope, and what is known of the scopes
+
+  pub leads-below : length live ≡ 64 → (i : ℕ) → Leads live parent i → i < 64
+  leads-below len i h = live-below live len i (leads-live live parent i h)
+
+  pub further : (i p : ℕ) → getD live i false ≡ true → i ≢ 0 → p ≡ getD parent i 0 → Leads live parent p → Leads live parent i
+  further i p l z q h = up z l (subst (Leads live parent) q h)
+
+  pub nearer : (i p : ℕ) → i ≢ 0 → p ≡ getD parent i 0 → Leads live parent i → Leads live parent p
+  nearer i p z q (root l e) = absurd (z refl)
+  nearer i p z q (up n l h) = subst (Leads live parent) (sym q) h
+
+  pub known-none : Known live parent (replicate 64 false)
+  known-none = record { long = length-replicate 64 false; leads = λ k e. clash e (none 64 k) }
+    where
+      none : (n k : ℕ) → getD (replicate n false) k false ≡ false
+      none zero k = refl
+      none (suc n) zero = refl
+      none (suc n) (suc k) = none n k
+
+  pub known-more : (known : List Bool) (i : ℕ) → Known live parent known → Leads live parent i → Known live parent (set known i true)
+  known-more known i m h =
+      record {
+        long = length-set known i true ∙ m .long;
+        leads = λ k e. by-eqb k i (λ q. subst (Leads live parent) (sym q) h) (λ q. m .leads k (sym (getD-set-other known i k true false q) ∙ e));
+      }

@@ -4,4 +4,5 @@ pub mod Marked
 pub mod Climbs
 pub mod Places
 pub mod Keys
+pub mod Meets
 pub mod Agrees

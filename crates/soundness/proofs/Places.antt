@@ -1,9 +1,9 @@
--- One address, one scope, the top, one binding: what the code's tests tell, and the parts of soundness from their places. Assumes nothing.
+-- One address, one scope, the top: what the code's tests tell, and the parts of soundness from their places. Assumes nothing.
 use mathlib.Core.Path.{_≡_, refl, sym, ap, _∙_, subst}
 use mathlib.Core.Logic.{_≢_, _⊎_, inl, inr, ⊎-elim, by-cases}
 use mathlib.Core.Bool.{Bool, true, false, not}
 use mathlib.Core.List.{List}
-use Prim.Native.Nat.{ℕ, _*_, _/_, _≤_, _<_}
+use Prim.Native.Nat.{ℕ, _*_, _≤_, _<_}
 use native.Mathlib.Decide.{decLt}
 use native.Mathlib.Omega.{arith}
 use lib.Dec.{eqb, ltb}
@@ -16,7 +16,7 @@ use Rattle.rules.proofs.Tests.{tells-slots}
 use Rattle.rules.proofs.Tells.{Tells, is-false, clash, tells-as}
 use Rattle.slots.specs.Halves.{occ, slotsOf}
 use Rattle.scopes.specs.Sound.{Slotted, Leads, Rooted, Owned}
-use Rattle.soundness.specs.Parts.{Below, ownerOf, OwnedAt, RootedAt, Topped, Differs, NamedAt}
+use Rattle.soundness.specs.Parts.{Below, ownerOf, OwnedAt, RootedAt, Topped}
 use Rattle.soundness.proofs.Climbs.{live-below}
 
 -- ---- slots
@@ -101,12 +101,3 @@ top-out live top l n = ⊎-elim (λ x. omega (arith, x .0, l)) (λ x. n (x .0))
 
 pub top-none : (live : List Bool) (top : ℕ) (r : Bool) → top ≡ 64 → Tells r (Below 64 (λ i. getD live i false ≡ false)) → Tells r (Topped live top)
 top-none live top r e t = tells-as t (λ h. inr (e, h)) (⊎-elim (λ x. absurd (omega (arith, x .0, e))) (λ x. x .1))
-
--- ---- a binding
-
-module _ (bindings : List ℕ) (live : List Bool) (count j : ℕ) where
-  pub name-dead : getD live (getD bindings j 0 / 562949953421312) false ≡ false → NamedAt bindings live count j → ⊥
-  name-dead e h = clash (h .alive) e
-
-  pub name-last : (r : Bool) → getD live (getD bindings j 0 / 562949953421312) false ≡ true → Tells r (Differs bindings count j) → Tells r (NamedAt bindings live count j)
-  name-last r e t = tells-as t (λ h. record { alive = e; differs = h }) (λ h. h .differs)

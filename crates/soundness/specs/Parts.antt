@@ -3,13 +3,14 @@ use mathlib.Core.Path.{_≡_}
 use mathlib.Core.Logic.{_≢_, _⊎_}
 use mathlib.Core.Bool.{Bool, true, false}
 use mathlib.Core.List.{List, [], _∷_}
-use Prim.Native.Nat.{ℕ, zero, suc, _+_, _/_, _≤_, _<_}
+use Prim.Native.Nat.{ℕ, zero, suc, _+_, _≤_, _<_}
 use lib.ListN.{length, getD, set}
 use lib.Dec.{eqb, ltb}
 use Rattle.rules.specs.AddressSets.{member}
-use Rattle.slots.specs.Halves.{occ}
+use Rattle.slots.specs.Halves.{bit, occ}
 use Rattle.links.specs.Links.{nextIn, prevIn, nowhere}
 use Rattle.links.specs.Follow.{lists}
+use Rattle.scopes.specs.View.{binding}
 use Rattle.scopes.specs.Sound.{Leads}
 
 abbrev pub Below : ℕ → (ℕ → Type 0) → Type 0
@@ -81,6 +82,11 @@ climb live parent (suc k) i =
       | false ↦ false
     ]
 
+-- the scopes of which it is known that parents lead to root
+pub record Known (live : List Bool) (parent : List ℕ) (known : List Bool) : Type 0 where
+  pub long : length known ≡ 64
+  pub leads : (k : ℕ) → getD known k false ≡ true → Leads live parent k
+
 pub record RootedAt (live dangled : List Bool) (parent number : List ℕ) (i : ℕ) : Type 0 where
   pub leads : getD live i false ≡ true → Leads live parent i
   pub dead : getD live i false ≡ false → (getD dangled i false ≡ false) × (getD parent i 0 ≡ 64) × (getD number i 0 ≡ 0)
@@ -91,13 +97,28 @@ Topped live top = ((top < 64) × (getD live top false ≡ true)) ⊎ ((top ≡ 6
 
 -- ---- bindings
 
--- scope and name of a binding, in one number
-abbrev pub key : ℕ → ℕ
-key b = b / 8589934592
+abbrev pub scopeOf : List ℕ → ℕ → ℕ
+scopeOf bindings j = binding (getD bindings j 0) .scope
 
-abbrev pub Differs : List ℕ → ℕ → ℕ → Type 0
-Differs bindings count j = (k : ℕ) → j < k → k < count → key (getD bindings k 0) ≢ key (getD bindings j 0)
+abbrev pub nameOf : List ℕ → ℕ → ℕ
+nameOf bindings j = binding (getD bindings j 0) .name
 
-pub record NamedAt (bindings : List ℕ) (live : List Bool) (count j : ℕ) : Type 0 where
-  pub alive : getD live (getD bindings j 0 / 562949953421312) false ≡ true
-  pub differs : Differs bindings count j
+abbrev pub LiveAt : List ℕ → List Bool → ℕ → Type 0
+LiveAt bindings live j = getD live (scopeOf bindings j) false ≡ true
+
+-- no two of the first n have one scope and one name
+abbrev pub Distinct : List ℕ → ℕ → Type 0
+Distinct bindings n = (j k : ℕ) → j < k → k < n → scopeOf bindings k ≡ scopeOf bindings j → nameOf bindings k ≢ nameOf bindings j
+
+-- k stands for the name of binding j: it is the place that the table told, if that has the name
+pub record Place (bindings : List ℕ) (told j k : ℕ) : Type 0 where
+  pub within : k < 256
+  pub named : nameOf bindings k ≡ nameOf bindings j
+  pub kept : nameOf bindings told ≡ nameOf bindings j → k ≡ told
+
+-- after the first n: `places` tells for each of their names a place that has it, and `scopes` has at that place, as bits, the scopes that
+-- bound it so far, and no others
+pub record Met (bindings places scopes : List ℕ) (n : ℕ) : Type 0 where
+  pub kept : Below n (λ j. nameOf bindings (getD places (nameOf bindings j) 0) ≡ nameOf bindings j)
+  pub noted : Below n (λ j. bit (getD scopes (getD places (nameOf bindings j) 0) 0) (scopeOf bindings j) ≡ true)
+  pub only : (k i : ℕ) → bit (getD scopes k 0) i ≡ true → (j : ℕ) × (j < n) × (scopeOf bindings j ≡ i) × (nameOf bindings j ≡ nameOf bindings k)

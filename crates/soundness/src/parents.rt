@@ -6,12 +6,17 @@ ghost use Prim.Native.Nat.{ℕ, _<_};
 ghost use lib.ListN.{length, getD};
 ghost use Rattle.rules.proofs.Tells.{Tells};
 ghost use Rattle.scopes.specs.Sound.{Rooted, Leads};
-ghost use Rattle.soundness.specs.Parts.{Below, RootedAt, Topped};
+ghost use Rattle.soundness.specs.Parts.{Below, Known, RootedAt, Topped};
 use scopes::open;
 
-// Parents lead from i to root.
-pub fn leads<'a>(live: &'a [bool; 64], parent: &'a [u8; 64], i: usize) -> bool
-    requires { ⌜ length (now live) ≡ 64 ⌝ }
+// Parents lead from i to root, or to a scope of which that is known.
+pub fn leads<'a>(
+    live: &'a [bool; 64],
+    parent: &'a [u8; 64],
+    known: &'a [bool; 64],
+    i: usize,
+) -> bool
+    requires { ⌜ (length (now live) ≡ 64) × Known (now live) (now parent) (now known) ⌝ }
     ensures { λ r. ⌜ Tells r (Leads (now (live .entry)) (now (parent .entry)) i) ⌝ }
 {
     let mut k = i;
@@ -19,6 +24,9 @@ pub fn leads<'a>(live: &'a [bool; 64], parent: &'a [u8; 64], i: usize) -> bool
     while 0 < n {
         if 64 <= k {
             return false;
+        }
+        if known[k] {
+            return true;
         }
         if !live[k] {
             return false;
@@ -33,19 +41,45 @@ pub fn leads<'a>(live: &'a [bool; 64], parent: &'a [u8; 64], i: usize) -> bool
     false
 }
 
-// A live scope's parents lead to root; the record of a closed one is blank.
+// It is known of i, and of the scopes from there up to the first of which it was known: so no climb passes a scope again.
+pub fn learn<'a>(live: &'a [bool; 64], parent: &'a [u8; 64], known: &mut [bool; 64], i: usize)
+    requires { ⌜ (length (now live) ≡ 64) × Known (now live) (now parent) (now known) × Leads (now live) (now parent) i ⌝ }
+    ensures { λ r. ⌜ Known (now (live .entry)) (now (parent .entry)) (now (known .exit)) ⌝ }
+{
+    let mut k = i;
+    let mut n: usize = 64;
+    while 0 < n {
+        if known[k] {
+            return;
+        }
+        known[k] = true;
+        if k == 0 {
+            return;
+        }
+        k = open::wide8(parent[k]);
+        n -= 1;
+    }
+}
+
+// A live scope's parents lead to root, which is known from then on; the record of a closed one is blank.
 pub fn rooted_at<'a>(
     live: &'a [bool; 64],
     dangled: &'a [bool; 64],
     parent: &'a [u8; 64],
     number: &'a [u32; 64],
+    known: &mut [bool; 64],
     i: usize,
 ) -> bool
-    requires { ⌜ (i < 64) × (length (now live) ≡ 64) ⌝ }
+    requires { ⌜ (i < 64) × (length (now live) ≡ 64) × Known (now live) (now parent) (now known) ⌝ }
     ensures { λ r. ⌜ Tells r (RootedAt (now (live .entry)) (now (dangled .entry)) (now (parent .entry)) (now (number .entry)) i) ⌝ }
+    ensures { λ r. ⌜ Known (now (live .entry)) (now (parent .entry)) (now (known .exit)) ⌝ }
 {
     if live[i] {
-        return leads(live, parent, i);
+        if !leads(live, parent, known, i) {
+            return false;
+        }
+        learn(live, parent, known, i);
+        return true;
     }
     if dangled[i] {
         return false;
@@ -98,9 +132,10 @@ pub fn rooted<'a>(
     if number[0] != 0 {
         return false;
     }
+    let mut known = [false; 64];
     let mut i: usize = 0;
     while i < 64 {
-        if !rooted_at(live, dangled, parent, number, i) {
+        if !rooted_at(live, dangled, parent, number, &mut known, i) {
             return false;
         }
         i += 1;

@@ -12,6 +12,8 @@ pub mod known;
 #[cfg(feature = "linked")]
 pub mod linked;
 #[cfg(feature = "linked")]
+pub mod linked_checks;
+#[cfg(feature = "linked")]
 pub mod linked_slots;
 pub mod lists;
 pub mod ours;

@@ -5,6 +5,7 @@ use model::Frame;
 use oracle::args::Args;
 use oracle::figures::work::{self, KINDS, LENGTHS};
 use oracle::figures::{clock, plain::Machine, setting};
+use oracle::linked_checks::checks;
 use oracle::linked_slots::{pairs_by_value, pairs_lent};
 use rune::{Bare, Lean};
 use std::hint::black_box;
@@ -131,6 +132,19 @@ fn run() {
     println!("| {} | {} | {} |", ns(plain), ns(ours), ratio(ours, plain));
 }
 
+const CHECKS: usize = 1000;
+
+fn check() {
+    assert_eq!(checks(CHECKS), CHECKS, "a full state is sound");
+    let times = |n| checks(black_box(n)) as u64;
+    let best = clock::best(&mut [&mut || times(0), &mut || times(CHECKS)]);
+    println!("\n## The check of a state handed in\n");
+    println!("Of a full state: 64 scopes in one line, 1,024 slots on one list, 256 names in one scope (crate `checks`).");
+    println!("`soundness::is_sound` takes it by value.\n");
+    println!("| ours, ns a check |\n|---|");
+    println!("| {} |", ns((best[1] - best[0]) / CHECKS as f64));
+}
+
 const HEAD: &str = "\
 # Figures
 
@@ -154,5 +168,6 @@ fn main() {
     }
     translation();
     run();
+    check();
     println!("\nLoad of the machine when it ended: {}.", setting::load());
 }

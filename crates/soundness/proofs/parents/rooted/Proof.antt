@@ -5,17 +5,18 @@ use native.Mathlib.Omega.{arith}
 use lib.ListN.{getD}
 use borrow.Author.Tests.{not-true, not-false}
 use borrow.Author.Needs.{needs}
-use Rattle.soundness.specs.Parts.{Below, Topped, RootedAt}
+use Rattle.soundness.specs.Parts.{Below, Topped, Known, RootedAt}
 use Rattle.soundness.proofs.Tested.{no, yes, fails, more}
+use Rattle.soundness.proofs.Climbs.{known-none}
 use Rattle.soundness.proofs.Places.{rooted-of, of-rooted}
 use Rattle.soundness.proofs.parents.rooted.Statement.{statement}
 use Rattle.soundness.proofs.parents.rooted.Tie as tie
 
 abbrev Inv-loop : tie.InvT-loop
-Inv-loop live dangled parent number top i₀ i = Topped live top × (getD number 0 0 ≡ 0) × (i ≤ 64) × Below i (RootedAt live dangled parent number)
+Inv-loop live dangled parent number top known₀ i₀ known i = Topped live top × (getD number 0 0 ≡ 0) × (i ≤ 64) × Below i (RootedAt live dangled parent number) × Known live parent known
 
 abbrev μ-loop : tie.MeasureT-loop
-μ-loop live dangled parent number top i₀ i = 64 - i
+μ-loop live dangled parent number top known₀ i₀ known i = 64 - i
 
 topped-requires : tie.Need-topped-requires Inv-loop μ-loop
 topped-requires c κs = search needs
@@ -30,15 +31,17 @@ returns-2 : tie.Need-returns-2 Inv-loop μ-loop
 returns-2 c = no (λ q. c .if2 .taken (q .first))
 
 loop-holds : tie.Need-loop-holds Inv-loop μ-loop
-loop-holds c = (c .before .before .before .topped .ensures .holds (not-false _ (c .before .before .if1 .left)), c .if2 .left, search needs, λ j l. absurd (omega (arith, l)))
+loop-holds c =
+    let s = c .before .before .before .before in
+    (c .before .before .before .topped .ensures .holds (not-false _ (c .before .before .if1 .left)), c .if2 .left, search needs, λ j l. absurd (omega (arith, l)), known-none (s .args .live .now) (s .args .parent .now))
 
 rooted-at-requires : tie.Need-rooted-at-requires Inv-loop μ-loop
-rooted-at-requires c κs = search needs
+rooted-at-requires c κs = (c .before .loop-test .taken, c .before .before .before .before .before .before .before .pre, c .before .before .loop .inv .4)
 
 returns-3 : tie.Need-returns-3 Inv-loop μ-loop
 returns-3 c =
-    let s = c .before .before .before .before .before .before .before .before in
-    no (λ q. fails (c .before .rooted-at .ensures) (not-true _ (c .if3 .taken)) (of-rooted (s .args .live .now) (s .args .dangled .now) (s .args .parent .now) (s .args .number .now) (s .args .top) q (c .before .before .before .loop .i) (c .before .before .loop-test .taken)))
+    let s = c .before .before .before .before .before .before .before .before .before in
+    no (λ q. fails (c .before .rooted-at .ensures .0) (not-true _ (c .if3 .taken)) (of-rooted (s .args .live .now) (s .args .dangled .now) (s .args .parent .now) (s .args .number .now) (s .args .top) q (c .before .before .before .before .loop .i) (c .before .before .before .loop-test .taken)))
 
 add-i : tie.Need-add-i Inv-loop μ-loop
 add-i c = search needs
@@ -48,9 +51,9 @@ loop-less c = search needs
 
 loop-again : tie.Need-loop-again Inv-loop μ-loop
 loop-again c =
-    let s = c .before .before .before .before .before .before .before .before in
-    let l = c .before .before .before .loop in
-    (l .inv .0, l .inv .1, search needs, more (RootedAt (s .args .live .now) (s .args .dangled .now) (s .args .parent .now) (s .args .number .now)) (l .i) (l .inv .3) (c .before .rooted-at .ensures .holds (not-false _ (c .if3 .left))))
+    let s = c .before .before .before .before .before .before .before .before .before in
+    let l = c .before .before .before .before .loop in
+    (l .inv .0, l .inv .1, search needs, more (RootedAt (s .args .live .now) (s .args .dangled .now) (s .args .parent .now) (s .args .number .now)) (l .i) (l .inv .3) (c .before .rooted-at .ensures .0 .holds (not-false _ (c .if3 .left))), c .before .rooted-at .ensures .1)
 
 returns-4 : tie.Need-returns-4 Inv-loop μ-loop
 returns-4 c =

@@ -1,0 +1,59 @@
+// Checks of a full state, for a figure: how long a check of a state handed in takes. No product links it.
+ghost use mathlib.Core.Path.{_≡_};
+ghost use Rattle.scopes.specs.Sound.{Sound};
+use scopes::HandleNumber;
+use scopes::Scopes;
+use slots::SlotAddress;
+
+// 64 scopes in one line.
+fn opened() -> Scopes
+    ensures { λ r. ⌜ Sound r ⌝ }
+{
+    let mut s = scopes::fresh();
+    let mut i: usize = 0;
+    while i < 63 {
+        let o = scopes::open::child(s);
+        s = o.state;
+        i += 1;
+    }
+    s
+}
+
+// 256 names more, in the top scope.
+fn bound(t: Scopes) -> Scopes
+    requires { ⌜ Sound t ⌝ }
+    ensures { λ r. ⌜ Sound r ⌝ }
+{
+    let mut s = t;
+    let mut i: usize = 0;
+    while i < 256 {
+        let o = scopes::names::define(s, i as u16, SlotAddress(0), HandleNumber(0));
+        s = o.state;
+        i += 1;
+    }
+    s
+}
+
+// 64 scopes, 1,024 slots on the list of the top scope, 256 names.
+fn full() -> Scopes
+    ensures { λ r. ⌜ Sound r ⌝ }
+{
+    let o = scopes::place::alloc_run(opened(), 1024);
+    bound(o.state)
+}
+
+// How many of n checks of the full state say yes, up to the first that does not.
+#[no_mangle]
+pub extern "C" fn full_checks(n: usize) -> usize
+    ensures { λ r. ⌜ r ≡ n ⌝ }
+{
+    let s = full();
+    let mut i: usize = 0;
+    while i < n {
+        if !soundness::is_sound(s) {
+            return i;
+        }
+        i += 1;
+    }
+    i
+}
