@@ -74,23 +74,6 @@ fn note(places: &mut [u16; 64], bindings: &[u64; 256], from: usize, to: usize, n
     }
 }
 
-// The place of the binding of `name` in each scope, or 256: one walk over the bindings, the last first, so that the first place stays.
-fn places(bindings: &[u64; 256], count: usize, name: u16) -> [u16; 64]
-    requires { ⌜ (count ≤ 256) × (length (now bindings) ≡ 256) ⌝ }
-    ensures { λ r. ⌜ Placed (now (bindings .entry)) count name r ⌝ }
-{
-    let mut found: [u16; 64] = [256; 64];
-    let mut j = count;
-    while 8 <= j {
-        j -= 8;
-        if named(bindings, j, name) {
-            note(&mut found, bindings, j, j + 8, name);
-        }
-    }
-    note(&mut found, bindings, 0, j, name);
-    found
-}
-
 fn wide16(x: u16) -> usize
     ensures { λ r. ⌜ r ≡ x ⌝ }
 {
@@ -124,6 +107,7 @@ fn climb<'a>(
 }
 
 // The nearest binding of `name`: looked for in scope i, then in its parent, `left` scopes at most.
+// One walk over the bindings serves all scopes, the last binding first, so that a scope's first place stays.
 pub fn lookup<'a>(
     live: &'a [bool; 64],
     parent: &'a [u8; 64],
@@ -136,8 +120,16 @@ pub fn lookup<'a>(
     requires { ⌜ (count ≤ 256) × (length (now bindings) ≡ 256) × (length (now live) ≡ 64) ⌝ }
     ensures { λ r. ⌜ Climbs (now (live .entry)) (now (parent .entry)) (now (bindings .entry)) count name i left r ⌝ }
 {
-    let found = places(bindings, count, name);
-    climb(live, parent, &found, i, left)
+    let mut places: [u16; 64] = [256; 64];
+    let mut j = count;
+    while 8 <= j {
+        j -= 8;
+        if named(bindings, j, name) {
+            note(&mut places, bindings, j, j + 8, name);
+        }
+    }
+    note(&mut places, bindings, 0, j, name);
+    climb(live, parent, &places, i, left)
 }
 
 // What a binding says.
