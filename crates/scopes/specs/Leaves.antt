@@ -7,7 +7,7 @@ use mathlib.Core.List.{List, [], _∷_, _++_}
 use Prim.Native.Nat.{ℕ, _-_, _≤_, _<_}
 use lib.ListN.{length, getD, set, take}
 use lib.Dec.{ltb, eqb}
-use Rattle.rules.specs.Notation.{orElse, first}
+use Rattle.rules.specs.Notation.{orElse, first, isSome}
 use Rattle.rules.specs.Scopes as rule
 use Rattle.scopes.specs.View.{index, scopesFrom, binding, bindingsOf}
 
@@ -25,6 +25,10 @@ hasNumber live number n j = getD live j false && eqb (getD number j 0) n
 
 abbrev pub childOf : List Bool → List ℕ → ℕ → ℕ → Bool
 childOf live parent i j = getD live j false && eqb (getD parent j 0) i
+
+-- a live scope has i as its parent
+abbrev pub hasChild : List Bool → List ℕ → ℕ → Bool
+hasChild live parent i = isSome (first (childOf live parent i) 0 64)
 
 -- no live scope has i as its parent
 abbrev pub NoChild : List Bool → List ℕ → ℕ → Type 0
