@@ -13,13 +13,14 @@ use borrow.Author.Tests.{lt-ltb, le-ltb, ltb-true, eq-eqb, ne-eqb, eqb-true}
 use Rattle.rules.specs.Notation.{_>>=_, refuse_unless_, isSome, first}
 use Rattle.rules.specs.Sizes.{base}
 use Rattle.rules.specs.Scopes as rule
+use Rattle.rules.proofs.Searches.{first-none}
 use Rattle.rules.proofs.Tells.{clash}
 use Rattle.scopes.specs.View.{view, index, onlyIf, scopeOf, foundAt, opened, replied}
 use Rattle.scopes.specs.Sound.{Sound}
-use Rattle.scopes.specs.Leaves.{lowest, isFree, hasNumber, childOf, placeOf, NoChild}
+use Rattle.scopes.specs.Leaves.{lowest, isFree, hasNumber, childOf, hasChild, placeOf, NoChild}
 use Rattle.scopes.specs.declared.Scopes.{Scopes}
 use Rattle.scopes.specs.declared.Reply.the-variants.{Refused}
-use Rattle.scopes.proofs.Tables.{and-left, and-right, Low, low}
+use Rattle.scopes.proofs.Tables.{and-left, and-right, none-is, Low, low}
 
 -- ---- the leaf that looks at an id
 
@@ -147,23 +148,16 @@ module _ (s : Scopes) where
 
   -- ---- children
 
-  module _ (i r : ℕ) (hi : i < 64) (e : r ≡ lowest (childOf (s .live) (s .parent) i) 0) where
-    lc : Low (childOf (s .live) (s .parent) i) 0 (omega arith) r
-    lc = low (childOf (s .live) (s .parent) i) 0 (omega arith) r e
-
+  module _ (i : ℕ) (hi : i < 64) (r : Bool) (e : r ≡ hasChild (s .live) (s .parent) i) where
     children : _≡_ {A = ℕ → Bool} (λ j. rule.childOf i (view s .live j)) (childOf (s .live) (s .parent) i)
     children = λ t j. child-of i j hi t
 
-    pub has-child : r < 64 → rule.hasChild base (view s) i ≡ true
+    pub has-child : rule.hasChild base (view s) i ≡ r
     unfolding rule.hasChild base
-    has-child l = let f : first (λ j. rule.childOf i (view s .live j)) 0 64 ≡ some r = ap (λ (g : ℕ → Bool). first g 0 64) children ∙ lc .is l in rw (f, rule.hasChild)
+    has-child = ap (λ (g : ℕ → Bool). isSome (first g 0 64)) children ∙ sym e
 
-    pub no-children : 64 ≤ r → rule.hasChild base (view s) i ≡ false
-    unfolding rule.hasChild base
-    no-children l = let f : first (λ j. rule.childOf i (view s .live j)) 0 64 ≡ none = ap (λ (g : ℕ → Bool). first g 0 64) children ∙ lc .none l in rw (f, rule.hasChild)
-
-    pub no-child : length (s .live) ≡ 64 → 64 ≤ r → NoChild (s .live) (s .parent) i
-    no-child n l j lj q = clash (and lj q) (lc .before j (omega arith) (omega (arith, in-range n j lj)))
+    pub no-child : length (s .live) ≡ 64 → r ≡ false → NoChild (s .live) (s .parent) i
+    no-child n q j lj z = clash (and lj z) (first-none (childOf (s .live) (s .parent) i) 0 64 (none-is _ (sym e ∙ q)) j (omega arith) (omega (arith, in-range n j lj)))
       where
         and : getD (s .live) j false ≡ true → getD (s .parent) j 0 ≡ i → childOf (s .live) (s .parent) i j ≡ true
         and a b = rw (a, eq-eqb (getD (s .parent) j 0) i b)

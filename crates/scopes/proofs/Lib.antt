@@ -9,6 +9,7 @@ pub mod Allocs
 pub mod Runs
 pub mod Frees
 pub mod Bindings
+pub mod Notes
 pub mod Compacts
 pub mod Lookups
 pub mod Defines

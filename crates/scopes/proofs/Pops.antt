@@ -13,10 +13,10 @@ use Rattle.rules.specs.Sizes.{base}
 use Rattle.rules.specs.Scopes as rule
 use Rattle.scopes.specs.View.{view, foundAt, toldOnly}
 use Rattle.scopes.specs.Sound.{Sound}
-use Rattle.scopes.specs.Leaves.{lowest, childOf}
+use Rattle.scopes.specs.Leaves.{hasChild}
 use Rattle.scopes.specs.declared.Scopes.{Scopes}
 use Rattle.scopes.specs.declared.Reply.the-variants.{Done, Refused}
-use Rattle.scopes.proofs.Finds.{Known, no-top, Topped, has-child, no-children}
+use Rattle.scopes.proofs.Finds.{Known, no-top, Topped, has-child}
 use Rattle.scopes.proofs.Marks.{leads-root}
 
 -- ---- pop
@@ -36,17 +36,17 @@ module _ (s : Scopes) (o : Option rule.Found) where
       unfolding rule.popScope rule.poppable _>>=_ refuse_unless_ refuse_when_
       pop-root e = rw (k .is, d, eq-eqb i 0 e)
 
-      module _ (nz : i ≢ 0) (r : ℕ) (e : r ≡ lowest (childOf (s .live) (s .parent) i) 0) where
+      module _ (nz : i ≢ 0) (r : Bool) (e : r ≡ hasChild (s .live) (s .parent) i) where
         allowed : (getD (s .dangled) i false || eqb i 0) ≡ false
         allowed = rw (d, ne-eqb i 0 nz)
 
-        pub pop-child : r < 64 → record { next = view s; says = Refused 6 } ≡ toldOnly (view s) (rule.popScope base o (view s))
+        pub pop-child : r ≡ true → record { next = view s; says = Refused 6 } ≡ toldOnly (view s) (rule.popScope base o (view s))
         unfolding rule.popScope rule.poppable _>>=_ refuse_unless_ refuse_when_
-        pop-child l = rw (k .is, allowed, has-child s i r (k .small) e l)
+        pop-child l = rw (k .is, allowed, has-child s i (k .small) r e ∙ l)
 
-        pub pop-closes : 64 ≤ r → (c : rule.Scopes) → c ≡ rule.closed (foundAt s i) (view s) → record { next = c; says = Done } ≡ toldOnly (view s) (rule.popScope base o (view s))
+        pub pop-closes : r ≡ false → (c : rule.Scopes) → c ≡ rule.closed (foundAt s i) (view s) → record { next = c; says = Done } ≡ toldOnly (view s) (rule.popScope base o (view s))
         unfolding rule.popScope rule.poppable _>>=_ refuse_unless_ refuse_when_
-        pop-closes l c w = rw (k .is, allowed, no-children s i r (k .small) e l) (λ t. record { next = w t; says = Done })
+        pop-closes l c w = rw (k .is, allowed, has-child s i (k .small) r e ∙ l) (λ t. record { next = w t; says = Done })
 
 -- ---- pop last
 
@@ -59,11 +59,11 @@ module _ (s : Scopes) where
   pub root-live : Sound s → Topped s → getD (s .live) 0 false ≡ true
   root-live h t = leads-root (h .rooted .leads (s .top) (t .live)) .0
 
-  module _ (h : Sound s) (t : Topped s) (r : ℕ) (e : r ≡ lowest (childOf (s .live) (s .parent) 0) 0) where
-    pub last-child : r < 64 → record { next = view s; says = Refused 6 } ≡ toldOnly (view s) (rule.popLastScope base (view s))
+  module _ (h : Sound s) (t : Topped s) (r : Bool) (e : r ≡ hasChild (s .live) (s .parent) 0) where
+    pub last-child : r ≡ true → record { next = view s; says = Refused 6 } ≡ toldOnly (view s) (rule.popLastScope base (view s))
     unfolding rule.popLastScope rule.lastPoppable _>>=_ refuse_unless_ refuse_when_
-    last-child l = rw (t .is, root-live h t, has-child s 0 r (omega arith) e l)
+    last-child l = rw (t .is, root-live h t, has-child s 0 (omega arith) r e ∙ l)
 
-    pub last-closes : 64 ≤ r → (c : rule.Scopes) → c ≡ rule.closed (foundAt s 0) (view s) → record { next = c; says = Done } ≡ toldOnly (view s) (rule.popLastScope base (view s))
+    pub last-closes : r ≡ false → (c : rule.Scopes) → c ≡ rule.closed (foundAt s 0) (view s) → record { next = c; says = Done } ≡ toldOnly (view s) (rule.popLastScope base (view s))
     unfolding rule.popLastScope rule.lastPoppable _>>=_ refuse_unless_ refuse_when_
-    last-closes l c w = rw (t .is, root-live h t, no-children s 0 r (omega arith) e l) (λ u. record { next = w u; says = Done })
+    last-closes l c w = rw (t .is, root-live h t, has-child s 0 (omega arith) r e ∙ l) (λ u. record { next = w u; says = Done })

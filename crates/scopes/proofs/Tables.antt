@@ -1,16 +1,16 @@
 -- Tables, searches and tests in the forms that the operations meet. Assumes nothing.
 use mathlib.Core.Path.{_≡_, refl, sym, ap, _∙_, subst}
 use mathlib.Core.Logic.{_≢_, by-cases}
-use mathlib.Core.Bool.{Bool, true, false, _&&_, true≢false}
+use mathlib.Core.Bool.{Bool, true, false, _&&_, _||_, true≢false, or-true, or-false}
 use mathlib.Core.Option.{Option, none, some}
 use mathlib.Core.List.{List}
 use Prim.Native.Nat.{ℕ, zero, suc, _+_, _-_, _≤_, _<_}
 use native.Mathlib.Decide.{ℕ-discrete}
 use native.Mathlib.Omega.{arith}
-use Rattle.rules.specs.Notation.{put, first, orElse}
+use Rattle.rules.specs.Notation.{put, first, orElse, isSome}
 use Rattle.rules.proofs.Tables as rules
 use Rattle.rules.proofs.Tables.{put-same, put-other}
-use Rattle.rules.proofs.Searches.{Least, first-found, first-none, first-is, first-is-none}
+use Rattle.rules.proofs.Searches.{Least, first-found, first-none, first-is, first-is-none, first-on}
 use Rattle.scopes.specs.Leaves.{lowest}
 
 pub and-left : (a b : Bool) → (a && b) ≡ true → a ≡ true
@@ -86,3 +86,27 @@ module _ (f : ℕ → Bool) (k : ℕ) (hk : k ≤ 64) where
             is = λ x. q ∙ ap some (sym d);
             none = λ x. absurd (omega (arith, l .high));
           }
+
+-- ---- whether one below n passes
+
+pub none-is : {A : Type 0} (o : Option A) → isSome o ≡ false → o ≡ none
+none-is none e = refl
+none-is (some a) e = absurd (true≢false e)
+
+any-more : (f : ℕ → Bool) (n : ℕ) → isSome (first f 0 (n + 1)) ≡ (isSome (first f 0 n) || f n)
+unfolding first
+any-more f n = let e : n + 1 ≡ 1 + n = omega arith in ap (λ (k : ℕ). isSome (first f 0 k)) e ∙ ap isSome (first-on f 0 n 1 n (omega arith)) ∙ either (first f 0 n)
+  where
+    here : (b : Bool) → f n ≡ b → isSome (first f n 1) ≡ f n
+    here true q = rw (q, first)
+    here false q = rw (q, first)
+
+    either : (o : Option ℕ) → isSome {A = ℕ} (elim o [ some a ↦ some a | none ↦ first f n 1 ]) ≡ (isSome o || f n)
+    either (some a) = refl
+    either none = here (f n) refl
+
+pub any-hit : (f : ℕ → Bool) (n : ℕ) (h : Bool) → h ≡ true → f n ≡ true → h ≡ isSome (first f 0 (n + 1))
+any-hit f n h e q = e ∙ sym (any-more f n ∙ ap (λ (b : Bool). isSome (first f 0 n) || b) q ∙ or-true (isSome (first f 0 n)))
+
+pub any-miss : (f : ℕ → Bool) (n : ℕ) (h : Bool) → h ≡ isSome (first f 0 n) → f n ≡ false → h ≡ isSome (first f 0 (n + 1))
+any-miss f n h e q = e ∙ sym (any-more f n ∙ ap (λ (b : Bool). isSome (first f 0 n) || b) q ∙ or-false (isSome (first f 0 n)))

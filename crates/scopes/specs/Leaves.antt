@@ -7,7 +7,7 @@ use mathlib.Core.List.{List, [], _∷_, _++_}
 use Prim.Native.Nat.{ℕ, _-_, _≤_, _<_}
 use lib.ListN.{length, getD, set, take}
 use lib.Dec.{ltb, eqb}
-use Rattle.rules.specs.Notation.{orElse, first}
+use Rattle.rules.specs.Notation.{orElse, first, isSome}
 use Rattle.rules.specs.Scopes as rule
 use Rattle.scopes.specs.View.{index, scopesFrom, binding, bindingsOf}
 
@@ -25,6 +25,10 @@ hasNumber live number n j = getD live j false && eqb (getD number j 0) n
 
 abbrev pub childOf : List Bool → List ℕ → ℕ → ℕ → Bool
 childOf live parent i j = getD live j false && eqb (getD parent j 0) i
+
+-- a live scope has i as its parent
+abbrev pub hasChild : List Bool → List ℕ → ℕ → Bool
+hasChild live parent i = isSome (first (childOf live parent i) 0 64)
 
 -- no live scope has i as its parent
 abbrev pub NoChild : List Bool → List ℕ → ℕ → Type 0
@@ -53,6 +57,24 @@ pub record Spot (bindings : List ℕ) (count i name r : ℕ) : Type 0 where
   pub most : r ≤ 256
   pub there : r < 256 → There bindings count i name r
   pub missing : 256 ≤ r → Missing bindings count i name
+
+-- for each scope, the list has the place of the binding of `name` there, or 256
+abbrev pub Placed : List ℕ → ℕ → ℕ → List ℕ → Type 0
+Placed bindings count name places = (i : ℕ) → i < 64 → Spot bindings count i name (getD places i 0)
+
+-- the binding at j is of `name`, in the scope at index i
+abbrev pub binds : List ℕ → ℕ → ℕ → ℕ → Bool
+binds bindings name i j = rule.isFor i name (binding (getD bindings j 0))
+
+-- r is the first place from `from` up to `to` that passes, or 256
+pub record Earliest (f : ℕ → Bool) (from to r : ℕ) : Type 0 where
+  pub most : r ≤ 256
+  pub inside : r < 256 → (from ≤ r) × (r < to) × (f r ≡ true)
+  pub before : (j : ℕ) → from ≤ j → j < to → j < r → f j ≡ false
+
+-- for each scope, the list has the first place from `from` up to `to` of a binding of `name`, or 256
+abbrev pub Noted : List ℕ → ℕ → ℕ → ℕ → List ℕ → Type 0
+Noted bindings name from to places = (i : ℕ) → i < 64 → Earliest (binds bindings name i) from to (getD places i 0)
 
 abbrev pub spotted : List ℕ → ℕ → Option rule.Binding
 spotted bindings r = elim (ltb r 256) [ true ↦ some (binding (getD bindings r 0)) | false ↦ none ]

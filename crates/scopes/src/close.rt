@@ -1,10 +1,11 @@
 // Scopes are closed: by id, and root at the end: `lent::close` by value.
 ghost use mathlib.Core.Path.{_≡_};
+ghost use Prim.Native.Nat.{_<_};
 ghost use Rattle.rules.specs.Sizes.{base};
 ghost use Rattle.rules.specs.Scopes as rule;
 ghost use Rattle.scopes.specs.View.{view, idOf, seen, toldOnly};
 ghost use Rattle.scopes.specs.Sound.{Sound};
-ghost use Rattle.scopes.specs.Leaves.{lowest, childOf};
+ghost use Rattle.scopes.specs.Leaves.{hasChild};
 ghost use Rattle.scopes.specs.Lent.{made};
 use crate::LentOutcome;
 use crate::Outcome;
@@ -12,23 +13,25 @@ use crate::ScopeId;
 use crate::Scopes;
 use crate::lent::close as lent;
 use crate::numbers_of;
-use crate::open;
 
-// The lowest live scope whose parent is i, or 64.
-pub fn child_of<'a>(live: &'a [bool; 64], parent: &'a [u8; 64], i: usize) -> usize
-    ensures { λ r. ⌜ r ≡ lowest (childOf (now (live .entry)) (now (parent .entry)) i) 0 ⌝ }
+// Whether a live scope has i as its parent; all are looked at, so that they are compared side by side.
+pub fn has_child<'a>(live: &'a [bool; 64], parent: &'a [u8; 64], i: usize) -> bool
+    requires { ⌜ i < 64 ⌝ }
+    ensures { λ r. ⌜ r ≡ hasChild (now (live .entry)) (now (parent .entry)) i ⌝ }
 {
+    let up = i as u8;
+    let mut hit = false;
     let mut j: usize = 0;
     while j < 64 {
+        let p = parent[j];
         if live[j] {
-            let p = open::wide8(parent[j]);
-            if p == i {
-                return j;
+            if p == up {
+                hit = true;
             }
         }
         j += 1;
     }
-    64
+    hit
 }
 
 // ---- by value

@@ -2,6 +2,7 @@
 ghost use mathlib.Core.Path.{_≡_};
 ghost use mathlib.Core.Bool.{false};
 ghost use mathlib.Core.Logic.{_≢_};
+ghost use mathlib.Core.List.{List};
 ghost use Prim.Native.Nat.{ℕ, _+_, _%_, _≤_, _<_};
 ghost use lib.ListN.{length, getD};
 ghost use Rattle.rules.specs.Sizes.{base};
@@ -9,7 +10,7 @@ ghost use Rattle.rules.specs.Scopes as rule;
 ghost use Rattle.scopes.specs.View.{view, binding, bindingsOf, bound, defined, seen, told, toldOnly, replied};
 ghost use Rattle.scopes.specs.Sound.{Sound};
 ghost use Rattle.scopes.specs.Lent.{withNames};
-ghost use Rattle.scopes.specs.Leaves.{Spot, Climbs, Wiped};
+ghost use Rattle.scopes.specs.Leaves.{binds, Spot, Noted, Placed, Climbs, Wiped};
 use crate::Bound;
 use crate::HandleNumber;
 use crate::LentOutcome;
@@ -37,7 +38,76 @@ pub fn find(bindings: &[u64; 256], count: usize, i: usize, name: u16) -> usize
     256
 }
 
-// Looked for in scope i, then in its parent, `left` scopes at most.
+// Whether one of the eight bindings from `from` on is of `name`; all eight are looked at, so that they are compared side by side.
+fn named(bindings: &[u64; 256], from: usize, name: u16) -> bool
+    requires { ⌜ (from + 8 ≤ 256) × (length (now bindings) ≡ 256) ⌝ }
+    ensures { λ r. ⌜ (r ≡ false → (i j : ℕ) → from ≤ j → j < from + 8 → binds (now (bindings .entry)) name i j ≡ false) ⌝ }
+{
+    let key = name as u64;
+    let mut hit = false;
+    let mut k: usize = 0;
+    while k < 8 {
+        if bindings[from + k] / 8589934592 % 65536 == key {
+            hit = true;
+        }
+        k += 1;
+    }
+    hit
+}
+
+// Where `places` has each scope's first place from `to` on, it has that from `from` on then.
+fn note(places: &mut [u16; 64], bindings: &[u64; 256], from: usize, to: usize, name: u16)
+    requires { ⌜ (from ≤ to) × (to ≤ 256) × (length (now bindings) ≡ 256) × (length (now places) ≡ 64) ⌝ }
+    ensures { λ r. ⌜ (length (now (places .exit)) ≡ 64) × ((count : ℕ) → to ≤ count → count ≤ 256 → Noted (now (bindings .entry)) name to count (now (places .entry)) → Noted (now (bindings .entry)) name from count (now (places .exit))) ⌝ }
+{
+    let key = name as u64;
+    let mut j = to;
+    while from < j {
+        j -= 1;
+        let b = bindings[j];
+        let i = b / 562949953421312;
+        if b / 8589934592 % 65536 == key {
+            if i < 64 {
+                places[i as usize] = j as u16;
+            }
+        }
+    }
+}
+
+fn wide16(x: u16) -> usize
+    ensures { λ r. ⌜ r ≡ x ⌝ }
+{
+    x as usize
+}
+
+// Looked for in scope i, then in its parent, `left` scopes at most; `places` has the place in each.
+fn climb<'a>(
+    live: &'a [bool; 64],
+    parent: &'a [u8; 64],
+    places: &'a [u16; 64],
+    i: usize,
+    left: usize,
+) -> usize
+    ensures { λ r. ⌜ ((bindings : List ℕ) (count name : ℕ) → Placed bindings count name (now (places .entry)) → Climbs (now (live .entry)) (now (parent .entry)) bindings count name i left r) ⌝ }
+{
+    if left == 0 {
+        return 256;
+    }
+    if 64 <= i {
+        return 256;
+    }
+    if !live[i] {
+        return 256;
+    }
+    let j = wide16(places[i]);
+    if j < 256 {
+        return j;
+    }
+    climb(live, parent, places, wide8(parent[i]), left - 1)
+}
+
+// The nearest binding of `name`: looked for in scope i, then in its parent, `left` scopes at most.
+// One walk over the bindings serves all scopes, the last binding first, so that a scope's first place stays.
 pub fn lookup<'a>(
     live: &'a [bool; 64],
     parent: &'a [u8; 64],
@@ -50,28 +120,16 @@ pub fn lookup<'a>(
     requires { ⌜ (count ≤ 256) × (length (now bindings) ≡ 256) × (length (now live) ≡ 64) ⌝ }
     ensures { λ r. ⌜ Climbs (now (live .entry)) (now (parent .entry)) (now (bindings .entry)) count name i left r ⌝ }
 {
-    if left == 0 {
-        return 256;
+    let mut places: [u16; 64] = [256; 64];
+    let mut j = count;
+    while 8 <= j {
+        j -= 8;
+        if named(bindings, j, name) {
+            note(&mut places, bindings, j, j + 8, name);
+        }
     }
-    if 64 <= i {
-        return 256;
-    }
-    if !live[i] {
-        return 256;
-    }
-    let j = find(bindings, count, i, name);
-    if j < 256 {
-        return j;
-    }
-    lookup(
-        live,
-        parent,
-        bindings,
-        count,
-        name,
-        wide8(parent[i]),
-        left - 1,
-    )
+    note(&mut places, bindings, 0, j, name);
+    climb(live, parent, &places, i, left)
 }
 
 // What a binding says.

@@ -115,8 +115,7 @@ pub fn pop(
             reply: Reply::Refused(5),
         };
     }
-    let k = leaves::child_of(live, parent, i);
-    if k < 64 {
+    if leaves::has_child(live, parent, i) {
         return LentOutcome {
             numbers: n,
             reply: Reply::Refused(6),
@@ -161,8 +160,7 @@ pub fn pop_last(
             reply: Reply::Refused(3),
         };
     }
-    let k = leaves::child_of(live, parent, 0);
-    if k < 64 {
+    if leaves::has_child(live, parent, 0) {
         return LentOutcome {
             numbers: n,
             reply: Reply::Refused(6),

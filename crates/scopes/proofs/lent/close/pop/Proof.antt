@@ -11,7 +11,7 @@ use Rattle.scopes.proofs.lent.close.pop.Statement.{statement}
 use Rattle.scopes.proofs.lent.close.pop.Tie as tie
 use Rattle.scopes.proofs.lent.close.pop.Reads as reads
 use Rattle.scopes.proofs.lent.close.pop.Lts as lts
-use Rattle.scopes.proofs.close.child_of.Reads as child-of-reads
+use Rattle.scopes.proofs.close.has_child.Reads as has-child-reads
 use Rattle.scopes.proofs.lent.close.close.Reads as close-reads
 use Rattle.scopes.proofs.open.place_of.Reads as place-of-reads
 
@@ -39,22 +39,22 @@ returns-2 c h = let e = c .before .before in (pop-dangled (state (start (e .befo
 returns-3 : tie.Need-returns-3
 returns-3 c h = let e = c .before .before .before in (pop-root (state (start (e .before))) _ _ (meant e) (c .before .if2 .left) (c .if3 .taken), h)
 
-child-of-requires : tie.Need-child-of-requires
-child-of-requires c κs = search needs
+has-child-requires : tie.Need-has-child-requires
+has-child-requires c κs = meant (c .before .before .before .before .before) .small
 
 returns-4 : tie.Need-returns-4
 returns-4 c h =
     let e3 = c .before .before .before .before in
     let e2 = e3 .before in
     let e = e2 .before .before in
-    (pop-child (state (start (e .before))) _ _ (meant e) (e2 .if2 .left) (e3 .if3 .left) _ (c .before .child-of .ensures) (c .if4 .taken), h)
+    (pop-child (state (start (e .before))) _ _ (meant e) (e2 .if2 .left) (e3 .if3 .left) _ (c .before .has-child .ensures) (c .if4 .taken), h)
 
 close-requires : tie.Need-close-requires
 close-requires c κs =
     let e4 = c .before .before .before .before .before .before .before .before in
     let e = e4 .before .before .before .before .before .before .before in
     let w = start (e .before) in
-    (w .pre, (meant e .small, meant e .live), no-child (state w) _ _ (meant e .small) (e4 .before .child-of .ensures) (w .pre .sized .live) (e4 .if4 .left))
+    (w .pre, (meant e .small, meant e .live), no-child (state w) _ (meant e .small) _ (e4 .before .has-child .ensures) (w .pre .sized .live) (e4 .if4 .left))
 
 returns-5 : tie.Need-returns-5
 returns-5 c h =
@@ -63,8 +63,8 @@ returns-5 c h =
     let e2 = e3 .before in
     let e = e2 .before .before in
     let x = state (start (e .before)) in
-    let r = c .close .ensures h (meant e .small, meant e .live) (no-child x _ _ (meant e .small) (e4 .before .child-of .ensures) (h .sized .live) (e4 .if4 .left)) in
-    (pop-closes x _ _ (meant e) (e2 .if2 .left) (e3 .if3 .left) _ (e4 .before .child-of .ensures) (e4 .if4 .left) _ (r .0), r .1)
+    let r = c .close .ensures h (meant e .small, meant e .live) (no-child x _ (meant e .small) _ (e4 .before .has-child .ensures) (h .sized .live) (e4 .if4 .left)) in
+    (pop-closes x _ _ (meant e) (e2 .if2 .left) (e3 .if3 .left) _ (e4 .before .has-child .ensures) (e4 .if4 .left) _ (r .0), r .1)
 
 pub pop-spec : {M : Type 1} → statement M
 pop-spec =
@@ -75,7 +75,7 @@ pop-spec =
     element-copy-out-if2
     returns-2
     returns-3
-    child-of-requires
+    has-child-requires
     returns-4
     close-requires
     returns-5)

@@ -10,7 +10,7 @@ use Rattle.scopes.proofs.lent.close.pop_last.Statement.{statement}
 use Rattle.scopes.proofs.lent.close.pop_last.Tie as tie
 use Rattle.scopes.proofs.lent.close.pop_last.Reads as reads
 use Rattle.scopes.proofs.lent.close.pop_last.Lts as lts
-use Rattle.scopes.proofs.close.child_of.Reads as child-of-reads
+use Rattle.scopes.proofs.close.has_child.Reads as has-child-reads
 use Rattle.scopes.proofs.lent.close.close.Reads as close-reads
 
 abbrev state : tie.Start → Scopes
@@ -22,11 +22,11 @@ tops c h = topped _ h (c .if1 .left)
 returns : tie.Need-returns
 returns c h = (last-no-top (state (c .before)) (c .if1 .taken), h)
 
-child-of-requires : tie.Need-child-of-requires
-child-of-requires c κs = search needs
+has-child-requires : tie.Need-has-child-requires
+has-child-requires c κs = search needs
 
 returns-2 : tie.Need-returns-2
-returns-2 c h = let e = c .before .before .before .before in (last-child (state (e .before)) (h .sound) (tops e (h .sound)) _ (c .before .child-of .ensures) (c .if2 .taken), h)
+returns-2 c h = let e = c .before .before .before .before in (last-child (state (e .before)) (h .sound) (tops e (h .sound)) _ (c .before .has-child .ensures) (c .if2 .taken), h)
 
 close-requires : tie.Need-close-requires
 close-requires c κs =
@@ -34,7 +34,7 @@ close-requires c κs =
     let e = e2 .before .before .before .before in
     let h = e .before .pre in
     let x = state (e .before) in
-    (h, (omega arith, root-live x (h .sound) (tops e (h .sound))), no-child x 0 _ (omega arith) (e2 .before .child-of .ensures) (h .sized .live) (e2 .if2 .left))
+    (h, (omega arith, root-live x (h .sound) (tops e (h .sound))), no-child x 0 (omega arith) _ (e2 .before .has-child .ensures) (h .sized .live) (e2 .if2 .left))
 
 returns-3 : tie.Need-returns-3
 returns-3 c h =
@@ -42,8 +42,8 @@ returns-3 c h =
     let e = e2 .before .before .before .before in
     let x = state (e .before) in
     let t = tops e (h .sound) in
-    let r = c .close .ensures h (omega arith, root-live x (h .sound) t) (no-child x 0 _ (omega arith) (e2 .before .child-of .ensures) (h .sized .live) (e2 .if2 .left)) in
-    (last-closes x (h .sound) t _ (e2 .before .child-of .ensures) (e2 .if2 .left) _ (r .0), r .1)
+    let r = c .close .ensures h (omega arith, root-live x (h .sound) t) (no-child x 0 (omega arith) _ (e2 .before .has-child .ensures) (h .sized .live) (e2 .if2 .left)) in
+    (last-closes x (h .sound) t _ (e2 .before .has-child .ensures) (e2 .if2 .left) _ (r .0), r .1)
 
 pub pop-last-spec : {M : Type 1} → statement M
-pop-last-spec = tie.close (tie.spec returns child-of-requires returns-2 close-requires returns-3)
+pop-last-spec = tie.close (tie.spec returns has-child-requires returns-2 close-requires returns-3)
