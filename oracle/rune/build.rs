@@ -9,15 +9,20 @@ use std::{env, fs};
 
 const DEFAULT: &str = "../shared/docs/src";
 
+/// The message is all that a person sees.
+fn stop(message: &str) -> ! {
+    println!("cargo::error={message}");
+    std::process::exit(0)
+}
+
 fn read(path: &Path) -> Vec<u8> {
     println!("cargo::rerun-if-changed={}", path.display());
-    match fs::read(path) {
-        Ok(bytes) => bytes,
-        Err(error) => panic!(
-            "{}: {error}. MBOXALIND_ORIGINAL has to name the folder of the original",
+    fs::read(path).unwrap_or_else(|error| {
+        stop(&format!(
+            "{}: {error}. MBOXALIND_ORIGINAL has to name the folder of the original, which has src/compile/v1/ in it",
             path.display()
-        ),
-    }
+        ))
+    })
 }
 
 /// The file's text, if its checksum is the one that stands beside its name.
@@ -25,7 +30,9 @@ fn checked(folder: &Path, name: &str, sum: &str) -> Vec<u8> {
     let path = folder.join(name);
     let text = read(&path);
     let found = sha256::hex(&text);
-    assert!(found == sum, "{} changed: {found}", path.display());
+    if found != sum {
+        stop(&format!("{} changed: {found}", path.display()));
+    }
     text
 }
 
