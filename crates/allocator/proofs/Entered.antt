@@ -2,7 +2,8 @@
 use mathlib.Core.Path.{_≡_}
 use mathlib.Core.Bool.{Bool, true, false, not}
 use borrow.Author.Tests.{not-true, not-false}
-use Rattle.rules.proofs.Tells.{Tells, clash}
+use Rattle.rules.specs.Tells.{Tells}
+use Rattle.rules.proofs.Tells.{clash}
 use Rattle.scopes.specs.Sound.{Sound}
 use Rattle.scopes.specs.declared.Scopes.{Scopes}
 use Rattle.soundness.specs.Canonical.{Good}

@@ -11,9 +11,10 @@ use Rattle.rules.specs.Sizes.{Room}
 use Rattle.rules.specs.AddressSets.{member}
 use Rattle.rules.specs.Scopes.{Scope, Scopes}
 use Rattle.rules.specs.Sound.{leads}
+use Rattle.rules.specs.Tells.{Tells}
 use Rattle.rules.proofs.Sets.{member-cons, Once, once-nil, once, Within, pigeons}
 use Rattle.rules.proofs.Sound.{Leads, root, up}
-use Rattle.rules.proofs.Tells.{Tells, clash, is-false, tells-and, tells-eq, tells-ne, tells-lt, tells-true}
+use Rattle.rules.proofs.Tells.{clash, is-false, tells-and, tells-eq, tells-ne, tells-lt, tells-true}
 
 -- ---- how far it is to root
 

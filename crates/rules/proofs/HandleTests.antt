@@ -8,8 +8,9 @@ use borrow.Author.Tests.{eq-eqb}
 use Rattle.rules.specs.Sizes.{Room}
 use Rattle.rules.specs.Frames.{State}
 use Rattle.rules.specs.Sound.{one, sumBelow, holders, soundHandles, agreeing, soundState}
+use Rattle.rules.specs.Tells.{Tells}
 use Rattle.rules.proofs.Sound.{Every, HandlesSound, Agrees, StateSound}
-use Rattle.rules.proofs.Tells.{Tells, decided, clash, tells-as, tells-and, tells-implies, tells-true, tells-lt, tells-le, tells-eq, tells-below, tells-every}
+use Rattle.rules.proofs.Tells.{decided, clash, tells-as, tells-and, tells-implies, tells-true, tells-lt, tells-le, tells-eq, tells-below, tells-every}
 use Rattle.rules.proofs.Counts.{sum-none, sum-only, sum-at, sum-single, sum-some}
 use Rattle.rules.proofs.Tests.{tells-sound}
 

@@ -1,5 +1,4 @@
--- A test tells a fact: it answers yes exactly where the fact holds. One law for each way in which the tests of specs/Sound are put together.
--- Assumes nothing.
+-- A test tells a fact (specs/Tells). One law for each way in which the tests of specs/Sound are put together. Assumes nothing.
 use mathlib.Core.Path.{_≡_, refl, sym, subst, _∙_}
 use mathlib.Core.Bool.{Bool, true, false, not, _&&_, true≢false}
 use mathlib.Core.List.{List, [], _∷_}
@@ -8,12 +7,9 @@ use native.Mathlib.Omega.{arith}
 use lib.Dec.{eqb, leb, ltb}
 use borrow.Author.Tests.{eqb-true, eq-eqb, leb-true, le-leb, ltb-true, lt-ltb, not-true}
 use Rattle.rules.specs.Notation.{implies, allBelow, allOf}
+use Rattle.rules.specs.Tells.{Tells}
 use Rattle.rules.proofs.Tables.{by-eqb}
 use Rattle.rules.proofs.Sound.{Every, every-nil, every}
-
-pub record Tells (r : Bool) (P : Type 0) : Type 0 where
-  pub holds : r ≡ true → P
-  pub shows : P → r ≡ true
 
 -- yes or no
 pub decided {ℓ} : {X : Type ℓ} (b : Bool) → (b ≡ true → X) → (b ≡ false → X) → X

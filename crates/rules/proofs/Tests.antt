@@ -12,10 +12,11 @@ use Rattle.rules.specs.Slots.{Slots}
 use Rattle.rules.specs.AddressSets.{member, repeatsNothing}
 use Rattle.rules.specs.Scopes.{Binding, Scopes, boundIn}
 use Rattle.rules.specs.Sound.{one, sumBelow, times, soundSlots, soundTop, soundParents, onLists, soundOwners, soundDangling, bindsOnce, soundBindings, soundSize, sound}
+use Rattle.rules.specs.Tells.{Tells}
 use Rattle.rules.proofs.Chains.{none-some}
 use Rattle.rules.proofs.Sets.{member-same, member-tail, member-cons, Once, once-nil, once, Within}
 use Rattle.rules.proofs.Sound.{Every, every-nil, every, SlotsSound, IsLive, TopSound, Rooted, OwnedSound, listsOf, DanglingSound, BindsOnce, binds-nil, binds, SizeSound, Sound}
-use Rattle.rules.proofs.Tells.{Tells, decided, is-false, clash, tells-as, tells-and, tells-implies, tells-true, tells-not, tells-lt, tells-le, tells-eq, tells-below, tells-every}
+use Rattle.rules.proofs.Tells.{decided, is-false, clash, tells-as, tells-and, tells-implies, tells-true, tells-not, tells-lt, tells-le, tells-eq, tells-below, tells-every}
 use Rattle.rules.proofs.Counts.{times-member, times-none, times-once, once-times, sum-none, sum-only, sum-at, sum-single, sum-some}
 use Rattle.rules.proofs.Climb.{tells-leads}
 

@@ -1,4 +1,5 @@
 pub mod Notation
+pub mod Tells
 pub mod Sizes
 pub mod Slots
 pub mod AddressSets

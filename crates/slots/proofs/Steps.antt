@@ -10,10 +10,11 @@ use borrow.Author.Tests.{eq-eqb, ne-eqb, lt-ltb, le-ltb, not-true, not-false}
 use Rattle.rules.specs.Notation.{Answer, given, put, pastLast}
 use Rattle.rules.specs.Sound.{soundSlots}
 use Rattle.rules.specs.Slots.{Slots, Placed, placed, startOf, insertNew, insert, pastGreatest, pushAt, push, removes, remove}
+use Rattle.rules.specs.Tells.{Tells}
 use Rattle.rules.proofs.Searches.{first-found, first-none, past-within, past-above, past-last}
 use Rattle.rules.proofs.Placing.{clear, leastClear, insertShort, insert-short}
 use Rattle.rules.proofs.Sound.{SlotsSound}
-use Rattle.rules.proofs.Tells.{Tells, is-false, clash, tells-as, tells-and, tells-lt, tells-le}
+use Rattle.rules.proofs.Tells.{is-false, clash, tells-as, tells-and, tells-lt, tells-le}
 use Rattle.rules.proofs.Tests.{tells-slots}
 use Rattle.slots.specs.Halves.{firstClear, grownTo}
 use Rattle.slots.specs.Promises.{Seen, refusing, placedOr7, removal, checked}

@@ -15,10 +15,11 @@ use Rattle.rules.specs.Sizes.{base}
 use Rattle.rules.specs.AddressSets.{member}
 use Rattle.rules.specs.Scopes.{Scope, Binding, isFor, boundIn}
 use Rattle.rules.specs.Sound.{sound}
+use Rattle.rules.specs.Tells.{Tells}
 use Rattle.rules.proofs.Chains.{none-some}
 use Rattle.rules.proofs.Sets.{member-same, Once}
 use Rattle.rules.proofs.Sound as rule
-use Rattle.rules.proofs.Tells.{Tells, decided, clash, tells-as}
+use Rattle.rules.proofs.Tells.{decided, clash, tells-as}
 use Rattle.rules.proofs.Tests.{tells-sound}
 use Rattle.slots.specs.Halves.{occ}
 use Rattle.links.proofs.Rings.{ring-once}

@@ -8,17 +8,17 @@ use mathlib.Core.List.{List, []}
 use Prim.Native.Nat.{ℕ, zero, suc, _-_, _≤_, _<_}
 use native.Mathlib.Decide.{decLt}
 use native.Mathlib.Omega.{arith}
-use lib.Dec.{eqb, ltb}
+use lib.Dec.{eqb}
 use lib.ListN.{length, getD, set, replicate, length-replicate, length-set, List·getD-eq-default}
 use lib.Seq.{getD-set-other}
-use borrow.Author.Tests.{eq-eqb, ne-eqb, eqb-true, lt-ltb, le-ltb, ltb-true, ltb-false}
-use Rattle.rules.specs.Notation.{isSome}
+use borrow.Author.Tests.{eq-eqb, ne-eqb, eqb-true, lt-ltb, le-ltb}
 use Rattle.rules.specs.Scopes.{Scope}
+use Rattle.rules.specs.Tells.{Tells}
 use Rattle.rules.proofs.Tables.{by-eqb}
 use Rattle.rules.proofs.Chains.{none-some}
 use Rattle.rules.proofs.Sound as rule
 use Rattle.rules.proofs.Climb.{height, height-below}
-use Rattle.rules.proofs.Tells.{Tells, decided, clash}
+use Rattle.rules.proofs.Tells.{decided, clash}
 use Rattle.scopes.specs.View.{index, onlyIf, scopeAt, scopesFrom}
 use Rattle.scopes.specs.Sound.{Leads, root, up}
 use Rattle.soundness.specs.Parts.{climb, Known}

@@ -3,11 +3,12 @@ use mathlib.Core.Path.{_≡_}
 use mathlib.Core.Logic.{_≢_}
 use mathlib.Core.Bool.{Bool, true, false}
 use mathlib.Core.List.{List, [], _∷_}
-use Prim.Native.Nat.{ℕ, zero, suc, _≤_, _<_}
+use Prim.Native.Nat.{ℕ, zero, suc, _≤_}
 use native.Mathlib.Omega.{arith}
 use lib.ListN.{length, getD}
 use Rattle.rules.specs.Scopes.{Binding, isFor}
-use Rattle.rules.proofs.Tells.{Tells, is-false, clash, tells-and, tells-eq}
+use Rattle.rules.specs.Tells.{Tells}
+use Rattle.rules.proofs.Tells.{is-false, clash, tells-and, tells-eq}
 use Rattle.scopes.specs.View.{binding, bindingsOf}
 use Rattle.scopes.specs.Sound.{Each, BoundOnce, Named}
 use Rattle.soundness.specs.Parts.{Below, LiveAt, Distinct}

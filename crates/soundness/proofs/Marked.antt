@@ -12,9 +12,9 @@ use lib.ListN.{length, getD, set, length-set}
 use lib.Seq.{getD-set-same, getD-set-other}
 use borrow.Author.Tests.{eq-eqb, ne-eqb, eqb-true}
 use Rattle.rules.specs.AddressSets.{member}
+use Rattle.rules.specs.Tells.{Tells}
 use Rattle.rules.proofs.Tables.{by-eqb}
 use Rattle.rules.proofs.Sets.{member-same, member-skip}
-use Rattle.rules.proofs.Tells.{Tells}
 use Rattle.links.specs.Links.{nextIn, prevIn, nowhere}
 use Rattle.links.specs.Follow.{follow, lists}
 use Rattle.scopes.specs.Sound.{Ringed}

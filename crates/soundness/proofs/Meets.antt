@@ -3,7 +3,7 @@ use mathlib.Core.Path.{_≡_, sym, ap, _∙_, subst}
 use mathlib.Core.Logic.{_≢_}
 use mathlib.Core.Bool.{Bool, true, false}
 use mathlib.Core.List.{List}
-use Prim.Native.Nat.{ℕ, _+_, _≤_, _<_}
+use Prim.Native.Nat.{ℕ, _+_, _<_}
 use native.Mathlib.Nat.{zero-div}
 use native.Mathlib.Omega.{arith}
 use lib.ListN.{length, getD, set, replicate}
@@ -13,7 +13,7 @@ use Rattle.rules.proofs.Tables.{by-eqb, put-same, put-other}
 use Rattle.rules.proofs.Tells.{clash}
 use Rattle.slots.specs.Halves.{bit}
 use Rattle.slots.proofs.Occupied.{zero-half}
-use Rattle.soundness.specs.Parts.{Below, scopeOf, nameOf, Distinct, Place, Met}
+use Rattle.soundness.specs.Parts.{scopeOf, nameOf, Distinct, Place, Met}
 
 no-bit : (k i : ℕ) → bit (getD (replicate 256 0) k 0) i ≡ false
 no-bit k i = rw (zero-half 256 k, zero-div)

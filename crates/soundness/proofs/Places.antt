@@ -11,9 +11,10 @@ use lib.ListN.{length, getD}
 use borrow.Author.Tests.{eq-eqb, eqb-true, lt-ltb, le-ltb, ltb-true, not-true}
 use Rattle.rules.specs.Sizes.{base}
 use Rattle.rules.specs.Sound.{soundSlots}
+use Rattle.rules.specs.Tells.{Tells}
 use Rattle.rules.proofs.Sound.{SlotsSound}
 use Rattle.rules.proofs.Tests.{tells-slots}
-use Rattle.rules.proofs.Tells.{Tells, is-false, clash, tells-as}
+use Rattle.rules.proofs.Tells.{is-false, clash, tells-as}
 use Rattle.slots.specs.Halves.{occ, slotsOf}
 use Rattle.scopes.specs.Sound.{Slotted, Leads, Rooted, Owned}
 use Rattle.soundness.specs.Parts.{Below, ownerOf, OwnedAt, RootedAt, Topped}

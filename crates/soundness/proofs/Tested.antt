@@ -4,7 +4,8 @@ use mathlib.Core.Bool.{Bool, true, false, true≢false}
 use Prim.Native.Nat.{ℕ, _+_, _≤_, _<_}
 use native.Mathlib.Omega.{arith}
 use Rattle.rules.proofs.Tables.{by-eqb}
-use Rattle.rules.proofs.Tells.{Tells, clash, is-false}
+use Rattle.rules.specs.Tells.{Tells}
+use Rattle.rules.proofs.Tells.{clash, is-false}
 use Rattle.soundness.specs.Parts.{Below}
 
 pub no : {P : Type 0} → (P → ⊥) → Tells false P

@@ -2,7 +2,7 @@
 ghost use mathlib.Core.Path.{_≡_};
 ghost use Prim.Native.Nat.{ℕ, _<_, _≤_};
 ghost use lib.ListN.{length, getD};
-ghost use Rattle.rules.proofs.Tells.{Tells};
+ghost use Rattle.rules.specs.Tells.{Tells};
 ghost use Rattle.scopes.specs.Sound.{Named};
 ghost use Rattle.soundness.specs.Parts.{Below, scopeOf, LiveAt, Distinct, Place};
 use scopes::open;

@@ -5,7 +5,7 @@ pub mod owners;
 pub mod parents;
 pub mod rings;
 
-ghost use Rattle.rules.proofs.Tells.{Tells};
+ghost use Rattle.rules.specs.Tells.{Tells};
 ghost use Rattle.scopes.specs.Sound.{Sound};
 ghost use Rattle.soundness.specs.Canonical.{Good};
 use scopes::Scopes;

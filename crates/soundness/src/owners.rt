@@ -1,7 +1,7 @@
 // "each occupied slot is once on one live scope's list and no other slot is on any"; "size is above every occupied slot and at most 1,024":
 // address by address, by the owner table.
 ghost use Prim.Native.Nat.{_<_};
-ghost use Rattle.rules.proofs.Tells.{Tells};
+ghost use Rattle.rules.specs.Tells.{Tells};
 ghost use Rattle.scopes.specs.Sound.{Owned};
 ghost use Rattle.soundness.specs.Parts.{OwnedAt};
 use scopes::open;

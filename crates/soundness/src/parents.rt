@@ -1,10 +1,9 @@
 // "top is live, or nothing is; every live scope's parents are live and lead to root": of any content, so the climb has a bound on its steps.
 ghost use mathlib.Core.Path.{_≡_};
-ghost use mathlib.Core.Logic.{_⊎_};
 ghost use mathlib.Core.Bool.{true, false};
-ghost use Prim.Native.Nat.{ℕ, _<_};
+ghost use Prim.Native.Nat.{_<_};
 ghost use lib.ListN.{length, getD};
-ghost use Rattle.rules.proofs.Tells.{Tells};
+ghost use Rattle.rules.specs.Tells.{Tells};
 ghost use Rattle.scopes.specs.Sound.{Rooted, Leads};
 ghost use Rattle.soundness.specs.Parts.{Below, Known, RootedAt, Topped};
 use scopes::open;

@@ -3,7 +3,7 @@ ghost use mathlib.Core.Path.{_≡_};
 ghost use mathlib.Core.Bool.{true, false};
 ghost use Prim.Native.Nat.{_<_};
 ghost use lib.ListN.{length, getD};
-ghost use Rattle.rules.proofs.Tells.{Tells};
+ghost use Rattle.rules.specs.Tells.{Tells};
 ghost use Rattle.links.specs.Follow.{lists};
 ghost use Rattle.scopes.specs.Sound.{Ringed};
 ghost use Rattle.soundness.specs.Parts.{Below, round, mark, lastOf, Marks, MarkedAt};

@@ -6,7 +6,8 @@ use borrow.Author.Tests.{not-true, not-false}
 use borrow.Author.Needs.{needs}
 use Rattle.rules.specs.Sizes.{base}
 use Rattle.rules.specs.Sound.{soundSlots}
-use Rattle.rules.proofs.Tells.{Tells, tells-as}
+use Rattle.rules.specs.Tells.{Tells}
+use Rattle.rules.proofs.Tells.{tells-as}
 use Rattle.slots.specs.Halves.{slotsOf}
 use Rattle.scopes.specs.Sound.{Sound, Slotted}
 use Rattle.soundness.specs.Canonical.{Good}
