@@ -68,25 +68,14 @@ pub fn dangle<'a>(
     requires { ⌜ ((s : Scopes) × Whole (withScopes s (now live) (now dangled) (now parent) (now number) n)) ⌝ }
     ensures { λ r. ⌜ ((s : Scopes) → Becomes (withScopes s (now (live .entry)) (now (dangled .entry)) (now (parent .entry)) (now (number .entry)) n) (withScopes s (now (live .entry)) (now (dangled .exit)) (now (parent .entry)) (now (number .entry)) (r .numbers)) (r .reply) (λ c. toldOnly c (rule.dangleScope (rule.byId base c (idOf id)) c))) ⌝ }
 {
-    let i = open::place_of(live, number, id);
-    if i == 64 {
+    let no = open::refusal(live, dangled, number, id, false);
+    if no != 0 {
         return LentOutcome {
             numbers: n,
-            reply: Reply::Refused(4),
+            reply: Reply::Refused(no),
         };
     }
-    if dangled[i] {
-        return LentOutcome {
-            numbers: n,
-            reply: Reply::Refused(5),
-        };
-    }
-    if i == 0 {
-        return LentOutcome {
-            numbers: n,
-            reply: Reply::Refused(5),
-        };
-    }
+    let i = open::wide8(id.index);
     dangled[i] = true;
     LentOutcome {
         numbers: Numbers {
@@ -112,25 +101,14 @@ pub fn restore<'a>(
     requires { ⌜ ((s : Scopes) × Whole (withScopes s (now live) (now dangled) (s .parent) (now number) n)) ⌝ }
     ensures { λ r. ⌜ ((s : Scopes) → Becomes (withScopes s (now (live .entry)) (now (dangled .entry)) (s .parent) (now (number .entry)) n) (withScopes s (now (live .entry)) (now (dangled .exit)) (s .parent) (now (number .entry)) (r .numbers)) (r .reply) (λ c. toldOnly c (rule.restoreScope (rule.byId base c (idOf id)) c))) ⌝ }
 {
-    let i = open::place_of(live, number, id);
-    if i == 64 {
+    let no = open::refusal(live, dangled, number, id, true);
+    if no != 0 {
         return LentOutcome {
             numbers: n,
-            reply: Reply::Refused(4),
+            reply: Reply::Refused(no),
         };
     }
-    if !dangled[i] {
-        return LentOutcome {
-            numbers: n,
-            reply: Reply::Refused(5),
-        };
-    }
-    if i == 0 {
-        return LentOutcome {
-            numbers: n,
-            reply: Reply::Refused(5),
-        };
-    }
+    let i = open::wide8(id.index);
     dangled[i] = false;
     LentOutcome {
         numbers: Numbers {
