@@ -1,22 +1,21 @@
 -- A scope is dangled, or restored. Assumes nothing.
 use mathlib.Core.Path.{_≡_, refl, sym, ap, _∙_, subst}
-use mathlib.Core.Logic.{_≢_, _⊎_, inl, inr, by-cases}
+use mathlib.Core.Logic.{_≢_, inl}
 use mathlib.Core.Bool.{Bool, true, false, not, _||_}
-use mathlib.Core.Option.{Option, none, some}
+use mathlib.Core.Option.{Option, some}
 use mathlib.Core.List.{List}
-use Prim.Native.Nat.{ℕ, _≤_, _<_}
-use native.Mathlib.Decide.{ℕ-discrete}
+use Prim.Native.Nat.{ℕ, _<_}
 use native.Mathlib.Omega.{arith}
 use lib.Dec.{eqb}
 use lib.ListN.{length, getD, set, length-set}
 use lib.Seq.{getD-set-same, getD-set-other}
-use borrow.Author.Tests.{lt-ltb, eq-eqb, ne-eqb}
+use borrow.Author.Tests.{lt-ltb, ne-eqb}
 use Rattle.rules.specs.Notation.{_>>=_, refuse_unless_, refuse_when_, put}
 use Rattle.rules.specs.Sizes.{base}
 use Rattle.rules.specs.Scopes as rule
 use Rattle.rules.proofs.Tells.{clash}
-use Rattle.scopes.specs.View.{held, index, view, scopeOf, toldOnly}
-use Rattle.scopes.specs.Sound.{Sound, Rooted, Leads, root, up, Sized}
+use Rattle.scopes.specs.View.{index, view, scopeOf, toldOnly}
+use Rattle.scopes.specs.Sound.{Sound, Leads, root, up, Sized}
 use Rattle.scopes.specs.Leaves.{placeOf, refusal}
 use Rattle.scopes.specs.Lent.{Whole}
 use Rattle.scopes.specs.declared.Scopes.{Scopes}

@@ -1,13 +1,11 @@
 -- Which scope is popped, and by which number it is refused; root at the end. Assumes nothing.
-use mathlib.Core.Path.{_≡_, refl, sym, ap, _∙_, subst}
+use mathlib.Core.Path.{_≡_, refl, sym, ap, _∙_}
 use mathlib.Core.Logic.{_≢_}
 use mathlib.Core.Bool.{Bool, true, false, _||_}
-use mathlib.Core.Option.{Option, none, some}
-use Prim.Native.Nat.{ℕ, _≤_, _<_}
-use native.Mathlib.Omega.{arith}
+use Prim.Native.Nat.{ℕ, _<_}
 use lib.Dec.{eqb}
-use lib.ListN.{length, getD}
-use borrow.Author.Tests.{eq-eqb, ne-eqb}
+use lib.ListN.{getD}
+use borrow.Author.Tests.{ne-eqb}
 use Rattle.rules.specs.Notation.{Answer, given, _>>=_, refuse_unless_, refuse_when_}
 use Rattle.rules.specs.Sizes.{base}
 use Rattle.rules.specs.Scopes as rule
@@ -17,7 +15,7 @@ use Rattle.scopes.specs.Leaves.{hasChild, placeOf, refusal}
 use Rattle.scopes.specs.Lent.{shut}
 use Rattle.scopes.specs.declared.Scopes.{Scopes}
 use Rattle.scopes.specs.declared.Reply.the-variants.{Done, Refused}
-use Rattle.scopes.proofs.Finds.{Known, no-top, Topped, has-child}
+use Rattle.scopes.proofs.Finds.{no-top, Topped, has-child}
 use Rattle.scopes.proofs.Refusals.{Admitted, refused-by}
 use Rattle.scopes.proofs.Marks.{leads-root}
 

@@ -13,7 +13,6 @@ use borrow.Author.Tests.{eq-eqb, ne-eqb, ltb-true}
 use Rattle.rules.specs.Notation.{Answer, refused, _>>=_, refuse_unless_, refuse_when_}
 use Rattle.rules.specs.Sizes.{base}
 use Rattle.rules.specs.Scopes as rule
-use Rattle.rules.proofs.Tells.{clash}
 use Rattle.scopes.specs.View.{view}
 use Rattle.scopes.specs.Leaves.{hasNumber, placeOf, differs, refusal}
 use Rattle.scopes.specs.declared.Scopes.{Scopes}

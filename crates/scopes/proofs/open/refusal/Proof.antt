@@ -1,6 +1,6 @@
 -- Why a scope is refused, by its id. Assumes nothing.
 use mathlib.Core.Path.{_≡_, subst}
-use Prim.Native.Nat.{ℕ, _<_}
+use Prim.Native.Nat.{ℕ}
 use native.Mathlib.Omega.{arith}
 use Rattle.scopes.specs.Leaves.{placeOf, refusal}
 use Rattle.scopes.proofs.Refusals.{placed, unmet, at-root, other-mark, not-refused}
