@@ -34,14 +34,9 @@ pub fn empty(
         head = a / 128;
         a = links::first(links, i);
     }
-    Numbers {
-        count: n.count,
-        segments: n.segments,
-        head: head,
-        top: n.top,
-        counter: n.counter,
-        size: n.size,
-    }
+    let mut m = n;
+    m.head = head;
+    m
 }
 
 // Scope i, which is live, is closed: its addresses dangle, its bindings go, top becomes its parent. 6.
@@ -66,22 +61,15 @@ pub fn close(
             reply: Reply::Refused(6),
         };
     }
-    let m = empty(halves, links, owner, n, i);
-    let count = names::forget_names(bindings, m.count, i);
-    let up = open::wide8(parent[i]);
+    let mut m = empty(halves, links, owner, n, i);
+    m.count = names::forget_names(bindings, m.count, i);
+    m.top = open::wide8(parent[i]);
     live[i] = false;
     dangled[i] = false;
     parent[i] = 64;
     number[i] = 0;
     LentOutcome {
-        numbers: Numbers {
-            count: count,
-            segments: m.segments,
-            head: m.head,
-            top: up,
-            counter: m.counter,
-            size: m.size,
-        },
+        numbers: m,
         reply: Reply::Done,
     }
 }

@@ -112,15 +112,10 @@ pub fn define(
         };
     }
     bindings[count] = b;
+    let mut m = n;
+    m.count = count + 1;
     LentOutcome {
-        numbers: Numbers {
-            count: count + 1,
-            segments: n.segments,
-            head: n.head,
-            top: top,
-            counter: n.counter,
-            size: n.size,
-        },
+        numbers: m,
         reply: Reply::Done,
     }
 }

@@ -36,23 +36,19 @@ pub fn child(
             reply: Reply::Refused(8),
         };
     }
-    let m = n.counter;
+    let id = ScopeId {
+        index: i as u8,
+        number: n.counter,
+    };
     live[i] = true;
     parent[i] = top as u8;
-    number[i] = m;
+    number[i] = id.number;
+    let mut m = n;
+    m.top = i;
+    m.counter = std::num::wrapping_add_u32(id.number, 1);
     LentOutcome {
-        numbers: Numbers {
-            count: n.count,
-            segments: n.segments,
-            head: n.head,
-            top: i,
-            counter: std::num::wrapping_add_u32(m, 1),
-            size: n.size,
-        },
-        reply: Reply::Opened(ScopeId {
-            index: i as u8,
-            number: m,
-        }),
+        numbers: m,
+        reply: Reply::Opened(id),
     }
 }
 
@@ -77,15 +73,10 @@ pub fn dangle<'a>(
     }
     let i = open::wide8(id.index);
     dangled[i] = true;
+    let mut m = n;
+    m.top = open::wide8(parent[i]);
     LentOutcome {
-        numbers: Numbers {
-            count: n.count,
-            segments: n.segments,
-            head: n.head,
-            top: open::wide8(parent[i]),
-            counter: n.counter,
-            size: n.size,
-        },
+        numbers: m,
         reply: Reply::Done,
     }
 }
@@ -110,15 +101,10 @@ pub fn restore<'a>(
     }
     let i = open::wide8(id.index);
     dangled[i] = false;
+    let mut m = n;
+    m.top = i;
     LentOutcome {
-        numbers: Numbers {
-            count: n.count,
-            segments: n.segments,
-            head: n.head,
-            top: i,
-            counter: n.counter,
-            size: n.size,
-        },
+        numbers: m,
         reply: Reply::Done,
     }
 }

@@ -56,8 +56,8 @@ mul-bindings-2 c = search needs
 element-write-bindings-2 : tie.Need-element-write-bindings-2
 element-write-bindings-2 c = search needs
 
-add-t18 : tie.Need-add-t18
-add-t18 c = search needs
+add-m : tie.Need-add-m
+add-m c = search needs
 
 returns-4 : tie.Need-returns-4
 returns-4 c s h =
@@ -80,5 +80,5 @@ define-spec =
     returns-3
     mul-bindings-2
     element-write-bindings-2
-    add-t18
+    add-m
     returns-4)
