@@ -4,7 +4,7 @@ use mathlib.Core.Logic.{_≢_, ⊎-elim, by-cases}
 use mathlib.Core.Bool.{Bool, true, false, not, _&&_}
 use mathlib.Core.Option.{Option, none, some}
 use mathlib.Core.List.{List}
-use Prim.Native.Nat.{ℕ, zero, suc, _≤_, _<_}
+use Prim.Native.Nat.{ℕ, _≤_, _<_}
 use native.Mathlib.Decide.{decLt}
 use native.Mathlib.Omega.{arith}
 use lib.Dec.{eqb, ltb}
@@ -17,7 +17,7 @@ use Rattle.rules.proofs.Searches.{first-none}
 use Rattle.rules.proofs.Tells.{clash}
 use Rattle.scopes.specs.View.{view, index, onlyIf, scopeOf, foundAt, opened, replied}
 use Rattle.scopes.specs.Sound.{Sound}
-use Rattle.scopes.specs.Leaves.{lowest, isFree, hasNumber, childOf, hasChild, placeOf, NoChild}
+use Rattle.scopes.specs.Leaves.{lowest, hasNumber, childOf, hasChild, placeOf, NoChild}
 use Rattle.scopes.specs.declared.Scopes.{Scopes}
 use Rattle.scopes.specs.declared.Reply.the-variants.{Refused}
 use Rattle.scopes.proofs.Tables.{and-left, and-right, none-is, Low, low}

@@ -1,5 +1,6 @@
 pub mod Tables
 pub mod Finds
+pub mod Refusals
 pub mod Start
 pub mod Opens
 pub mod Marks

@@ -1,26 +1,28 @@
 -- A scope is dangled, or restored. Assumes nothing.
 use mathlib.Core.Path.{_≡_, refl, sym, ap, _∙_, subst}
-use mathlib.Core.Logic.{_≢_, _⊎_, inl, inr, by-cases}
+use mathlib.Core.Logic.{_≢_, inl}
 use mathlib.Core.Bool.{Bool, true, false, not, _||_}
-use mathlib.Core.Option.{Option, none, some}
+use mathlib.Core.Option.{Option, some}
 use mathlib.Core.List.{List}
-use Prim.Native.Nat.{ℕ, _≤_, _<_}
-use native.Mathlib.Decide.{ℕ-discrete}
+use Prim.Native.Nat.{ℕ, _<_}
 use native.Mathlib.Omega.{arith}
 use lib.Dec.{eqb}
 use lib.ListN.{length, getD, set, length-set}
 use lib.Seq.{getD-set-same, getD-set-other}
-use borrow.Author.Tests.{lt-ltb, eq-eqb, ne-eqb}
+use borrow.Author.Tests.{lt-ltb, ne-eqb}
 use Rattle.rules.specs.Notation.{_>>=_, refuse_unless_, refuse_when_, put}
+use Rattle.rules.specs.Sizes.{base}
 use Rattle.rules.specs.Scopes as rule
 use Rattle.rules.proofs.Tells.{clash}
-use Rattle.scopes.specs.View.{held, index, view, scopeOf, toldOnly}
-use Rattle.scopes.specs.Sound.{Sound, Rooted, Leads, root, up, Sized}
+use Rattle.scopes.specs.View.{index, view, scopeOf, toldOnly}
+use Rattle.scopes.specs.Sound.{Sound, Leads, root, up, Sized}
+use Rattle.scopes.specs.Leaves.{placeOf, refusal}
 use Rattle.scopes.specs.Lent.{Whole}
 use Rattle.scopes.specs.declared.Scopes.{Scopes}
 use Rattle.scopes.specs.declared.Reply.the-variants.{Done, Refused}
 use Rattle.scopes.proofs.Tables.{put-ext}
 use Rattle.scopes.proofs.Finds.{Known, in-range}
+use Rattle.scopes.proofs.Refusals.{refused-by}
 
 abbrev pub marked : Scopes → ℕ → Bool → ℕ → Scopes
 marked s i b top =
@@ -40,10 +42,6 @@ marked s i b top =
       counter = s .counter;
       size = s .size;
     }
-
-or-true : (a : Bool) → (a || true) ≡ true
-or-true true = refl
-or-true false = refl
 
 pub leads-live : {live : List Bool} {parent : List ℕ} {j : ℕ} → Leads live parent j → getD live j false ≡ true
 leads-live (root l q) = l
@@ -88,32 +86,17 @@ marked-sized : (s : Scopes) → Sized s → (i : ℕ) (b : Bool) (top : ℕ) →
 marked-sized s z i b top =
     record { halves = z .halves; links = z .links; owner = z .owner; live = z .live; dangled = length-set (s .dangled) i b ∙ z .dangled; parent = z .parent; number = z .number; bindings = z .bindings }
 
+module _ (s : Scopes) (id : rule.Id) (r : ℕ) where
+  pub dangle-refused : r ≡ refusal (s .dangled) false (placeOf (s .live) (s .number) (id .index) (id .number)) → r ≢ 0 → record { next = view s; says = Refused r } ≡ toldOnly (view s) (rule.dangleScope (rule.byId base (view s) id) (view s))
+  unfolding rule.dangleScope
+  dangle-refused e n = sym (ap (toldOnly (view s)) (refused-by s id false r e _ n))
+
+  pub restore-refused : r ≡ refusal (s .dangled) true (placeOf (s .live) (s .number) (id .index) (id .number)) → r ≢ 0 → record { next = view s; says = Refused r } ≡ toldOnly (view s) (rule.restoreScope (rule.byId base (view s) id) (view s))
+  unfolding rule.restoreScope
+  restore-refused e n = sym (ap (toldOnly (view s)) (refused-by s id true r e _ n))
+
 module _ (s : Scopes) (o : Option rule.Found) where
-  pub dangle-none : o ≡ none → record { next = view s; says = Refused 4 } ≡ toldOnly (view s) (rule.dangleScope o (view s))
-  unfolding rule.dangleScope _>>=_ refuse_unless_
-  dangle-none e = rw e
-
-  pub restore-none : o ≡ none → record { next = view s; says = Refused 4 } ≡ toldOnly (view s) (rule.restoreScope o (view s))
-  unfolding rule.restoreScope _>>=_ refuse_unless_
-  restore-none e = rw e
-
   module _ (i : ℕ) (k : Known s o i) where
-    pub dangle-dangled : getD (s .dangled) i false ≡ true → record { next = view s; says = Refused 5 } ≡ toldOnly (view s) (rule.dangleScope o (view s))
-    unfolding rule.dangleScope _>>=_ refuse_unless_ refuse_when_
-    dangle-dangled d = rw (k .is, d)
-
-    pub dangle-root : getD (s .dangled) i false ≡ false → i ≡ 0 → record { next = view s; says = Refused 5 } ≡ toldOnly (view s) (rule.dangleScope o (view s))
-    unfolding rule.dangleScope _>>=_ refuse_unless_ refuse_when_
-    dangle-root d e = rw (k .is, d, eq-eqb i 0 e)
-
-    pub restore-undangled : getD (s .dangled) i false ≡ false → record { next = view s; says = Refused 5 } ≡ toldOnly (view s) (rule.restoreScope o (view s))
-    unfolding rule.restoreScope _>>=_ refuse_unless_ refuse_when_
-    restore-undangled d = rw (k .is, d)
-
-    pub restore-root : getD (s .dangled) i false ≡ true → i ≡ 0 → record { next = view s; says = Refused 5 } ≡ toldOnly (view s) (rule.restoreScope o (view s))
-    unfolding rule.restoreScope _>>=_ refuse_unless_ refuse_when_
-    restore-root d e = rw (k .is, d, eq-eqb i 0 e)
-
     module _ (h : Sound s) (z : Sized s) (nz : i ≢ 0) where
       pub dangle-marks : getD (s .dangled) i false ≡ false → (p : ℕ) → p ≡ getD (s .parent) i 0
           → (record { next = view (marked s i true p); says = Done } ≡ toldOnly (view s) (rule.dangleScope o (view s))) × Whole (marked s i true p)

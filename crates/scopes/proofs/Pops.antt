@@ -1,52 +1,41 @@
 -- Which scope is popped, and by which number it is refused; root at the end. Assumes nothing.
-use mathlib.Core.Path.{_≡_, refl, sym, ap, _∙_, subst}
+use mathlib.Core.Path.{_≡_, refl, sym, ap, _∙_}
 use mathlib.Core.Logic.{_≢_}
 use mathlib.Core.Bool.{Bool, true, false, _||_}
-use mathlib.Core.Option.{Option, none, some}
-use Prim.Native.Nat.{ℕ, _≤_, _<_}
-use native.Mathlib.Omega.{arith}
+use Prim.Native.Nat.{ℕ, _<_}
 use lib.Dec.{eqb}
-use lib.ListN.{length, getD}
-use borrow.Author.Tests.{eq-eqb, ne-eqb}
-use Rattle.rules.specs.Notation.{_>>=_, refuse_unless_, refuse_when_}
+use lib.ListN.{getD}
+use borrow.Author.Tests.{ne-eqb}
+use Rattle.rules.specs.Notation.{Answer, given, _>>=_, refuse_unless_, refuse_when_}
 use Rattle.rules.specs.Sizes.{base}
 use Rattle.rules.specs.Scopes as rule
 use Rattle.scopes.specs.View.{view, foundAt, toldOnly}
 use Rattle.scopes.specs.Sound.{Sound}
-use Rattle.scopes.specs.Leaves.{hasChild}
+use Rattle.scopes.specs.Leaves.{hasChild, placeOf, refusal}
+use Rattle.scopes.specs.Lent.{shut}
 use Rattle.scopes.specs.declared.Scopes.{Scopes}
 use Rattle.scopes.specs.declared.Reply.the-variants.{Done, Refused}
-use Rattle.scopes.proofs.Finds.{Known, no-top, Topped, has-child}
+use Rattle.scopes.proofs.Finds.{no-top, Topped, has-child}
+use Rattle.scopes.proofs.Refusals.{Admitted, refused-by}
 use Rattle.scopes.proofs.Marks.{leads-root}
 
 -- ---- pop
 
-module _ (s : Scopes) (o : Option rule.Found) where
-  pub pop-none : o ≡ none → record { next = view s; says = Refused 4 } ≡ toldOnly (view s) (rule.popScope base o (view s))
-  unfolding rule.popScope rule.poppable _>>=_ refuse_unless_
-  pop-none e = rw e
+module _ (s : Scopes) (id : rule.Id) (r : ℕ) (e : r ≡ refusal (s .dangled) false (placeOf (s .live) (s .number) (id .index) (id .number))) where
+  pub pop-refused : r ≢ 0 → record { next = view s; says = Refused r } ≡ toldOnly (view s) (rule.popScope base (rule.byId base (view s) id) (view s))
+  unfolding rule.popScope rule.poppable _>>=_
+  pop-refused n = sym (ap (λ (a : Answer rule.Found). toldOnly (view s) (a >>= λ k. given (rule.closed k (view s)))) (refused-by s id false r e _ n))
 
-  module _ (i : ℕ) (k : Known s o i) where
-    pub pop-dangled : getD (s .dangled) i false ≡ true → record { next = view s; says = Refused 5 } ≡ toldOnly (view s) (rule.popScope base o (view s))
-    unfolding rule.popScope rule.poppable _>>=_ refuse_unless_ refuse_when_
-    pop-dangled d = rw (k .is, d)
+  pub pop-shuts : (i : ℕ) → Admitted s id false r e i → rule.popScope base (rule.byId base (view s) id) (view s) ≡ shut (foundAt s i) (view s)
+  unfolding rule.popScope rule.poppable _>>=_ refuse_unless_ refuse_when_
+  pop-shuts i a = go (rule.hasChild base (view s) i) refl
+    where
+      free : (getD (s .dangled) i false || eqb i 0) ≡ false
+      free = rw (a .marked, ne-eqb i 0 (a .inner))
 
-    module _ (d : getD (s .dangled) i false ≡ false) where
-      pub pop-root : i ≡ 0 → record { next = view s; says = Refused 5 } ≡ toldOnly (view s) (rule.popScope base o (view s))
-      unfolding rule.popScope rule.poppable _>>=_ refuse_unless_ refuse_when_
-      pop-root e = rw (k .is, d, eq-eqb i 0 e)
-
-      module _ (nz : i ≢ 0) (r : Bool) (e : r ≡ hasChild (s .live) (s .parent) i) where
-        allowed : (getD (s .dangled) i false || eqb i 0) ≡ false
-        allowed = rw (d, ne-eqb i 0 nz)
-
-        pub pop-child : r ≡ true → record { next = view s; says = Refused 6 } ≡ toldOnly (view s) (rule.popScope base o (view s))
-        unfolding rule.popScope rule.poppable _>>=_ refuse_unless_ refuse_when_
-        pop-child l = rw (k .is, allowed, has-child s i (k .small) r e ∙ l)
-
-        pub pop-closes : r ≡ false → (c : rule.Scopes) → c ≡ rule.closed (foundAt s i) (view s) → record { next = c; says = Done } ≡ toldOnly (view s) (rule.popScope base o (view s))
-        unfolding rule.popScope rule.poppable _>>=_ refuse_unless_ refuse_when_
-        pop-closes l c w = rw (k .is, allowed, has-child s i (k .small) r e ∙ l) (λ t. record { next = w t; says = Done })
+      go : (b : Bool) → rule.hasChild base (view s) i ≡ b → rule.popScope base (rule.byId base (view s) id) (view s) ≡ shut (foundAt s i) (view s)
+      go true q = rw (a .known .is, free, q)
+      go false q = rw (a .known .is, free, q)
 
 -- ---- pop last
 
@@ -59,11 +48,21 @@ module _ (s : Scopes) where
   pub root-live : Sound s → Topped s → getD (s .live) 0 false ≡ true
   root-live h t = leads-root (h .rooted .leads (s .top) (t .live)) .0
 
-  module _ (h : Sound s) (t : Topped s) (r : Bool) (e : r ≡ hasChild (s .live) (s .parent) 0) where
-    pub last-child : r ≡ true → record { next = view s; says = Refused 6 } ≡ toldOnly (view s) (rule.popLastScope base (view s))
-    unfolding rule.popLastScope rule.lastPoppable _>>=_ refuse_unless_ refuse_when_
-    last-child l = rw (t .is, root-live h t, has-child s 0 (omega arith) r e ∙ l)
+  pub last-shuts : Sound s → Topped s → rule.popLastScope base (view s) ≡ shut (foundAt s 0) (view s)
+  unfolding rule.popLastScope rule.lastPoppable _>>=_ refuse_unless_ refuse_when_
+  last-shuts h t = go (rule.hasChild base (view s) 0) refl
+    where
+      go : (b : Bool) → rule.hasChild base (view s) 0 ≡ b → rule.popLastScope base (view s) ≡ shut (foundAt s 0) (view s)
+      go true q = rw (t .is, root-live h t, q)
+      go false q = rw (t .is, root-live h t, q)
 
-    pub last-closes : r ≡ false → (c : rule.Scopes) → c ≡ rule.closed (foundAt s 0) (view s) → record { next = c; says = Done } ≡ toldOnly (view s) (rule.popLastScope base (view s))
-    unfolding rule.popLastScope rule.lastPoppable _>>=_ refuse_unless_ refuse_when_
-    last-closes l c w = rw (t .is, root-live h t, has-child s 0 (omega arith) r e ∙ l) (λ u. record { next = w u; says = Done })
+-- ---- what closing comes to
+
+module _ (s : Scopes) (i : ℕ) (hi : i < 64) (r : Bool) (e : r ≡ hasChild (s .live) (s .parent) i) where
+  pub shut-child : r ≡ true → record { next = view s; says = Refused 6 } ≡ toldOnly (view s) (shut (foundAt s i) (view s))
+  unfolding _>>=_ refuse_when_
+  shut-child l = rw (has-child s i hi r e ∙ l)
+
+  pub shut-closes : r ≡ false → (c : rule.Scopes) → c ≡ rule.closed (foundAt s i) (view s) → record { next = c; says = Done } ≡ toldOnly (view s) (shut (foundAt s i) (view s))
+  unfolding _>>=_ refuse_when_
+  shut-closes l c w = rw (has-child s i hi r e ∙ l) (λ t. record { next = w t; says = Done })

@@ -3,14 +3,13 @@ use mathlib.Core.Path.{_≡_, refl, sym, ap, _∙_, subst}
 use mathlib.Core.Logic.{_≢_, by-cases}
 use mathlib.Core.Bool.{Bool, true, false, _&&_, _||_, true≢false, or-true, or-false}
 use mathlib.Core.Option.{Option, none, some}
-use mathlib.Core.List.{List}
-use Prim.Native.Nat.{ℕ, zero, suc, _+_, _-_, _≤_, _<_}
+use Prim.Native.Nat.{ℕ, _+_, _-_, _≤_, _<_}
 use native.Mathlib.Decide.{ℕ-discrete}
 use native.Mathlib.Omega.{arith}
 use Rattle.rules.specs.Notation.{put, first, orElse, isSome}
 use Rattle.rules.proofs.Tables as rules
 use Rattle.rules.proofs.Tables.{put-same, put-other}
-use Rattle.rules.proofs.Searches.{Least, first-found, first-none, first-is, first-is-none, first-on}
+use Rattle.rules.proofs.Searches.{first-found, first-none, first-is, first-is-none, first-on}
 use Rattle.scopes.specs.Leaves.{lowest}
 
 pub and-left : (a b : Bool) → (a && b) ≡ true → a ≡ true

@@ -1,7 +1,7 @@
 -- What the leaves answer: functions that borrow some of the arrays. Assumes nothing.
 use mathlib.Core.Path.{_≡_}
 use mathlib.Core.Logic.{_≢_}
-use mathlib.Core.Bool.{Bool, true, false, not, _&&_}
+use mathlib.Core.Bool.{Bool, true, false, not, _&&_, _||_}
 use mathlib.Core.Option.{Option, none, some}
 use mathlib.Core.List.{List, [], _∷_, _++_}
 use Prim.Native.Nat.{ℕ, _-_, _≤_, _<_}
@@ -37,6 +37,14 @@ NoChild live parent i = (j : ℕ) → getD live j false ≡ true → getD parent
 -- the index of the live scope that has this id, or 64
 abbrev pub placeOf : List Bool → List ℕ → ℕ → ℕ → ℕ
 placeOf live number i n = elim (ltb i 64 && hasNumber live number n i) [ true ↦ i | false ↦ 64 ]
+
+abbrev pub differs : Bool → Bool → Bool
+differs true b = not b
+differs false b = b
+
+-- why the scope at index i, or 64, is refused: 4 where there is none, 5 where it is root or its mark differs; 0 where it isn't
+abbrev pub refusal : List Bool → Bool → ℕ → ℕ
+refusal dangled mark i = elim (eqb i 64) [ true ↦ 4 | false ↦ elim (differs mark (getD dangled i false) || eqb i 0) [ true ↦ 5 | false ↦ 0 ] ]
 
 -- ---- which binding
 

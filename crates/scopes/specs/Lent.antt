@@ -4,12 +4,12 @@ use mathlib.Core.Bool.{Bool, true, false}
 use mathlib.Core.List.{List, []}
 use Prim.Native.Nat.{ℕ, _+_, _≤_, _<_}
 use lib.ListN.{getD, take}
-use Rattle.rules.specs.Notation.{pastLast}
+use Rattle.rules.specs.Notation.{Answer, given, _>>=_, refuse_when_, pastLast}
+use Rattle.rules.specs.Sizes.{base}
 use Rattle.rules.specs.Scopes as rule
 use Rattle.slots.specs.Halves.{occ}
-use Rattle.scopes.specs.View.{held, foundAt, view, Seen, runFor}
+use Rattle.scopes.specs.View.{held, foundAt, view, Seen, toldOnly, runFor}
 use Rattle.scopes.specs.Sound.{Sound, Sized}
-use Rattle.scopes.specs.Leaves.{NoChild}
 use Rattle.scopes.specs.declared.Scopes.{Scopes}
 use Rattle.scopes.specs.declared.Numbers.{Numbers}
 use Rattle.scopes.specs.declared.Reply.{Reply}
@@ -78,8 +78,14 @@ TopOwns s a = (a < 1024) × (s .top < 64) × (getD (s .owner) a 0 ≡ s .top)
 abbrev pub Empties : Scopes → ℕ → Scopes → Type 0
 Empties s i t = Whole s → (held (t .links) i ≡ []) × (rule.closed (foundAt t i) (view t) ≡ rule.closed (foundAt s i) (view s)) × Whole t
 
-abbrev pub Closes : Scopes → ℕ → Scopes → Type 0
-Closes s i t = Whole s → Lives s i → NoChild (s .live) (s .parent) i → (view t ≡ rule.closed (foundAt s i) (view s)) × Whole t
+-- what closing the scope k comes to: 6
+abbrev pub shut : rule.Found → rule.Scopes → Answer rule.Scopes
+shut k c = do
+  _ ← refuse 6 when (rule.hasChild base c (k .index))
+  given (rule.closed k c)
+
+abbrev pub Shuts : Scopes → ℕ → Scopes → Reply → Type 0
+Shuts s i t reply = Lives s i → Becomes s t reply (λ c. toldOnly c (shut (foundAt s i) c))
 
 -- ---- draining
 

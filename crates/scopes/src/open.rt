@@ -7,7 +7,7 @@ ghost use Rattle.rules.specs.Scopes as rule;
 ghost use Rattle.scopes.specs.View.{view, idOf, opened, seen, told, toldOnly, replied};
 ghost use Rattle.scopes.specs.Sound.{Sound};
 ghost use Rattle.scopes.specs.Lent.{withScopes};
-ghost use Rattle.scopes.specs.Leaves.{lowest, isFree, hasNumber, placeOf};
+ghost use Rattle.scopes.specs.Leaves.{lowest, isFree, hasNumber, placeOf, refusal};
 use crate::LentOutcome;
 use crate::Outcome;
 use crate::Reply;
@@ -65,6 +65,29 @@ pub fn place_of<'a>(live: &'a [bool; 64], number: &'a [u32; 64], id: ScopeId) ->
         }
     }
     64
+}
+
+// Why pop and dangle (`mark` false) or restore (`mark` true) refuse a scope: 4 or 5, and 0 where they don't.
+pub fn refusal<'a>(
+    live: &'a [bool; 64],
+    dangled: &'a [bool; 64],
+    number: &'a [u32; 64],
+    id: ScopeId,
+    mark: bool,
+) -> u8
+    ensures { λ r. ⌜ r ≡ refusal (now (dangled .entry)) mark (placeOf (now (live .entry)) (now (number .entry)) (id .index) (id .number)) ⌝ }
+{
+    let i = place_of(live, number, id);
+    if i == 64 {
+        return 4;
+    }
+    if i == 0 {
+        return 5;
+    }
+    if dangled[i] != mark {
+        return 5;
+    }
+    0
 }
 
 // ---- by value

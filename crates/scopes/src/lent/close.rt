@@ -1,11 +1,8 @@
 // Scopes are closed: by id, and root at the end.
-ghost use mathlib.Core.Bool.{false};
-ghost use Prim.Native.Nat.{_<_};
 ghost use Rattle.rules.specs.Sizes.{base};
 ghost use Rattle.rules.specs.Scopes as rule;
 ghost use Rattle.scopes.specs.View.{idOf, toldOnly};
-ghost use Rattle.scopes.specs.Leaves.{NoChild};
-ghost use Rattle.scopes.specs.Lent.{made, withSlots, Whole, Becomes, Lives, Empties, Closes};
+ghost use Rattle.scopes.specs.Lent.{made, withSlots, Whole, Becomes, Lives, Empties, Shuts};
 use crate::LentOutcome;
 use crate::Numbers;
 use crate::Reply;
@@ -37,17 +34,12 @@ pub fn empty(
         head = a / 128;
         a = links::first(links, i);
     }
-    Numbers {
-        count: n.count,
-        segments: n.segments,
-        head: head,
-        top: n.top,
-        counter: n.counter,
-        size: n.size,
-    }
+    let mut m = n;
+    m.head = head;
+    m
 }
 
-// Scope i, which is live and has no live child, is closed: its addresses dangle, its bindings go, top becomes its parent.
+// Scope i, which is live, is closed: its addresses dangle, its bindings go, top becomes its parent. 6.
 pub fn close(
     halves: &mut [u64; 16],
     links: &mut [u16; 2178],
@@ -59,24 +51,26 @@ pub fn close(
     bindings: &mut [u64; 256],
     n: Numbers,
     i: usize,
-) -> Numbers
-    requires { ⌜ Whole (made (now halves) (now links) (now owner) (now live) (now dangled) (now parent) (now number) (now bindings) n) × Lives (made (now halves) (now links) (now owner) (now live) (now dangled) (now parent) (now number) (now bindings) n) i × NoChild (now live) (now parent) i ⌝ }
-    ensures { λ r. ⌜ Closes (made (now (halves .entry)) (now (links .entry)) (now (owner .entry)) (now (live .entry)) (now (dangled .entry)) (now (parent .entry)) (now (number .entry)) (now (bindings .entry)) n) i (made (now (halves .exit)) (now (links .exit)) (now (owner .exit)) (now (live .exit)) (now (dangled .exit)) (now (parent .exit)) (now (number .exit)) (now (bindings .exit)) r) ⌝ }
+) -> LentOutcome
+    requires { ⌜ Whole (made (now halves) (now links) (now owner) (now live) (now dangled) (now parent) (now number) (now bindings) n) × Lives (made (now halves) (now links) (now owner) (now live) (now dangled) (now parent) (now number) (now bindings) n) i ⌝ }
+    ensures { λ r. ⌜ Shuts (made (now (halves .entry)) (now (links .entry)) (now (owner .entry)) (now (live .entry)) (now (dangled .entry)) (now (parent .entry)) (now (number .entry)) (now (bindings .entry)) n) i (made (now (halves .exit)) (now (links .exit)) (now (owner .exit)) (now (live .exit)) (now (dangled .exit)) (now (parent .exit)) (now (number .exit)) (now (bindings .exit)) (r .numbers)) (r .reply) ⌝ }
 {
-    let m = empty(halves, links, owner, n, i);
-    let count = names::forget_names(bindings, m.count, i);
-    let up = open::wide8(parent[i]);
+    if leaves::has_child(live, parent, i) {
+        return LentOutcome {
+            numbers: n,
+            reply: Reply::Refused(6),
+        };
+    }
+    let mut m = empty(halves, links, owner, n, i);
+    m.count = names::forget_names(bindings, m.count, i);
+    m.top = open::wide8(parent[i]);
     live[i] = false;
     dangled[i] = false;
     parent[i] = 64;
     number[i] = 0;
-    Numbers {
-        count: count,
-        segments: m.segments,
-        head: m.head,
-        top: up,
-        counter: m.counter,
-        size: m.size,
+    LentOutcome {
+        numbers: m,
+        reply: Reply::Done,
     }
 }
 
@@ -96,46 +90,26 @@ pub fn pop(
     requires { ⌜ Whole (made (now halves) (now links) (now owner) (now live) (now dangled) (now parent) (now number) (now bindings) n) ⌝ }
     ensures { λ r. ⌜ Becomes (made (now (halves .entry)) (now (links .entry)) (now (owner .entry)) (now (live .entry)) (now (dangled .entry)) (now (parent .entry)) (now (number .entry)) (now (bindings .entry)) n) (made (now (halves .exit)) (now (links .exit)) (now (owner .exit)) (now (live .exit)) (now (dangled .exit)) (now (parent .exit)) (now (number .exit)) (now (bindings .exit)) (r .numbers)) (r .reply) (λ c. toldOnly c (rule.popScope base (rule.byId base c (idOf id)) c)) ⌝ }
 {
-    let i = open::place_of(live, number, id);
-    if i == 64 {
+    let no = open::refusal(live, dangled, number, id, false);
+    if no != 0 {
         return LentOutcome {
             numbers: n,
-            reply: Reply::Refused(4),
+            reply: Reply::Refused(no),
         };
     }
-    if dangled[i] {
-        return LentOutcome {
-            numbers: n,
-            reply: Reply::Refused(5),
-        };
-    }
-    if i == 0 {
-        return LentOutcome {
-            numbers: n,
-            reply: Reply::Refused(5),
-        };
-    }
-    if leaves::has_child(live, parent, i) {
-        return LentOutcome {
-            numbers: n,
-            reply: Reply::Refused(6),
-        };
-    }
-    LentOutcome {
-        numbers: close(
-            halves,
-            links,
-            owner,
-            live,
-            dangled,
-            parent,
-            number,
-            bindings,
-            n,
-            i,
-        ),
-        reply: Reply::Done,
-    }
+    let i = open::wide8(id.index);
+    close(
+        halves,
+        links,
+        owner,
+        live,
+        dangled,
+        parent,
+        number,
+        bindings,
+        n,
+        i,
+    )
 }
 
 // pop last: root is closed; then there is no top. 3, 6.
@@ -160,25 +134,16 @@ pub fn pop_last(
             reply: Reply::Refused(3),
         };
     }
-    if leaves::has_child(live, parent, 0) {
-        return LentOutcome {
-            numbers: n,
-            reply: Reply::Refused(6),
-        };
-    }
-    LentOutcome {
-        numbers: close(
-            halves,
-            links,
-            owner,
-            live,
-            dangled,
-            parent,
-            number,
-            bindings,
-            n,
-            0,
-        ),
-        reply: Reply::Done,
-    }
+    close(
+        halves,
+        links,
+        owner,
+        live,
+        dangled,
+        parent,
+        number,
+        bindings,
+        n,
+        0,
+    )
 }

@@ -88,16 +88,15 @@ pub fn define(
     requires { ⌜ ((s : Scopes) × Whole (withNames s (now bindings) n)) ⌝ }
     ensures { λ r. ⌜ ((s : Scopes) → Becomes (withNames s (now (bindings .entry)) n) (withNames s (now (bindings .exit)) (r .numbers)) (r .reply) (λ c. toldOnly c (defined name (address .0) (handle .0) c))) ⌝ }
 {
-    let top = n.top;
     let count = n.count;
-    if top == 64 {
+    if n.top == 64 {
         return LentOutcome {
             numbers: n,
             reply: Reply::Refused(3),
         };
     }
-    let j = names::find(bindings, count, top, name);
-    let b = names::packed(top, name, address, handle);
+    let j = names::find(bindings, count, n.top, name);
+    let b = names::packed(n.top, name, address, handle);
     if j < 256 {
         bindings[j] = b;
         return LentOutcome {
@@ -112,15 +111,10 @@ pub fn define(
         };
     }
     bindings[count] = b;
+    let mut m = n;
+    m.count = count + 1;
     LentOutcome {
-        numbers: Numbers {
-            count: count + 1,
-            segments: n.segments,
-            head: n.head,
-            top: top,
-            counter: n.counter,
-            size: n.size,
-        },
+        numbers: m,
         reply: Reply::Done,
     }
 }

@@ -36,23 +36,19 @@ pub fn child(
             reply: Reply::Refused(8),
         };
     }
-    let m = n.counter;
+    let id = ScopeId {
+        index: i as u8,
+        number: n.counter,
+    };
     live[i] = true;
     parent[i] = top as u8;
-    number[i] = m;
+    number[i] = id.number;
+    let mut m = n;
+    m.top = i;
+    m.counter = std::num::wrapping_add_u32(id.number, 1);
     LentOutcome {
-        numbers: Numbers {
-            count: n.count,
-            segments: n.segments,
-            head: n.head,
-            top: i,
-            counter: std::num::wrapping_add_u32(m, 1),
-            size: n.size,
-        },
-        reply: Reply::Opened(ScopeId {
-            index: i as u8,
-            number: m,
-        }),
+        numbers: m,
+        reply: Reply::Opened(id),
     }
 }
 
@@ -68,35 +64,19 @@ pub fn dangle<'a>(
     requires { ⌜ ((s : Scopes) × Whole (withScopes s (now live) (now dangled) (now parent) (now number) n)) ⌝ }
     ensures { λ r. ⌜ ((s : Scopes) → Becomes (withScopes s (now (live .entry)) (now (dangled .entry)) (now (parent .entry)) (now (number .entry)) n) (withScopes s (now (live .entry)) (now (dangled .exit)) (now (parent .entry)) (now (number .entry)) (r .numbers)) (r .reply) (λ c. toldOnly c (rule.dangleScope (rule.byId base c (idOf id)) c))) ⌝ }
 {
-    let i = open::place_of(live, number, id);
-    if i == 64 {
+    let no = open::refusal(live, dangled, number, id, false);
+    if no != 0 {
         return LentOutcome {
             numbers: n,
-            reply: Reply::Refused(4),
+            reply: Reply::Refused(no),
         };
     }
-    if dangled[i] {
-        return LentOutcome {
-            numbers: n,
-            reply: Reply::Refused(5),
-        };
-    }
-    if i == 0 {
-        return LentOutcome {
-            numbers: n,
-            reply: Reply::Refused(5),
-        };
-    }
+    let i = open::wide8(id.index);
     dangled[i] = true;
+    let mut m = n;
+    m.top = open::wide8(parent[i]);
     LentOutcome {
-        numbers: Numbers {
-            count: n.count,
-            segments: n.segments,
-            head: n.head,
-            top: open::wide8(parent[i]),
-            counter: n.counter,
-            size: n.size,
-        },
+        numbers: m,
         reply: Reply::Done,
     }
 }
@@ -112,35 +92,19 @@ pub fn restore<'a>(
     requires { ⌜ ((s : Scopes) × Whole (withScopes s (now live) (now dangled) (s .parent) (now number) n)) ⌝ }
     ensures { λ r. ⌜ ((s : Scopes) → Becomes (withScopes s (now (live .entry)) (now (dangled .entry)) (s .parent) (now (number .entry)) n) (withScopes s (now (live .entry)) (now (dangled .exit)) (s .parent) (now (number .entry)) (r .numbers)) (r .reply) (λ c. toldOnly c (rule.restoreScope (rule.byId base c (idOf id)) c))) ⌝ }
 {
-    let i = open::place_of(live, number, id);
-    if i == 64 {
+    let no = open::refusal(live, dangled, number, id, true);
+    if no != 0 {
         return LentOutcome {
             numbers: n,
-            reply: Reply::Refused(4),
+            reply: Reply::Refused(no),
         };
     }
-    if !dangled[i] {
-        return LentOutcome {
-            numbers: n,
-            reply: Reply::Refused(5),
-        };
-    }
-    if i == 0 {
-        return LentOutcome {
-            numbers: n,
-            reply: Reply::Refused(5),
-        };
-    }
+    let i = open::wide8(id.index);
     dangled[i] = false;
+    let mut m = n;
+    m.top = i;
     LentOutcome {
-        numbers: Numbers {
-            count: n.count,
-            segments: n.segments,
-            head: n.head,
-            top: i,
-            counter: n.counter,
-            size: n.size,
-        },
+        numbers: m,
         reply: Reply::Done,
     }
 }

@@ -1,35 +1,41 @@
 -- A scope is popped, by value. Assumes nothing.
+use mathlib.Core.Path.{sym, ap, _∙_}
+use mathlib.Core.Bool.{false}
+use Rattle.scopes.specs.View.{view, idOf, toldOnly}
+use Rattle.scopes.proofs.Refusals.{Admitted, admitted}
+use Rattle.scopes.proofs.Pops.{pop-refused, pop-shuts}
 use borrow.Author.Needs.{needs}
-use Rattle.rules.specs.Sizes.{base}
-use Rattle.rules.specs.Scopes as rule
-use Rattle.scopes.specs.View.{idOf, toldOnly}
-use Rattle.scopes.specs.Lent.{Whole}
-use Rattle.scopes.proofs.Wraps.{lends, by-value}
 use Rattle.scopes.proofs.close.pop.Statement.{statement}
 use Rattle.scopes.proofs.close.pop.Tie as tie
 use Rattle.scopes.proofs.close.pop.Reads as reads
 use Rattle.scopes.proofs.close.pop.Lts as lts
-use Rattle.scopes.proofs.close.made.Reads as made-reads
-use Rattle.scopes.proofs.lent.close.pop.Reads as pop-reads
-use Rattle.scopes.proofs.numbers_of.Reads as numbers-of-reads
+use Rattle.scopes.proofs.close.close.Reads as close-reads
+use Rattle.scopes.proofs.open.refusal.Reads as refusal-reads
+use Rattle.scopes.proofs.open.wide8.Reads as wide8-reads
 
-abbrev lending : tie.After-bindings2 → tie.After-numbers-of
-lending c = c .before .before .before .before .before .before .before .before .before .before .before .before .before .before .before .before
+abbrev start : tie.After-refusal → tie.Start
+start c = c .before .before .before .before .before
 
-whole : (w : tie.Start) → Whole (w .args .s)
-whole w = record { sound = w .pre; sized = search needs }
+meant : (c : tie.After-wide8) → Admitted (start (c .before .before) .args .t1) (idOf (start (c .before .before) .args .id)) false (c .before .before .refusal .result) (c .before .before .refusal .ensures) (c .wide8 .result)
+meant c = admitted _ _ _ _ (c .before .before .refusal .ensures) (c .before .if1 .left) _ (c .wide8 .ensures)
 
-numbers-of-requires : tie.Need-numbers-of-requires
-numbers-of-requires c κs = search needs
-
-pop-requires : tie.Need-pop-requires
-pop-requires c κs = let n = lending c in lends _ (whole (n .before)) _ (n .numbers-of .ensures)
-
-made-requires : tie.Need-made-requires
-made-requires c κs = search needs
+refusal-requires : tie.Need-refusal-requires
+refusal-requires c κs = search needs
 
 returns : tie.Need-returns
-returns c = let n = lending (c .before .before) in by-value _ (whole (n .before)) _ (n .numbers-of .ensures) _ _ (λ x. toldOnly x (rule.popScope base (rule.byId base x (idOf (n .before .args .id))) x)) (c .before .pop .ensures) _ (c .made .ensures)
+returns c = let w = start (c .before) in (pop-refused (w .args .t1) (idOf (w .args .id)) _ (c .before .refusal .ensures) (c .if1 .taken), w .pre)
+
+wide8-requires : tie.Need-wide8-requires
+wide8-requires c κs = search needs
+
+close-requires : tie.Need-close-requires
+close-requires c κs = let m = meant c in (start (c .before .before) .pre, (m .known .small, m .known .live))
+
+returns-2 : tie.Need-returns-2
+returns-2 c =
+    let a = c .before in
+    let w = start (a .before .before) in
+    (c .close .ensures .0 ∙ sym (ap (toldOnly (view (w .args .t1))) (pop-shuts (w .args .t1) (idOf (w .args .id)) _ (a .before .before .refusal .ensures) _ (meant a))), c .close .ensures .1)
 
 pub pop-spec : {M : Type 1} → statement M
-pop-spec = tie.close (tie.spec numbers-of-requires pop-requires made-requires returns)
+pop-spec = tie.close (tie.spec refusal-requires returns wide8-requires close-requires returns-2)

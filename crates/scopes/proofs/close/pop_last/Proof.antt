@@ -1,35 +1,29 @@
 -- Root is popped, by value. Assumes nothing.
-use borrow.Author.Needs.{needs}
-use Rattle.rules.specs.Sizes.{base}
-use Rattle.rules.specs.Scopes as rule
-use Rattle.scopes.specs.View.{toldOnly}
-use Rattle.scopes.specs.Lent.{Whole}
-use Rattle.scopes.proofs.Wraps.{lends, by-value}
+use mathlib.Core.Path.{sym, ap, _∙_}
+use native.Mathlib.Omega.{arith}
+use Rattle.scopes.specs.View.{view, toldOnly}
+use Rattle.scopes.proofs.Finds.{Topped, topped}
+use Rattle.scopes.proofs.Pops.{last-no-top, root-live, last-shuts}
 use Rattle.scopes.proofs.close.pop_last.Statement.{statement}
 use Rattle.scopes.proofs.close.pop_last.Tie as tie
 use Rattle.scopes.proofs.close.pop_last.Reads as reads
 use Rattle.scopes.proofs.close.pop_last.Lts as lts
-use Rattle.scopes.proofs.close.made.Reads as made-reads
-use Rattle.scopes.proofs.lent.close.pop_last.Reads as pop-last-reads
-use Rattle.scopes.proofs.numbers_of.Reads as numbers-of-reads
+use Rattle.scopes.proofs.close.close.Reads as close-reads
 
-abbrev lending : tie.After-bindings2 → tie.After-numbers-of
-lending c = c .before .before .before .before .before .before .before .before .before .before .before .before .before .before .before .before
-
-whole : (w : tie.Start) → Whole (w .args .s)
-whole w = record { sound = w .pre; sized = search needs }
-
-numbers-of-requires : tie.Need-numbers-of-requires
-numbers-of-requires c κs = search needs
-
-pop-last-requires : tie.Need-pop-last-requires
-pop-last-requires c κs = let n = lending c in lends _ (whole (n .before)) _ (n .numbers-of .ensures)
-
-made-requires : tie.Need-made-requires
-made-requires c κs = search needs
+tops : (c : tie.Else1) → Topped (c .before .before .args .s)
+tops c = topped _ (c .before .before .pre) (c .if1 .left)
 
 returns : tie.Need-returns
-returns c = let n = lending (c .before .before) in by-value _ (whole (n .before)) _ (n .numbers-of .ensures) _ _ (λ x. toldOnly x (rule.popLastScope base x)) (c .before .pop-last .ensures) _ (c .made .ensures)
+returns c = let w = c .before .before in (last-no-top (w .args .s) (c .if1 .taken), w .pre)
+
+close-requires : tie.Need-close-requires
+close-requires c κs = let w = c .before .before in (w .pre, (omega arith, root-live (w .args .s) (w .pre) (tops c)))
+
+returns-2 : tie.Need-returns-2
+returns-2 c =
+    let e = c .before in
+    let w = e .before .before in
+    (c .close .ensures .0 ∙ sym (ap (toldOnly (view (w .args .s))) (last-shuts (w .args .s) (w .pre) (tops e))), c .close .ensures .1)
 
 pub pop-last-spec : {M : Type 1} → statement M
-pop-last-spec = tie.close (tie.spec numbers-of-requires pop-last-requires made-requires returns)
+pop-last-spec = tie.close (tie.spec returns close-requires returns-2)

@@ -16,17 +16,17 @@ use Rattle.scopes.proofs.names.packed.Reads as packed-reads
 abbrev state : tie.Start → Scopes → Scopes
 state w s = withNames s (w .args .bindings .now) (w .args .n)
 
-tops : (c : tie.Else1) (s : Scopes) → Sound (state (c .before) s) → Topped (state (c .before) s)
+tops : (c : tie.Else1) (s : Scopes) → Sound (state (c .before .before) s) → Topped (state (c .before .before) s)
 tops c s h = topped _ h (c .if1 .left)
 
 returns : tie.Need-returns
-returns c s h = let w = c .before in (define-no-top (state w s) (w .args .name) (w .args .address .0) (w .args .handle .0) (c .if1 .taken), h)
+returns c s h = let w = c .before .before in (define-no-top (state w s) (w .args .name) (w .args .address .0) (w .args .handle .0) (c .if1 .taken), h)
 
 find-requires : tie.Need-find-requires
-find-requires c κs = let e = c .before in let p = e .before .pre in (p .1 .sound .named .most, tops e (p .0) (p .1 .sound) .small, p .1 .sized .bindings)
+find-requires c κs = let e = c .before in let p = e .before .before .pre in (p .1 .sound .named .most, tops e (p .0) (p .1 .sound) .small, p .1 .sized .bindings)
 
 packed-requires : tie.Need-packed-requires
-packed-requires c κs = let e = c .before .before in let p = e .before .pre in tops e (p .0) (p .1 .sound) .small
+packed-requires c κs = let e = c .before .before in let p = e .before .before .pre in tops e (p .0) (p .1 .sound) .small
 
 mul-bindings : tie.Need-mul-bindings
 mul-bindings c = search needs
@@ -39,7 +39,7 @@ returns-2 c s h =
     let p = c .before in
     let f = p .before in
     let e = f .before .before in
-    let w = e .before in
+    let w = e .before .before in
     define-there (state w s) (w .args .name) (w .args .address .0) (w .args .handle .0) (h .sound) (tops e s (h .sound)) _ (p .packed .ensures) (h .sized) _ (f .find .ensures) (c .if2 .taken)
 
 returns-3 : tie.Need-returns-3
@@ -47,7 +47,7 @@ returns-3 c s h =
     let p = c .before .before in
     let f = p .before in
     let e = f .before .before in
-    let w = e .before in
+    let w = e .before .before in
     (define-full (state w s) (w .args .name) (w .args .address .0) (w .args .handle .0) (h .sound) (tops e s (h .sound)) _ (p .packed .ensures) (h .sized) _ (f .find .ensures) (c .before .if2 .left) (c .if3 .taken), h)
 
 mul-bindings-2 : tie.Need-mul-bindings-2
@@ -56,15 +56,15 @@ mul-bindings-2 c = search needs
 element-write-bindings-2 : tie.Need-element-write-bindings-2
 element-write-bindings-2 c = search needs
 
-add-t18 : tie.Need-add-t18
-add-t18 c = search needs
+add-m : tie.Need-add-m
+add-m c = search needs
 
 returns-4 : tie.Need-returns-4
 returns-4 c s h =
     let p = c .before .before in
     let f = p .before in
     let e = f .before .before in
-    let w = e .before in
+    let w = e .before .before in
     define-new (state w s) (w .args .name) (w .args .address .0) (w .args .handle .0) (h .sound) (tops e s (h .sound)) _ (p .packed .ensures) (h .sized) _ (f .find .ensures) (c .before .if2 .left) (c .if3 .left)
 
 pub define-spec : {M : Type 1} → statement M
@@ -80,5 +80,5 @@ define-spec =
     returns-3
     mul-bindings-2
     element-write-bindings-2
-    add-t18
+    add-m
     returns-4)

@@ -36,11 +36,14 @@ free-index-requires c κs = search needs
 returns-2 : tie.Need-returns-2
 returns-2 c s h = let e = c .before .before .before in (child-full (state (e .before) s) (h .sound) (tops e s (h .sound)) _ (c .before .free-index .ensures) (c .if2 .taken), h)
 
+cast-parent : tie.Need-cast-parent
+cast-parent c = omega (arith, small c)
+
 element-write-live : tie.Need-element-write-live
 element-write-live c = small c
 
-cast-parent : tie.Need-cast-parent
-cast-parent c = let e = start c in let p = e .before .pre in omega (arith, tops e (p .0) (p .1 .sound) .small)
+cast-parent-2 : tie.Need-cast-parent-2
+cast-parent-2 c = let e = start c in let p = e .before .pre in omega (arith, tops e (p .0) (p .1 .sound) .small)
 
 element-write-parent : tie.Need-element-write-parent
 element-write-parent c = small c
@@ -53,9 +56,6 @@ element-write-number c = small c
 
 wrapping-add-u32-requires : tie.Need-wrapping-add-u32-requires
 wrapping-add-u32-requires c κs = search needs
-
-cast-t14 : tie.Need-cast-t14
-cast-t14 c = omega (arith, small (c .before))
 
 returns-3 : tie.Need-returns-3
 returns-3 c s h =
@@ -74,11 +74,11 @@ child-spec =
     returns
     free-index-requires
     returns-2
-    element-write-live
     cast-parent
+    element-write-live
+    cast-parent-2
     element-write-parent
     mul-number
     element-write-number
     wrapping-add-u32-requires
-    cast-t14
     returns-3)

@@ -1,62 +1,44 @@
 -- A scope is restored. Assumes nothing.
-use Prim.Native.Nat.{_<_}
-use borrow.Author.Tests.{not-true, not-false}
-use Rattle.rules.specs.Sizes.{base}
-use Rattle.rules.specs.Scopes as rule
-use Rattle.scopes.specs.View.{view, idOf}
+use mathlib.Core.Bool.{true}
+use borrow.Author.Tests.{not-false}
+use Rattle.scopes.specs.View.{idOf}
 use Rattle.scopes.specs.Lent.{withScopes}
 use Rattle.scopes.specs.declared.Scopes.{Scopes}
-use Rattle.scopes.proofs.Finds.{Known, known, unknown}
-use Rattle.scopes.proofs.Marks.{restore-none, restore-undangled, restore-root, restore-unmarks}
+use Rattle.scopes.proofs.Refusals.{Admitted, admitted}
+use Rattle.scopes.proofs.Marks.{restore-refused, restore-unmarks}
 use borrow.Author.Needs.{needs}
 use Rattle.scopes.proofs.lent.open.restore.Statement.{statement}
 use Rattle.scopes.proofs.lent.open.restore.Tie as tie
 use Rattle.scopes.proofs.lent.open.restore.Reads as reads
 use Rattle.scopes.proofs.lent.open.restore.Lts as lts
-use Rattle.scopes.proofs.open.place_of.Reads as place-of-reads
+use Rattle.scopes.proofs.open.refusal.Reads as refusal-reads
+use Rattle.scopes.proofs.open.wide8.Reads as wide8-reads
 
 -- the state, with s for what is not lent
 abbrev state : tie.Start → Scopes → Scopes
 state w s = withScopes s (w .args .live .now) (w .args .dangled .now) (s .parent) (w .args .number .now) (w .args .n)
 
-meant : (c : tie.Else1) (s : Scopes) → Known (state (c .before .before) s) (rule.byId base (view (state (c .before .before) s)) (idOf (c .before .before .args .id))) (c .before .place-of .result)
-meant c s = known _ _ _ (c .before .place-of .ensures) (c .if1 .left)
+abbrev start : tie.After-refusal → tie.Start
+start c = c .before .before
 
-small : (c : tie.Else1) → c .before .place-of .result < 64
-small c = meant c (c .before .before .pre .0) .small
+meant : (c : tie.After-wide8) (s : Scopes) → Admitted (state (start (c .before .before)) s) (idOf (start (c .before .before) .args .id)) true (c .before .before .refusal .result) (c .before .before .refusal .ensures) (c .wide8 .result)
+meant c s = admitted _ _ _ _ (c .before .before .refusal .ensures) (c .before .if1 .left) _ (c .wide8 .ensures)
 
-place-of-requires : tie.Need-place-of-requires
-place-of-requires c κs = search needs
+refusal-requires : tie.Need-refusal-requires
+refusal-requires c κs = search needs
 
 returns : tie.Need-returns
-returns c s h = let w = c .before .before in (restore-none (state w s) _ (unknown (state w s) (idOf (w .args .id)) _ (c .before .place-of .ensures) (c .if1 .taken)), h)
+returns c s h = (restore-refused (state (start (c .before)) s) (idOf (start (c .before) .args .id)) _ (c .before .refusal .ensures) (c .if1 .taken), h)
 
-element-copy-out-if2 : tie.Need-element-copy-out-if2
-element-copy-out-if2 c = small c
-
-returns-2 : tie.Need-returns-2
-returns-2 c s h = let e = c .before .before in (restore-undangled (state (e .before .before) s) _ _ (meant e s) (not-true _ (c .if2 .taken)), h)
-
-returns-3 : tie.Need-returns-3
-returns-3 c s h = let e = c .before .before .before in (restore-root (state (e .before .before) s) _ _ (meant e s) (not-false _ (c .before .if2 .left)) (c .if3 .taken), h)
+wide8-requires : tie.Need-wide8-requires
+wide8-requires c κs = search needs
 
 element-write-dangled : tie.Need-element-write-dangled
-element-write-dangled c = small (c .before .before .before)
+element-write-dangled c = meant c (start (c .before .before) .pre .0) .known .small
 
-returns-4 : tie.Need-returns-4
-returns-4 c s h =
-    let e2 = c .before in
-    let e = e2 .before .before in
-    restore-unmarks (state (e .before .before) s) _ _ (meant e s) (h .sound) (h .sized) (c .if3 .left) (not-false _ (e2 .if2 .left))
+returns-2 : tie.Need-returns-2
+returns-2 c s h = let m = meant c s in restore-unmarks (state (start (c .before .before)) s) _ _ (m .known) (h .sound) (h .sized) (m .inner) (not-false _ (m .marked))
 
 pub restore-spec : {M : Type 1} → statement M
 restore-spec =
-    tie.close
-    (tie.spec
-    place-of-requires
-    returns
-    element-copy-out-if2
-    returns-2
-    returns-3
-    element-write-dangled
-    returns-4)
+    tie.close (tie.spec refusal-requires returns wide8-requires element-write-dangled returns-2)
