@@ -15,12 +15,13 @@ use Rattle.rules.specs.Scopes as rule
 use Rattle.rules.specs.Scopes.{Found, Id, allocate, topScope, byId, byNumber}
 use Rattle.rules.specs.Needs.{Kind, local, scope, runKind}
 use Rattle.rules.specs.Frames.{State, Frame, alloc, allocIn, linear, shows, oneLine, Step, allot, step}
-use Rattle.rules.proofs.Chains.{none-some}
+use Rattle.rules.proofs.Chains.{none-some, unless-some, unless-none, when-true, refused-on}
 use Rattle.rules.proofs.Tells.{tells-and, tells-lt, tells-true, clash}
 use Rattle.rules.proofs.Naming.{found-at}
 use Rattle.rules.proofs.Exact.{top-found}
 use Rattle.scopes.specs.View.{view, index, idOf, at, atFirst, Seen, seen, told}
 use Rattle.scopes.specs.Lent.{made, Whole}
+use Rattle.scopes.proofs.Finds.{no-top}
 use Rattle.scopes.specs.declared.Scopes.{Scopes}
 use Rattle.scopes.specs.declared.ScopeId.{ScopeId}
 use Rattle.scopes.specs.declared.Numbers.{Numbers}
@@ -37,37 +38,9 @@ use Rattle.frames.proofs.Meant.{no-scope-there}
 use Rattle.frames.proofs.Moving.{few-reply}
 use Rattle.frames.proofs.Allotting.{allots}
 
--- ---- one link of a chain of refusals
-
-module _ {A B : Type 0} {o : Option A} (n : ℕ) (f : A → Answer B) where
-  pub unless-some : {a : A} → o ≡ some a → ((refuse n unless o) >>= f) ≡ f a
-  unfolding _>>=_ refuse_unless_
-  unless-some e = ap (λ (x : Option A). (refuse n unless x) >>= f) e
-
-  pub unless-none : o ≡ none → ((refuse n unless o) >>= f) ≡ refused n
-  unfolding _>>=_ refuse_unless_
-  unless-none e = ap (λ (x : Option A). (refuse n unless x) >>= f) e
-
-module _ {B : Type 0} {b : Bool} (n : ℕ) (f : Unit {0} → Answer B) where
-  pub when-true : b ≡ true → ((refuse n when b) >>= f) ≡ refused n
-  unfolding _>>=_ refuse_when_
-  when-true e = ap (λ (x : Bool). (refuse n when x) >>= f) e
-
-  pub when-false : b ≡ false → ((refuse n when b) >>= f) ≡ f tt
-  unfolding _>>=_ refuse_when_
-  when-false e = ap (λ (x : Bool). (refuse n when x) >>= f) e
-
-pub refused-on : {A B : Type 0} {m : Answer A} (n : ℕ) (f : A → Answer B) → m ≡ refused n → (m >>= f) ≡ refused n
-unfolding _>>=_
-refused-on {A} n f e = ap (λ (x : Answer A). x >>= f) e
-
 -- ---- the top, and the scope of an id
 
 module _ (s : Scopes) where
-  pub no-top : s .top ≡ 64 → topScope (view s) ≡ none
-  unfolding topScope
-  no-top e = ap (λ (n : ℕ). elim (index n) [ none ↦ none | some i ↦ rule.found i (view s .live i) ]) e
-
   pub has-top : {handles holders : List ℕ} {handed : ℕ} → Stands s handles holders handed → (s .top ≡ 64 → ⊥) → (t : Found) × (topScope (view s) ≡ some t)
   has-top stands ne =
       ⊎-elim

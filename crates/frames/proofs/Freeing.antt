@@ -12,6 +12,7 @@ use Rattle.rules.specs.Slots.{Slots, edition1, remove}
 use Rattle.rules.specs.Scopes as rule
 use Rattle.rules.specs.Needs.{freed, isFreed, goesBack, giveBack}
 use Rattle.rules.specs.Frames.{State, scopes≔, Handle, held≔, kind≔, Frame, shows, oneLine, setHandle, handBack, freeHandle, step}
+use Rattle.rules.proofs.Chains.{when-true, when-false, refused-on}
 use Rattle.rules.proofs.Tables.{put-same, put-other, put-ext, remove-other}
 use Rattle.rules.proofs.Tells.{decided, clash, tells-and, tells-true, tells-eq}
 use Rattle.rules.proofs.Removing.{remove-stays, remove-clears}
@@ -30,7 +31,6 @@ use Rattle.handles.specs.declared.Handle.{Handle as Known}
 use Rattle.frames.specs.declared.steps.Adds.the-variants.{Nothing}
 use Rattle.handles.proofs.Changes.{recoding, clearing}
 use Rattle.frames.proofs.Moving.{few-reply}
-use Rattle.frames.proofs.Allocations.{when-true, when-false, refused-on}
 use Rattle.frames.proofs.Handling.{spent-unknown, spent-freed, unspent, set-freed, now-long}
 
 -- both frames

@@ -14,6 +14,7 @@ use Rattle.rules.specs.Slots.{edition1}
 use Rattle.rules.specs.Scopes as rule
 use Rattle.rules.specs.Needs.{Kind, Address, address, freed, allocatedKind, isFreed}
 use Rattle.rules.specs.Frames.{State, Handle, kind≔, written≔, Frame, define, forget, write, read, shows, stores, loads, oneLine, unknown, spent, setHandle, step}
+use Rattle.rules.proofs.Chains.{when-true, when-false}
 use Rattle.slots.specs.Halves.{occ}
 use Rattle.scopes.specs.View.{view}
 use Rattle.scopes.specs.declared.Scopes.{Scopes}
@@ -23,7 +24,6 @@ use Rattle.frames.specs.Steps.{stepped, loading, LoadsOf, Stands, Works}
 use Rattle.handles.specs.declared.Handle.{Handle as Known}
 use Rattle.frames.specs.declared.steps.Adds.the-variants.{Nothing, Store, Load}
 use Rattle.handles.proofs.Changes.{recoding}
-use Rattle.frames.proofs.Allocations.{when-true, when-false}
 
 -- ---- 13
 

@@ -13,7 +13,7 @@ use Rattle.rules.specs.Scopes as rule
 use Rattle.rules.specs.Needs.{isFreed}
 use Rattle.rules.specs.Frames as frame
 use Rattle.rules.specs.Frames.{State, scopes≔, Line, shows, oneLine, Step, step}
-use Rattle.rules.proofs.Chains.{All}
+use Rattle.rules.proofs.Chains.{All, unless-some, unless-none, when-true, when-false}
 use Rattle.rules.proofs.Leaves.{bind-leaves, take-leaves}
 use Rattle.rules.proofs.Held.{got-agrees}
 use Rattle.scopes.specs.View.{view, bound, defined, Seen, seen, told, toldOnly, replied}
@@ -30,7 +30,7 @@ use Rattle.handles.specs.declared.Handle.{Handle as Known}
 use Rattle.frames.specs.declared.steps.Adds.{Adds}
 use Rattle.frames.specs.declared.steps.Adds.the-variants.{Drained}
 use Rattle.frames.proofs.Moving.{few-reply, over-same, told-does, only-does}
-use Rattle.frames.proofs.Allocations.{unless-some, unless-none, when-true, when-false, has-top}
+use Rattle.frames.proofs.Allocations.{has-top}
 use Rattle.frames.proofs.Handling.{spent-unknown, spent-freed, unspent}
 
 -- read name, of what the name's lookup answers

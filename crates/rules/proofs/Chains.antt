@@ -38,3 +38,27 @@ none-some e = absurd (let z : _≡_ {A = ℕ} 0 1 = cc in omega arith)
 
 pub all-as : {A : Type 0} {P Q : A → Type 0} {m : Answer A} → ((a : A) → P a → Q a) → All P m → All Q m
 all-as f h = record { at = λ a e. f a (h .at a e) }
+
+-- ---- one link of a chain, by what it tests
+
+module _ {A B : Type 0} {o : Option A} (n : ℕ) (f : A → Answer B) where
+  pub unless-some : {a : A} → o ≡ some a → ((refuse n unless o) >>= f) ≡ f a
+  unfolding _>>=_ refuse_unless_
+  unless-some e = ap (λ (x : Option A). (refuse n unless x) >>= f) e
+
+  pub unless-none : o ≡ none → ((refuse n unless o) >>= f) ≡ refused n
+  unfolding _>>=_ refuse_unless_
+  unless-none e = ap (λ (x : Option A). (refuse n unless x) >>= f) e
+
+module _ {B : Type 0} {b : Bool} (n : ℕ) (f : Unit {0} → Answer B) where
+  pub when-true : b ≡ true → ((refuse n when b) >>= f) ≡ refused n
+  unfolding _>>=_ refuse_when_
+  when-true e = ap (λ (x : Bool). (refuse n when x) >>= f) e
+
+  pub when-false : b ≡ false → ((refuse n when b) >>= f) ≡ f tt
+  unfolding _>>=_ refuse_when_
+  when-false e = ap (λ (x : Bool). (refuse n when x) >>= f) e
+
+pub refused-on : {A B : Type 0} {m : Answer A} (n : ℕ) (f : A → Answer B) → m ≡ refused n → (m >>= f) ≡ refused n
+unfolding _>>=_
+refused-on {A} n f e = ap (λ (x : Answer A). x >>= f) e

@@ -15,6 +15,7 @@ pub mod Leaves
 pub mod Core
 pub mod Effects
 pub mod Demand3
+pub mod Refusals
 pub mod Digits
 pub mod Lists
 pub mod Members

@@ -27,13 +27,13 @@ pub struct Taken {
 }
 
 // The digits from a place on: where they end, and the number that the first ten make, with zeros after them where there are fewer.
-pub struct Digits {
-    pub end: usize,
-    pub number: u64,
+struct Digits {
+    end: usize,
+    number: u64,
 }
 
 // Where the line that starts at p ends: its LF, or the end of the text.
-pub fn line_end(s: &[u8], p: usize) -> usize
+fn line_end(s: &[u8], p: usize) -> usize
     requires { ⌜ p ≤ length (now s) ⌝ }
     ensures { λ r. ⌜ Ends (now (s .entry)) p r ⌝ }
 {
