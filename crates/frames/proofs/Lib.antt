@@ -5,4 +5,3 @@ pub mod Allocations
 pub mod Handling
 pub mod Reading
 pub mod Freeing
-pub mod Opcodes

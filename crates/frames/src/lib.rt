@@ -5,4 +5,3 @@ pub mod allots; // 06 to 08
 pub mod named; // 09 to 0b
 pub mod frees; // 0c to 0e
 pub mod cells; // 10 to 12
-pub mod dispatch; // one step, by its opcode; 0f

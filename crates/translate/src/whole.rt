@@ -8,7 +8,7 @@ ghost use Rattle.rules.specs.Entries.{translated};
 ghost use Rattle.text.specs.Writing.{over};
 ghost use Rattle.frames.specs.Steps.{Few};
 ghost use Rattle.translate.specs.Whole.{frameIn, linesOf, linesText, onwardOf, Read, Ends};
-use frames::dispatch::step;
+use dispatch::step;
 use frames::steps::Adds;
 use text::lines::Frame;
 use text::lines::Reading;

@@ -7,9 +7,9 @@ use Rattle.rules.specs.Sizes.{base}
 use Rattle.rules.specs.Text.{rowed, frameTable}
 use Rattle.text.specs.Lines.{frameOf}
 use Rattle.text.specs.Shapes.{shapeOf, frameShapes}
-use Rattle.frames.proofs.Opcodes.{works-as, is-freeing}
-use Rattle.frames.proofs.dispatch.free_step.Statement.{statement}
-use Rattle.frames.proofs.dispatch.free_step.Tie as tie
+use Rattle.dispatch.proofs.Opcodes.{works-as, is-freeing}
+use Rattle.dispatch.proofs.free_step.Statement.{statement}
+use Rattle.dispatch.proofs.free_step.Tie as tie
 
 free-requires : tie.Need-free-requires
 free-requires c κs = c .before .before .before .before .before .pre .0

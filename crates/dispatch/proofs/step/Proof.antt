@@ -7,10 +7,10 @@ use Rattle.text.specs.Lines.{frameOf}
 use Rattle.text.specs.Shapes.{shapeOf, frameShapes}
 use Rattle.scopes.specs.Lent.{made}
 use Rattle.scopes.specs.declared.Scopes.{Scopes}
 use Rattle.frames.proofs.Reading.{drain-works}
-use Rattle.frames.proofs.Opcodes.{works-as}
-use Rattle.frames.proofs.dispatch.step.Statement.{statement}
-use Rattle.frames.proofs.dispatch.step.Tie as tie
+use Rattle.dispatch.proofs.Opcodes.{works-as}
+use Rattle.dispatch.proofs.step.Statement.{statement}
+use Rattle.dispatch.proofs.step.Tie as tie
 
 abbrev state : tie.Start → Scopes
 state st = made (st .args .halves .now) (st .args .links .now) (st .args .owner .now) (st .args .live .now) (st .args .dangled .now) (st .args .parent .now) (st .args .number .now) (st .args .bindings .now) (st .args .n)

@@ -5,10 +5,10 @@ use Rattle.rules.specs.Frames as frame
 use Rattle.rules.specs.Text.{rowed, frameTable}
 use Rattle.text.specs.Lines.{frameOf}
 use Rattle.text.specs.Shapes.{shapeOf, frameShapes}
 use Rattle.frames.specs.Steps.{onCells}
-use Rattle.frames.proofs.Opcodes.{works-as, no-frame, is-high}
-use Rattle.frames.proofs.dispatch.cell_step.Statement.{statement}
-use Rattle.frames.proofs.dispatch.cell_step.Tie as tie
+use Rattle.dispatch.proofs.Opcodes.{works-as, no-frame, is-high}
+use Rattle.dispatch.proofs.cell_step.Statement.{statement}
+use Rattle.dispatch.proofs.cell_step.Tie as tie
 
 write-requires : tie.Need-write-requires
 write-requires c κs = let st = c .before .before in (onCells (st .pre .0 .0) (st .args .halves .now) (st .args .live .now) (st .args .parent .now) (st .args .bindings .now) (st .args .n), st .pre .0 .1)

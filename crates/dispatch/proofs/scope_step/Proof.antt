@@ -7,9 +7,9 @@ use Rattle.text.specs.Lines.{frameOf}
 use Rattle.text.specs.Shapes.{shapeOf, frameShapes}
 use Rattle.scopes.specs.Lent.{made}
 use Rattle.scopes.specs.declared.Scopes.{Scopes}
-use Rattle.frames.proofs.Opcodes.{works-as, opcode-is, no-frame}
-use Rattle.frames.proofs.dispatch.scope_step.Statement.{statement}
-use Rattle.frames.proofs.dispatch.scope_step.Tie as tie
+use Rattle.dispatch.proofs.Opcodes.{works-as, opcode-is, no-frame}
+use Rattle.dispatch.proofs.scope_step.Statement.{statement}
+use Rattle.dispatch.proofs.scope_step.Tie as tie
 
 -- the state that came in
 abbrev state : tie.Start → Scopes
