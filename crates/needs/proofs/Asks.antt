@@ -5,23 +5,15 @@ use mathlib.Core.Option.{Option, none, some}
 use Prim.Native.Nat.{ℕ}
 use lib.Dec.{eqb}
 use borrow.Author.Tests.{eq-eqb, ne-eqb}
-use Rattle.rules.specs.Notation.{Answer, given, refused, _>>=_, refuse_when_, if_then_else_}
+use Rattle.rules.specs.Notation.{Answer, given, refused, if_then_else_}
 use Rattle.rules.specs.Needs as rule
+use Rattle.rules.proofs.Chains.{when-true, when-false}
 use Rattle.needs.specs.Answers.{slotSays, outputSays}
 use Rattle.needs.specs.Inner.{outputFrom}
 use Rattle.needs.specs.declared.SlotAnswer.{SlotAnswer}
 use Rattle.needs.specs.declared.SlotAnswer.the-variants.{At, Nothing, Refused}
 
--- ---- a refusal, and a choice, by what was tested
-
-module _ {B : Type 0} (n : ℕ) (f : Unit {0} → Answer B) where
-  pub when-yes : (b : Bool) → b ≡ true → ((refuse n when b) >>= f) ≡ refused n
-  unfolding _>>=_ refuse_when_
-  when-yes b e = ap (λ (x : Bool). (refuse n when x) >>= f) e
-
-  pub when-no : (b : Bool) → b ≡ false → ((refuse n when b) >>= f) ≡ f tt
-  unfolding _>>=_ refuse_when_
-  when-no b e = ap (λ (x : Bool). (refuse n when x) >>= f) e
+-- ---- a choice, by what was tested
 
 module _ {A : Type 0} (x y : A) where
   pub if-yes : (b : Bool) → b ≡ true → (if b then x else y) ≡ x
@@ -53,11 +45,11 @@ allocated-same (rule.scope i) e = refl
 module _ (a : rule.Address) where
   pub tried-dangling : rule.isDangling (a .kind) ≡ true → refused 19 ≡ rule.tryAsAddr (rule.at a)
   unfolding rule.tryAsAddr
-  tried-dangling e = sym (when-yes 19 _ (rule.isDangling (a .kind)) e)
+  tried-dangling e = sym (when-true 19 _ e)
 
   pub tried-other : rule.isDangling (a .kind) ≡ false → given (some a) ≡ rule.tryAsAddr (rule.at a)
   unfolding rule.tryAsAddr
-  tried-other e = sym (when-no 19 _ (rule.isDangling (a .kind)) e)
+  tried-other e = sym (when-false 19 _ e)
 
 -- ---- assign from x
 
