@@ -1,7 +1,7 @@
 -- Tables, searches and tests in the forms that the operations meet. Assumes nothing.
 use mathlib.Core.Path.{_≡_, refl, sym, ap, _∙_, subst}
 use mathlib.Core.Logic.{_≢_, by-cases}
-use mathlib.Core.Bool.{Bool, true, false, _&&_, _||_, true≢false, or-true, or-false}
+use mathlib.Core.Bool.{Bool, true, false, _&&_, _||_, true≢false}
 use mathlib.Core.Option.{Option, none, some}
 use Prim.Native.Nat.{ℕ, _+_, _-_, _≤_, _<_}
 use native.Mathlib.Decide.{ℕ-discrete}
@@ -92,7 +92,7 @@ pub none-is : {A : Type 0} (o : Option A) → isSome o ≡ false → o ≡ none
 none-is none e = refl
 none-is (some a) e = absurd (true≢false e)
 
-any-more : (f : ℕ → Bool) (n : ℕ) → isSome (first f 0 (n + 1)) ≡ (isSome (first f 0 n) || f n)
+pub any-more : (f : ℕ → Bool) (n : ℕ) → isSome (first f 0 (n + 1)) ≡ (isSome (first f 0 n) || f n)
 unfolding first
 any-more f n = let e : n + 1 ≡ 1 + n = omega arith in ap (λ (k : ℕ). isSome (first f 0 k)) e ∙ ap isSome (first-on f 0 n 1 n (omega arith)) ∙ either (first f 0 n)
   where
@@ -103,9 +103,3 @@ any-more f n = let e : n + 1 ≡ 1 + n = omega arith in ap (λ (k : ℕ). isSome
     either : (o : Option ℕ) → isSome {A = ℕ} (elim o [ some a ↦ some a | none ↦ first f n 1 ]) ≡ (isSome o || f n)
     either (some a) = refl
     either none = here (f n) refl
-
-pub any-hit : (f : ℕ → Bool) (n : ℕ) (h : Bool) → h ≡ true → f n ≡ true → h ≡ isSome (first f 0 (n + 1))
-any-hit f n h e q = e ∙ sym (any-more f n ∙ ap (λ (b : Bool). isSome (first f 0 n) || b) q ∙ or-true (isSome (first f 0 n)))
-
-pub any-miss : (f : ℕ → Bool) (n : ℕ) (h : Bool) → h ≡ isSome (first f 0 n) → f n ≡ false → h ≡ isSome (first f 0 (n + 1))
-any-miss f n h e q = e ∙ sym (any-more f n ∙ ap (λ (b : Bool). isSome (first f 0 n) || b) q ∙ or-false (isSome (first f 0 n)))

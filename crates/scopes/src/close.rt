@@ -25,12 +25,7 @@ pub fn has_child<'a>(live: &'a [bool; 64], parent: &'a [u8; 64], i: usize) -> bo
     let mut hit = false;
     let mut j: usize = 0;
     while j < 64 {
-        let p = parent[j];
-        if live[j] {
-            if p == up {
-                hit = true;
-            }
-        }
+        hit = hit | (live[j] & (parent[j] == up));
         j += 1;
     }
     hit

@@ -1,13 +1,12 @@
 -- Whether a scope has a live child. Assumes nothing.
-use mathlib.Core.Path.{_≡_, refl, _∙_}
-use mathlib.Core.Logic.{⊎-elim}
+use mathlib.Core.Path.{_≡_, refl, sym, ap, _∙_}
+use mathlib.Core.Bool.{Bool, _||_}
 use Prim.Native.Nat.{_-_, _≤_}
 use native.Mathlib.Omega.{arith}
 use borrow.Author.Needs.{needs}
-use borrow.Author.Tests.{eq-eqb, ne-eqb}
 use Rattle.rules.specs.Notation.{first, isSome}
 use Rattle.scopes.specs.Leaves.{childOf}
-use Rattle.scopes.proofs.Tables.{any-hit, any-miss}
+use Rattle.scopes.proofs.Tables.{any-more}
 use Rattle.scopes.proofs.close.has_child.Statement.{statement}
 use Rattle.scopes.proofs.close.has_child.Tie as tie
 use Rattle.scopes.proofs.close.has_child.Reads as reads
@@ -26,11 +25,11 @@ loop-holds : tie.Need-loop-holds Inv-loop μ-loop
 unfolding first
 loop-holds c = (search needs, refl)
 
-element-copy-out-p : tie.Need-element-copy-out-p Inv-loop μ-loop
-element-copy-out-p c = search needs
+element-copy-out-hit : tie.Need-element-copy-out-hit Inv-loop μ-loop
+element-copy-out-hit c = search needs
 
-element-copy-out-if1 : tie.Need-element-copy-out-if1 Inv-loop μ-loop
-element-copy-out-if1 c = search needs
+element-copy-out-hit-2 : tie.Need-element-copy-out-hit-2 Inv-loop μ-loop
+element-copy-out-hit-2 c = search needs
 
 add-j : tie.Need-add-j Inv-loop μ-loop
 add-j c = search needs
@@ -40,17 +39,10 @@ loop-less c = search needs
 
 loop-again : tie.Need-loop-again Inv-loop μ-loop
 loop-again c =
-    let s = c .before .before .before .before .before in
-    let l = c .before .before .before .before .loop in
-    let f = childOf (s .args .live .now) (s .args .parent .now) (s .args .i) in (
-      search needs,
-      ⊎-elim
-          (λ x. any-hit f (l .j) _ (x .2) (rw (x .0 .taken, eq-eqb _ _ (x .1 .taken))))
-          (⊎-elim
-          (λ x. any-miss f (l .j) _ (x .2 ∙ l .inv .1) (rw (x .0 .taken, ne-eqb _ _ (x .1 .left))))
-          (λ x. any-miss f (l .j) _ (x .1 ∙ l .inv .1) (rw (x .0 .left))))
-          (c .if1 .came),
-    )
+    let s = c .before .before .before .before in
+    let l = c .before .before .before .loop in
+    let f = childOf (s .args .live .now) (s .args .parent .now) (s .args .i) in
+    (search needs, ap (λ (b : Bool). b || f (l .j)) (l .inv .1) ∙ sym (any-more f (l .j)))
 
 returns : tie.Need-returns Inv-loop μ-loop
 returns c = let l = c .before .loop in let e : l .j ≡ 64 = omega (arith, l .inv .0, c .loop-test .left) in rw e at (l .inv .1)
@@ -63,8 +55,8 @@ has-child-spec =
     μ-loop
     cast-up
     loop-holds
-    element-copy-out-p
-    element-copy-out-if1
+    element-copy-out-hit
+    element-copy-out-hit-2
     add-j
     loop-less
     loop-again
