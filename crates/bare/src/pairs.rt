@@ -80,10 +80,8 @@ fn take_out(halves: &mut [u64; 16], segments: usize, head: usize, a: usize) -> u
     ensures { λ r. ⌜ length (now (halves .exit)) ≡ 16 ⌝ }
 {
     if a / 128 < segments {
-        if halves::occupied(halves, a) {
-            halves::vacate(halves, a);
-            return a / 128;
-        }
+        halves::vacate(halves, a);
+        return a / 128;
     }
     head
 }

@@ -8,12 +8,12 @@ use lib.Dec.{eqb, ltb}
 use borrow.Author.Tests.{eqb-true, eqb-false, ltb-true, ltb-false, not-true}
 use Rattle.rules.specs.Notation.{put, pastLast}
 use Rattle.rules.specs.Sizes.{Room}
-use Rattle.rules.specs.Slots.{Slots, Placed, Placement, freshSlots, insert, insertNew, pastGreatest, pushAt, pushes, pushRun, remove, removes, edition1}
+use Rattle.rules.specs.Slots.{Slots, Placed, Placement, freshSlots, insert, insertNew, pastGreatest, pushAt, pushes, pushRun, remove, edition1}
 use Rattle.rules.specs.Sound.{soundSlots}
 use Rattle.rules.specs.Demand3.{Gives, Fair}
 use Rattle.rules.proofs.Chains.{none-some}
 use Rattle.rules.proofs.Tables.{by-eqb, put-same, put-other}
-use Rattle.rules.proofs.Tells.{is-false, tells-and, tells-true}
+use Rattle.rules.proofs.Tells.{is-false}
 use Rattle.rules.proofs.Sound.{SlotsSound}
 use Rattle.rules.proofs.Tests.{tells-slots}
 use Rattle.rules.proofs.Searches.{first-found, past-within, past-above, past-last}
@@ -46,15 +46,15 @@ module _ (n : ℕ) where
   fresh-in-order = record { segments = omega arith; head = λ pos. pos; low = λ a h p. absurd (true≢false (sym p)) }
 
   removed-in-order : (a : ℕ) (s : Slots) → InOrder n s → InOrder n (remove a s)
-  unfolding remove removes
-  removed-in-order a s o = go (removes a s) refl
+  unfolding remove
+  removed-in-order a s o = go (ltb (a / 128) (s .segments)) refl
     where
-      go : (r : Bool) → removes a s ≡ r → InOrder n (remove a s)
+      go : (r : Bool) → ltb (a / 128) (s .segments) ≡ r → InOrder n (remove a s)
       go true e =
           rw (e, remove)
           (record {
             segments = o .segments;
-            head = λ pos. omega (arith, o .segments, ltb-true (a / 128) (s .segments) (tells-and (tells-true _) (tells-true _) .holds e .0));
+            head = λ pos. omega (arith, o .segments, ltb-true (a / 128) (s .segments) e);
             low = λ b h p. o .low b h (put-true (s .occupied) a b false p (λ q. true≢false (sym p ∙ subst (λ (c : ℕ). put (s .occupied) a false c ≡ false) q (put-same (s .occupied) a false))));
           })
       go false e = rw (e, remove) o

@@ -1,24 +1,27 @@
 -- Slots after one address or several were removed: sound again, the removed ones clear, the others as they were. Assumes nothing.
 use mathlib.Core.Path.{_≡_, refl, sym, subst, _∙_}
-use mathlib.Core.Bool.{true, false}
+use mathlib.Core.Bool.{Bool, true, false}
 use mathlib.Core.List.{List, [], _∷_}
 use Prim.Native.Nat.{ℕ, _*_, _/_, _<_}
 use native.Mathlib.Omega.{arith}
 use lib.Dec.{ltb}
-use borrow.Author.Tests.{lt-ltb, ltb-true}
+use borrow.Author.Tests.{ltb-true, ltb-false}
 use Rattle.rules.specs.Notation.{put}
 use Rattle.rules.specs.AddressSets.{member}
-use Rattle.rules.specs.Slots.{Slots, remove, removes, removeAll}
+use Rattle.rules.specs.Slots.{Slots, remove, removeAll}
 use Rattle.rules.proofs.Tables.{by-eqb, put-same, put-other}
 use Rattle.rules.proofs.Sets.{member-cons}
 use Rattle.rules.proofs.Sound.{SlotsSound}
 use Rattle.rules.proofs.Tells.{clash, decided, is-false}
 
 module _ (a : ℕ) (s : Slots) where
+  abbrev exists : Bool
+  exists = ltb (a / 128) (s .segments)
+
   pub remove-stays : (b : ℕ) → s .occupied b ≡ false → remove a s .occupied b ≡ false
   unfolding remove
   remove-stays b e =
-      decided (removes a s)
+      decided exists
       (λ r. rw (r, remove) (by-eqb a b (λ q. subst (λ (c : ℕ). put (s .occupied) a false c ≡ false) q (put-same (s .occupied) a false)) (λ ne. put-other (s .occupied) a false b ne ∙ e)))
       (λ r. rw (r, remove) e)
 
@@ -27,18 +30,16 @@ module _ (a : ℕ) (s : Slots) where
 
   module _ (n : ℕ) (sound : SlotsSound n s) where
     pub remove-clears : a < 128 * n → remove a s .occupied a ≡ false
-    unfolding remove removes
+    unfolding remove
     remove-clears h =
-        decided (s .occupied a)
-        (λ e. rw (lt-ltb (a / 128) (s .segments) (omega (arith, sound .low a h e)), e, remove, removes) (put-same (s .occupied) a false))
-        (λ e. decided (ltb (a / 128) (s .segments)) (λ q. rw (q, e, remove, removes) e) (λ q. rw (q, remove, removes) e))
+        decided exists
+        (λ q. rw (q, remove) (put-same (s .occupied) a false))
+        (λ q. remove-stays a (is-false _ (λ e. absurd (omega (arith, sound .low a h e, ltb-false (a / 128) (s .segments) q)))))
 
+    -- H stays below the room: it becomes a segment below L
     pub remove-sound : SlotsSound n (remove a s)
-    unfolding remove removes
-    remove-sound =
-        decided (ltb (a / 128) (s .segments))
-        (λ q. decided (s .occupied a) (λ e. rw (q, e, remove, removes) (cleared (ltb-true _ _ q))) (λ e. rw (q, e, remove, removes) sound))
-        (λ q. rw (q, remove, removes) sound)
+    unfolding remove
+    remove-sound = decided exists (λ q. rw (q, remove) (cleared (ltb-true _ _ q))) (λ q. rw (q, remove) sound)
       where
         cleared : a / 128 < s .segments → SlotsSound n (record { occupied = put (s .occupied) a false; segments = s .segments; head = a / 128 })
         cleared q = record {

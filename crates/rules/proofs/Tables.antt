@@ -8,7 +8,7 @@ use lib.Dec.{eqb, leb, ltb}
 use borrow.Author.Tests.{eqb-true, eqb-false, eq-eqb, ne-eqb, leb-true, leb-false, ltb-true, ltb-false}
 use Rattle.rules.specs.Notation.{put}
 use Rattle.rules.specs.AddressSets.{member}
-use Rattle.rules.specs.Slots.{Slots, remove, removes, removeAll}
+use Rattle.rules.specs.Slots.{Slots, remove, removeAll}
 use Rattle.rules.specs.Needs.{Kind}
 use Rattle.rules.specs.Frames.{Handle, grant, letGo}
 
@@ -70,9 +70,9 @@ module _ (l : List ℕ) (f : ℕ → Handle) (h : ℕ) where
 -- a slot that stays
 pub remove-other : (a b : ℕ) (s : Slots) → (a ≡ b → ⊥) → s .occupied b ≡ true → remove a s .occupied b ≡ true
 unfolding remove
-remove-other a b s ne o = go (removes a s) refl
+remove-other a b s ne o = go (ltb (a / 128) (s .segments)) refl
   where
-    go : (r : Bool) → removes a s ≡ r → remove a s .occupied b ≡ true
+    go : (r : Bool) → ltb (a / 128) (s .segments) ≡ r → remove a s .occupied b ≡ true
     go true e = rw (e, remove) (put-other (s .occupied) a false b ne ∙ o)
     go false e = rw (e, remove) o
 

@@ -1,4 +1,4 @@
--- Document 01, "Slots". `n` is the most segments there may be. Assumes nothing.
+-- Document 01, "Slots"; `remove` as W-202 of document 02 amends it. `n` is the most segments there may be. Assumes nothing.
 use mathlib.Core.Bool.{Bool, true, false, not, _&&_}
 use mathlib.Core.Option.{Option, none, some}
 use mathlib.Core.List.{List, [], _∷_}
@@ -81,14 +81,15 @@ push n s =
 
 -- ---- remove
 
--- "at segment L or above it answers no. Removing a slot that is clear answers no and changes nothing."
+-- "at segment L or above it answers no. Removing a slot that is clear answers no ..": yes exactly if the slot was occupied
 unfoldable pub removes : ℕ → Slots → Bool
 removes a s = ltb (a / 128) (s .segments) && s .occupied a
 
--- "Otherwise the slot is cleared and H becomes its segment."
+-- 01 goes on: ".. and changes nothing. Otherwise the slot is cleared and H becomes its segment." W-202: "Document 01 is wrong: if the
+-- segment exists, `remove` sets the head to it even when the slot was already clear, and still answers no."
 unfoldable pub remove : ℕ → Slots → Slots
 remove a s =
-    elim (removes a s) [
+    elim (ltb (a / 128) (s .segments)) [
       | true ↦ record { occupied = put (s .occupied) a false; segments = s .segments; head = a / 128 }
       | false ↦ s
     ]

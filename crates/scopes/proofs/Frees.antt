@@ -11,7 +11,7 @@ use lib.ListN.{length, getD, set, length-set}
 use borrow.Author.Tests.{lt-ltb, le-ltb, ne-eqb, eq-eqb}
 use Rattle.rules.specs.Notation.{_>>=_, refuse_unless_, refuse_when_, put}
 use Rattle.rules.specs.AddressSets.{member, added, without}
-use Rattle.rules.specs.Slots.{remove, removes}
+use Rattle.rules.specs.Slots.{remove}
 use Rattle.rules.specs.Scopes as rule
 use Rattle.rules.specs.Needs.{giveBack}
 use Rattle.rules.proofs.Tables.{put-same, put-other}
@@ -88,9 +88,9 @@ module _ (s : Scopes) (h : Sound s) (z : Sized s) (a k : ℕ) (ha : a < 1024) (h
 
   module _ (halves : List ℕ) (slot : occ halves ≡ put (occ (s .halves)) a false) where
     pub removed : remove a (view s .slots) ≡ slotsOf halves (s .segments) (a / 128)
-    unfolding remove removes
+    unfolding remove
     removed =
-        rw (lt-ltb (a / 128) (s .segments) (omega (arith, inside)), full, remove)
+        rw (lt-ltb (a / 128) (s .segments) (omega (arith, inside)), remove)
         (λ t. record { occupied = sym slot t; segments = s .segments; head = a / 128 })
 
     slotted : Slotted halves (s .segments) (a / 128)

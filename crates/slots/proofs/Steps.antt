@@ -14,6 +14,7 @@ use Rattle.rules.specs.Tells.{Tells}
 use Rattle.rules.proofs.Searches.{first-found, first-none, past-within, past-above, past-last}
 use Rattle.rules.proofs.Placing.{clear, leastClear, insertShort, insert-short}
 use Rattle.rules.proofs.Sound.{SlotsSound}
+use Rattle.rules.proofs.Tables.{put-ext}
 use Rattle.rules.proofs.Tells.{is-false, clash, tells-as, tells-and, tells-lt, tells-le}
 use Rattle.rules.proofs.Tests.{tells-slots}
 use Rattle.slots.specs.Halves.{firstClear, grownTo}
@@ -166,23 +167,16 @@ module _ (n : ℕ) (s : Slots) where
 -- ---- remove
 
 module _ (s : Slots) (a : ℕ) where
-  pub remove-yes : {f : ℕ → Bool} → a / 128 < s .segments → s .occupied a ≡ true → f ≡ put (s .occupied) a false
-      → record { next = record { occupied = f; segments = s .segments; head = a / 128 }; says = given true } ≡ removal a s
+  -- below L the slot is clear afterwards and H is its segment, whatever it was; the answer tells what it was
+  pub remove-within : {f : ℕ → Bool} (was : Bool) → a / 128 < s .segments → s .occupied a ≡ was → f ≡ put (s .occupied) a false
+      → record { next = record { occupied = f; segments = s .segments; head = a / 128 }; says = given was } ≡ removal a s
   unfolding remove removes
-  remove-yes h o p = shown p refl ∙ rw (lt-ltb (a / 128) (s .segments) h, o, removes, remove)
+  remove-within was h o p = shown p refl ∙ rw (lt-ltb (a / 128) (s .segments) h, o, removes, remove)
 
-  same : removes a s ≡ false → record { next = s; says = given false } ≡ removal a s
-  unfolding remove
-  same e = rw (e, remove)
-
-  pub remove-clear : s .occupied a ≡ false → record { next = s; says = given false } ≡ removal a s
-  unfolding removes
-  remove-clear o = same (go (ltb (a / 128) (s .segments)))
-    where
-      go : (b : Bool) → (b && s .occupied a) ≡ false
-      go true = o
-      go false = refl
+  -- a clear slot need not be cleared
+  pub still-clear : s .occupied a ≡ false → s .occupied ≡ put (s .occupied) a false
+  still-clear o = put-ext (s .occupied) a false (s .occupied) o (λ j _. refl)
 
   pub remove-past : s .segments ≤ a / 128 → record { next = s; says = given false } ≡ removal a s
-  unfolding removes
-  remove-past h = same (rw (le-ltb (a / 128) (s .segments) h))
+  unfolding remove removes
+  remove-past h = rw (le-ltb (a / 128) (s .segments) h, removes, remove)

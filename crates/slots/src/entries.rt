@@ -107,23 +107,20 @@ pub fn remove(s: Slots, a: SlotAddress) -> Removing
     }
 }
 
+// As in the original, the head moves wherever the segment exists, also for a slot that is clear.
 fn remove_sound(s: Slots, a: usize) -> Removing
     requires { ⌜ soundSlots (base .segments) (view s) ≡ true ⌝ }
     ensures { λ r. ⌜ seenRemoving r ≡ removal a (view s) ⌝ }
 {
     let mut t = s;
     if a / 128 < t.segments {
+        t.head = a / 128;
         if halves::occupied(&t.halves, a) {
             halves::vacate(&mut t.halves, a);
-            t.head = a / 128;
-            return Removing {
-                state: t,
-                answer: RemoveAnswer::Yes,
-            };
+            let answer = RemoveAnswer::Yes;
+            return Removing { state: t, answer };
         }
     }
-    Removing {
-        state: t,
-        answer: RemoveAnswer::No,
-    }
+    let answer = RemoveAnswer::No;
+    Removing { state: t, answer }
 }
