@@ -39,6 +39,12 @@ none-some e = absurd (let z : _≡_ {A = ℕ} 0 1 = cc in omega arith)
 pub all-as : {A : Type 0} {P Q : A → Type 0} {m : Answer A} → ((a : A) → P a → Q a) → All P m → All Q m
 all-as f h = record { at = λ a e. f a (h .at a e) }
 
+-- two chains that go on alike with whatever is given
+pub then-same : {A B : Type 0} {m : Answer A} {f g : A → Answer B} → ((a : A) → m ≡ given a → f a ≡ g a) → (m >>= f) ≡ (m >>= g)
+unfolding _>>=_
+then-same {m = given a} h = h a refl
+then-same {m = refused n} h = refl
+
 -- ---- one link of a chain, by what it tests
 
 module _ {A B : Type 0} {o : Option A} (n : ℕ) (f : A → Answer B) where

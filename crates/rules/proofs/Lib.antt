@@ -43,3 +43,4 @@ pub mod Small
 pub mod Fits
 pub mod Scripts
 pub mod Bytes
+pub mod FirstWording

@@ -12,3 +12,4 @@ pub mod Text
 pub mod Entries
 pub mod Demand3
 pub mod Sessions
+pub mod FirstWording
