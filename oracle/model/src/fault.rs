@@ -1,6 +1,7 @@
 //! Faults that can be planted in the model, to see that a comparison finds them.
 
-/// Each is a mistake that a reader of 01 may make; the first four are its "tempting and wrong".
+/// Each is a mistake that a reader of 01 may make; the first four are its "tempting and wrong". `ClearLeavesHead` is 01's own first
+/// wording of `remove`, which W-202 amends: no script shows it, only bare slots do.
 #[derive(Clone, Copy, Debug, PartialEq, Eq)]
 pub enum Fault {
     SearchFromZero,
@@ -8,6 +9,7 @@ pub enum Fault {
     LowHalf,
     FreeByAddress,
     HeadStays,
+    ClearLeavesHead,
     LengthNeverShrinks,
     DanglingStays,
     DanglingKeepsPlace,
@@ -26,12 +28,13 @@ pub enum Fault {
 pub type Plant = Option<Fault>;
 
 /// All faults by the name that `--plant` takes.
-pub const FAULTS: [(&str, Fault); 17] = [
+pub const FAULTS: [(&str, Fault); 18] = [
     ("search-from-zero", Fault::SearchFromZero),
     ("run-in-gap", Fault::RunInGap),
     ("low-half", Fault::LowHalf),
     ("free-by-address", Fault::FreeByAddress),
     ("head-stays", Fault::HeadStays),
+    ("clear-leaves-head", Fault::ClearLeavesHead),
     ("length-never-shrinks", Fault::LengthNeverShrinks),
     ("dangling-stays", Fault::DanglingStays),
     ("dangling-keeps-place", Fault::DanglingKeepsPlace),

@@ -1,4 +1,4 @@
-//! Document 01, "Slots".
+//! Document 01, "Slots"; `remove` as W-202 of document 02 amends it.
 
 use crate::fault::{Fault, Plant};
 
@@ -104,15 +104,22 @@ impl Slots {
         Some(g)
     }
 
+    /// Yes exactly if the slot was occupied. H becomes its segment wherever that exists, also where the slot was clear.
     pub fn remove(&mut self, address: usize) -> bool {
         let segment = address / SEGMENT;
-        if segment >= self.length || !self.occupied[address] {
+        if segment >= self.length {
             return false;
         }
+        let existed = self.occupied[address];
         self.occupied[address] = false;
-        if self.plant != Some(Fault::HeadStays) {
+        let stays = match self.plant {
+            Some(Fault::HeadStays) => true,
+            Some(Fault::ClearLeavesHead) => !existed,
+            _ => false,
+        };
+        if !stays {
             self.head = segment;
         }
-        true
+        existed
     }
 }

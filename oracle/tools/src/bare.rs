@@ -1,6 +1,6 @@
-//! The original's `Slots` by itself against ours or the model's: every answer, L and H after each call.
+//! The original's `Slots` by itself against ours or the model's: every answer, L and H after each call, and at the end which slots are
+//! occupied.
 
-use crate::rng::Rng;
 use model::{Plant, Slots, SEGMENT, SLOTS};
 use rune::Bare;
 use std::fmt;
@@ -20,30 +20,51 @@ pub enum End {
     Refused,
     /// an insert met H > L
     HeadAboveLength,
-    /// the original moves its head even when the slot was clear
-    ClearRemoved,
     Differs(usize, String),
+}
+
+/// What went equally.
+#[derive(Clone, Copy, Default, Debug, PartialEq, Eq)]
+pub struct Went {
+    pub calls: u64,
+    /// of these, removals of a clear slot below L, which move the head
+    pub clear: u64,
 }
 
 #[derive(Default)]
 pub struct BareTally {
     pub runs: u64,
-    pub calls: u64,
+    pub went: Went,
     pub refused: u64,
     pub head_above_length: u64,
-    pub clear_removed: u64,
+}
+
+impl BareTally {
+    /// False where the run shows a difference.
+    pub fn count(&mut self, end: &End, went: Went) -> bool {
+        self.runs += 1;
+        self.went.calls += went.calls;
+        self.went.clear += went.clear;
+        match end {
+            End::Equal => {}
+            End::Refused => self.refused += 1,
+            End::HeadAboveLength => self.head_above_length += 1,
+            End::Differs(..) => return false,
+        }
+        true
+    }
 }
 
 impl fmt::Display for BareTally {
     fn fmt(&self, f: &mut fmt::Formatter<'_>) -> fmt::Result {
-        writeln!(f, "{} runs, {} calls equal", self.runs, self.calls)?;
-        writeln!(f, "  {:>10}  ended by 7", self.refused)?;
+        let Went { calls, clear } = self.went;
+        writeln!(f, "{} runs, {calls} calls equal", self.runs)?;
+        writeln!(f, "  {clear:>10}  of them removed a clear slot below L")?;
+        writeln!(f, "  {:>10}  runs ended by 7", self.refused)?;
         let met = self.head_above_length;
-        writeln!(f, "  {met:>10}  ended outside the domain: HeadAboveLength")?;
-        let clear = self.clear_removed;
         write!(
             f,
-            "  {clear:>10}  ended by the known difference remove-clear"
+            "  {met:>10}  runs ended outside the domain: HeadAboveLength"
         )
     }
 }
@@ -101,16 +122,9 @@ fn original_row(call: Call, ours: Row, theirs: &mut Bare) -> Result<Row, End> {
 }
 
 fn compared(call: Call, ours: Row, theirs: &mut Bare) -> Result<(), End> {
-    let clear =
-        matches!(call, Call::Remove(a) if a / SEGMENT < theirs.length() && !theirs.occupied(a));
     let row = original_row(call, ours, theirs)?;
-    let but_head = Row {
-        head: ours.head,
-        ..row
-    };
     match row == ours {
         true => Ok(()),
-        false if clear && but_head == ours => Err(End::ClearRemoved),
         false => Err(End::Differs(
             0,
             format!("ours {ours:?}, the original {row:?}"),
@@ -118,130 +132,29 @@ fn compared(call: Call, ours: Row, theirs: &mut Bare) -> Result<(), End> {
     }
 }
 
-/// How the calls end, and how many went equally before. At the end every slot is removed: yes says that it was occupied.
-pub fn play(calls: &[Call], ours: Player) -> (End, usize) {
+/// How the calls end, and what went equally before. At the end every slot is removed: yes says that it was occupied.
+pub fn play(calls: &[Call], ours: Player) -> (End, Went) {
     let mut whole = calls.to_vec();
     whole.extend((0..SLOTS).map(Call::Remove));
     let rows = ours(&whole);
     let mut theirs = Bare::default();
+    let mut went = Went::default();
     for (i, call) in calls.iter().enumerate() {
+        let clear = matches!(*call, Call::Remove(a) if a / SEGMENT < theirs.length() && !theirs.occupied(a));
         match compared(*call, rows[i], &mut theirs) {
             Ok(()) => {}
-            Err(End::Differs(_, why)) => return (End::Differs(i, why), i),
-            Err(end) => return (end, i),
+            Err(End::Differs(_, why)) => return (End::Differs(i, why), went),
+            Err(end) => return (end, went),
         }
+        went.calls += 1;
+        went.clear += u64::from(clear);
     }
     let held = |a: &usize| rows[calls.len() + a].answer == 1;
     match (0..SLOTS).find(|a| held(a) != theirs.occupied(*a)) {
-        None => (End::Equal, calls.len()),
+        None => (End::Equal, went),
         Some(a) => {
             let why = format!("slot {a} is occupied on one side only");
-            (End::Differs(calls.len(), why), calls.len())
+            (End::Differs(calls.len(), why), went)
         }
     }
-}
-
-/// A run by chance: bursts of one call, removals of what is occupied, now and then of anything.
-pub fn calls(rng: &mut Rng) -> Vec<Call> {
-    let mut maker = Maker {
-        slots: Slots::new(None),
-        calls: Vec::new(),
-        above: false,
-        clear: false,
-    };
-    match rng.below(6) {
-        0 => maker.above = true,
-        1 => maker.clear = true,
-        _ => {}
-    }
-    for _ in 0..1 + rng.below(24) {
-        let burst = match rng.below(4) {
-            0 => rng.below(4),
-            1 => 126 + rng.below(5),
-            2 => rng.below(40),
-            _ => rng.below(500),
-        };
-        match rng.below(8) {
-            0 | 1 => maker.inserts(burst),
-            2 | 3 => maker.pushes(burst),
-            4 => maker.upward(rng),
-            5 => maker.rise(rng),
-            _ => maker.removals(burst / 2, rng),
-        }
-    }
-    maker.calls
-}
-
-struct Maker {
-    slots: Slots,
-    calls: Vec<Call>,
-    /// may meet H > L
-    above: bool,
-    /// may remove clear slots
-    clear: bool,
-}
-
-impl Maker {
-    fn make(&mut self, call: Call) {
-        match call {
-            Call::Insert => drop(self.slots.insert()),
-            Call::Push => drop(self.slots.push()),
-            Call::Remove(a) => drop(self.slots.remove(a)),
-        }
-        self.calls.push(call);
-    }
-
-    fn inserts(&mut self, n: usize) {
-        for _ in 0..n {
-            match self.slots.head() > self.slots.length() && !self.above {
-                true => self.make(Call::Push),
-                false => self.make(Call::Insert),
-            }
-        }
-    }
-
-    fn pushes(&mut self, n: usize) {
-        for _ in 0..n {
-            self.make(Call::Push);
-        }
-    }
-
-    /// All that is occupied from here on, as a scope's pop does: the head ends up high.
-    fn upward(&mut self, rng: &mut Rng) {
-        let from = rng.below(self.slots.past_greatest());
-        for address in from..SLOTS {
-            if self.slots.occupied(address) {
-                self.make(Call::Remove(address));
-            }
-        }
-    }
-
-    /// H may end up above L.
-    fn rise(&mut self, rng: &mut Rng) {
-        self.pushes(rng.below(500));
-        self.upward(rng);
-        self.pushes(rng.below(130));
-        self.inserts(rng.below(4));
-    }
-
-    fn removals(&mut self, n: usize, rng: &mut Rng) {
-        for _ in 0..n {
-            let address = victim(rng, &self.slots, self.clear);
-            self.make(Call::Remove(address));
-        }
-    }
-}
-
-fn victim(rng: &mut Rng, slots: &Slots, clear: bool) -> usize {
-    if clear && rng.once_in(20) {
-        return rng.below(SLOTS + 200);
-    }
-    let g = slots.past_greatest();
-    if rng.once_in(3) {
-        return g.saturating_sub(1);
-    }
-    let from = rng.below(g);
-    let occupied = (from..g).find(|a| slots.occupied(*a));
-    // At or past segment L there is nothing: both answer no.
-    occupied.unwrap_or(SEGMENT * slots.length() + rng.below(300))
 }

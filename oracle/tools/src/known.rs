@@ -6,8 +6,7 @@ pub struct Known {
     pub why: &'static str,
 }
 
-/// Of scripts there is none: what 01 leaves out of the domain isn't compared. Of bare `Slots` there is one, the removal
-/// of a clear slot (`bare::End::ClearRemoved`).
+/// There is none: what 01 leaves out of the domain isn't compared.
 pub const KNOWN: [Known; 0] = [];
 
 pub fn known(small: &[u8]) -> Option<&'static str> {

@@ -2,6 +2,7 @@
 
 pub mod args;
 pub mod bare;
+pub mod bare_calls;
 pub mod beside;
 pub mod comparison;
 pub mod damage;

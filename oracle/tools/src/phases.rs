@@ -4,7 +4,7 @@ use crate::bare::{self, BareTally, Call, End, Player};
 use crate::comparison::Comparison;
 use crate::ours::Ours;
 use crate::rng::Rng;
-use crate::{damage, every, lists, random};
+use crate::{bare_calls, damage, every, lists, random};
 use model::Frame;
 use std::collections::BTreeMap;
 
@@ -56,21 +56,34 @@ pub fn damaged_texts(comparison: &mut Comparison, count: u64, seed: u64) {
     comparison.against = against;
 }
 
-/// The original's `Slots` by itself. A difference is cut down to its shortest end.
+/// A run of bare `Slots`, counted. A difference is cut down to its shortest end.
+fn bare_run(calls: &[Call], ours: Player, tally: &mut BareTally) -> Option<(Vec<Call>, End)> {
+    let (end, went) = bare::play(calls, ours);
+    match tally.count(&end, went) {
+        true => None,
+        false => Some(smallest(calls.to_vec(), ours)),
+    }
+}
+
+/// The original's `Slots` by itself, on every run of so many calls.
+pub fn bare_every(count: usize, ours: Player) -> (BareTally, Option<(Vec<Call>, End)>) {
+    let mut tally = BareTally::default();
+    let mut found = None;
+    bare_calls::every(count, &mut |calls| {
+        found = bare_run(calls, ours, &mut tally);
+        found.is_none()
+    });
+    (tally, found)
+}
+
+/// The same on runs by chance.
 pub fn bare_runs(count: u64, seed: u64, ours: Player) -> (BareTally, Option<(Vec<Call>, End)>) {
     let mut rng = Rng::new(seed);
     let mut tally = BareTally::default();
     for _ in 0..count {
-        let calls = bare::calls(&mut rng);
-        let (end, equal) = bare::play(&calls, ours);
-        tally.runs += 1;
-        tally.calls += equal as u64;
-        match end {
-            End::Equal => {}
-            End::Refused => tally.refused += 1,
-            End::HeadAboveLength => tally.head_above_length += 1,
-            End::ClearRemoved => tally.clear_removed += 1,
-            End::Differs(..) => return (tally, Some(smallest(calls, ours))),
+        let found = bare_run(&bare_calls::by_chance(&mut rng), ours, &mut tally);
+        if found.is_some() {
+            return (tally, found);
         }
     }
     (tally, None)
@@ -94,12 +107,12 @@ fn smallest(mut calls: Vec<Call>, ours: Player) -> (Vec<Call>, End) {
     (calls, end)
 }
 
-/// The same runs by the model, whole: past a refusal, where H > L, and with clear slots removed. The first that differs, at which call.
+/// The runs by chance by the model, whole: past a refusal, and where H > L. The first that differs, at which call.
 pub fn bare_by_model(count: u64, seed: u64, ours: Player) -> (u64, Option<(Vec<Call>, usize)>) {
     let mut rng = Rng::new(seed);
     let mut equal = 0;
     for _ in 0..count {
-        let calls = bare::calls(&mut rng);
+        let calls = bare_calls::by_chance(&mut rng);
         let (rows, model) = (ours(&calls), bare::model_rows(&calls, None));
         match (0..calls.len()).find(|i| rows[*i] != model[*i]) {
             Some(i) => return (equal, Some((calls, i))),

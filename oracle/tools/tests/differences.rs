@@ -2,8 +2,7 @@
 //! what the proved functions do.
 
 use model::{Frame, Refusal};
-use oracle::bare::{model_rows, Call, Row};
-use rune::{drive, Bare, Driven, Stop};
+use rune::{drive, Driven, Stop};
 
 fn frames(script: &str) -> Vec<Frame> {
     let text = script.replace(" / ", "\n") + "\n";
@@ -31,14 +30,6 @@ fn printed(frames: &[Frame]) -> Vec<u8> {
 #[track_caller]
 fn ours(script: &str, lines: &str) {
     assert_eq!(printed(&frames(script)), list(lines));
-}
-
-/// What 01 has a run of calls on bare slots show; ours is the same.
-fn rows(calls: &[Call]) -> Vec<Row> {
-    let rows = model_rows(calls, None);
-    #[cfg(feature = "linked")]
-    assert_eq!(oracle::linked_slots::rows(calls), rows);
-    rows
 }
 
 /// 01 refuses the last frame.
@@ -154,19 +145,6 @@ fn d8_room() {
     taken(&children, 8, "010040");
     let names: Vec<String> = (0..257).map(|n| format!("09{n:04x}0000")).collect();
     taken(&format!("06 / {}", names.join(" / ")), 9, "09");
-}
-
-#[test]
-fn d9_removal_of_a_clear_slot() {
-    let mut calls = vec![Call::Push; 129];
-    calls.push(Call::Remove(129));
-    let ours = rows(&calls)[129];
-    let mut theirs = Bare::default();
-    for _ in 0..129 {
-        theirs.push();
-    }
-    assert_eq!((ours.answer, theirs.remove(129)), (0, false));
-    assert_eq!((ours.head, theirs.head()), (0, 1));
 }
 
 #[test]

@@ -22,6 +22,7 @@ struct Plan {
     random: u64,
     damaged: u64,
     bare: u64,
+    bare_every: usize,
     lists: u64,
     seed: u64,
 }
@@ -56,6 +57,7 @@ fn plan(args: &Args) -> Plan {
         random: args.number("--random", random),
         damaged: args.number("--damaged", few),
         bare: args.number("--bare", 20_000),
+        bare_every: args.number("--bare-every", 2) as usize,
         lists: args.number("--lists", few),
         seed: args.number("--seed", 1),
     }
@@ -167,12 +169,22 @@ fn bare_linked(_: &Plan) -> usize {
 }
 
 fn bare_against_original(whose: &str, plan: &Plan, player: Player) -> usize {
-    let (tally, differs) = phases::bare_runs(plan.bare, plan.seed, player);
-    println!("bare slots ({whose}, against the original)\n{tally}");
-    if let Some((calls, end)) = &differs {
-        println!("DIFFERENCE: {calls:?}\n  {end:?}");
+    let every = phases::bare_every(plan.bare_every, player);
+    let by_chance = phases::bare_runs(plan.bare, plan.seed, player);
+    let calls = plan.bare_every;
+    let found = [
+        (format!("every run of {calls} calls"), every),
+        ("by chance".into(), by_chance),
+    ];
+    let mut differences = 0;
+    for (which, (tally, differs)) in found {
+        println!("bare slots ({whose}, against the original), {which}\n{tally}");
+        if let Some((calls, end)) = &differs {
+            println!("DIFFERENCE: {calls:?}\n  {end:?}");
+            differences += 1;
+        }
     }
-    differs.into_iter().count()
+    differences
 }
 
 fn bare(plan: &Plan) -> usize {

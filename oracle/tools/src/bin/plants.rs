@@ -49,13 +49,13 @@ fn model_fault(name: &str, fault: Fault) -> bool {
     let said = |s: &Option<String>| s.clone().unwrap_or("nothing".into());
     println!("{name}\n  original: {}", said(&by_original));
     println!("  model: {}", said(&by_model));
-    let bare = phases::bare_runs(300, SEED, &mut |c| bare::model_rows(c, Some(fault))).1;
-    let calls = bare.as_ref().map(|(calls, _)| calls.len());
+    let by_bare = phases::bare_runs(300, SEED, &mut |c| bare::model_rows(c, Some(fault))).1;
+    let calls = by_bare.as_ref().map(|(calls, _)| calls.len());
     println!(
         "  bare slots: {}",
         calls.map_or("nothing".into(), |n| format!("{n} calls"))
     );
-    by_original.is_some() || by_model.is_some()
+    by_original.is_some() || by_model.is_some() || by_bare.is_some()
 }
 
 fn main() -> ExitCode {
