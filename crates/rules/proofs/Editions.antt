@@ -5,7 +5,7 @@ use mathlib.Core.Option.{Option, none, some}
 use Prim.Native.Nat.{ℕ, zero, suc, _+_, _*_, _-_, _/_, _%_, _≤_, _<_}
 use native.Mathlib.Omega.{arith}
 use lib.Dec.{eqb, ltb}
-use borrow.Author.Tests.{eqb-true, eqb-false, ltb-true, ltb-false, not-true}
+use borrow.Author.Tests.{eqb-true, eqb-false, ltb-false, not-true}
 use Rattle.rules.specs.Notation.{put, pastLast}
 use Rattle.rules.specs.Sizes.{Room}
 use Rattle.rules.specs.Slots.{Slots, Placed, Placement, freshSlots, insert, insertNew, pastGreatest, pushAt, pushes, pushRun, remove, edition1}
@@ -16,6 +16,7 @@ use Rattle.rules.proofs.Tables.{by-eqb, put-same, put-other}
 use Rattle.rules.proofs.Tells.{is-false}
 use Rattle.rules.proofs.Sound.{SlotsSound}
 use Rattle.rules.proofs.Tests.{tells-slots}
+use Rattle.rules.proofs.Removing.{remove-segments, remove-head, remove-was}
 use Rattle.rules.proofs.Searches.{first-found, past-within, past-above, past-last}
 use Rattle.rules.proofs.Placing.{clear, fromSegment, leastClear, insertShort, insert-short}
 
@@ -46,18 +47,11 @@ module _ (n : ℕ) where
   fresh-in-order = record { segments = omega arith; head = λ pos. pos; low = λ a h p. absurd (true≢false (sym p)) }
 
   removed-in-order : (a : ℕ) (s : Slots) → InOrder n s → InOrder n (remove a s)
-  unfolding remove
-  removed-in-order a s o = go (ltb (a / 128) (s .segments)) refl
-    where
-      go : (r : Bool) → ltb (a / 128) (s .segments) ≡ r → InOrder n (remove a s)
-      go true e =
-          rw (e, remove)
-          (record {
-            segments = o .segments;
-            head = λ pos. omega (arith, o .segments, ltb-true (a / 128) (s .segments) e);
-            low = λ b h p. o .low b h (put-true (s .occupied) a b false p (λ q. true≢false (sym p ∙ subst (λ (c : ℕ). put (s .occupied) a false c ≡ false) q (put-same (s .occupied) a false))));
-          })
-      go false e = rw (e, remove) o
+  removed-in-order a s o = record {
+    segments = rw (remove-segments a s) (o .segments);
+    head = λ pos. remove-head a s (λ h. h < n) (o .head pos) (λ q. omega (arith, o .segments));
+    low = λ b l p. rw (remove-segments a s) (o .low b l (remove-was a s b p));
+  }
 
   -- what a placement owes for m slots
   abbrev Owed : ℕ → Slots → Placed → Type 0

@@ -38,14 +38,14 @@ use Rattle.rules.proofs.Kept.{start-kept, free-kept, step-kept, base-fa
 -- ---- slots
 
 module _ (a : ℕ) (s : Slots) where
-  exists : removes a s ≡ true → ltb (a / 128) (s .segments) ≡ true
+  segment-exists : removes a s ≡ true → ltb (a / 128) (s .segments) ≡ true
   unfolding removes
-  exists e = tells-and (tells-true _) (tells-true _) .holds e .0
+  segment-exists e = tells-and (tells-true _) (tells-true _) .holds e .0
 
   -- the two wordings agree where the removal answers yes
   pub remove-same : removes a s ≡ true → remove a s ≡ remove01 a s
   unfolding remove remove01
-  remove-same e = rw (exists e, e, remove, remove01)
+  remove-same e = rw (segment-exists e, e, remove, remove01)
 
   -- .. which it does where the slot is occupied
   pub removes-occupied : (n : ℕ) → SlotsSound n s → a < 128 * n → s .occupied a ≡ true → removes a s ≡ true

@@ -1,5 +1,5 @@
 -- Slots after one address or several were removed: sound again, the removed ones clear, the others as they were. Assumes nothing.
-use mathlib.Core.Path.{_≡_, refl, sym, subst, _∙_}
+use mathlib.Core.Path.{_≡_, refl, subst, _∙_}
 use mathlib.Core.Bool.{Bool, true, false}
 use mathlib.Core.List.{List, [], _∷_}
 use Prim.Native.Nat.{ℕ, _*_, _/_, _<_}
@@ -17,6 +17,15 @@ use Rattle.rules.proofs.Tells.{clash, decided, is-false}
 module _ (a : ℕ) (s : Slots) where
   abbrev exists : Bool
   exists = ltb (a / 128) (s .segments)
+
+  pub remove-segments : remove a s .segments ≡ s .segments
+  unfolding remove
+  remove-segments = decided exists (λ q. rw (q, remove)) (λ q. rw (q, remove))
+
+  -- H stays, or becomes a segment below L
+  pub remove-head : (P : ℕ → Type 0) → P (s .head) → (a / 128 < s .segments → P (a / 128)) → P (remove a s .head)
+  unfolding remove
+  remove-head P stays moves = decided exists (λ q. rw (q, remove) (moves (ltb-true _ _ q))) (λ q. rw (q, remove) stays)
 
   pub remove-stays : (b : ℕ) → s .occupied b ≡ false → remove a s .occupied b ≡ false
   unfolding remove
@@ -36,19 +45,13 @@ module _ (a : ℕ) (s : Slots) where
         (λ q. rw (q, remove) (put-same (s .occupied) a false))
         (λ q. remove-stays a (is-false _ (λ e. absurd (omega (arith, sound .low a h e, ltb-false (a / 128) (s .segments) q)))))
 
-    -- H stays below the room: it becomes a segment below L
+    -- H stays below the room
     pub remove-sound : SlotsSound n (remove a s)
-    unfolding remove
-    remove-sound = decided exists (λ q. rw (q, remove) (cleared (ltb-true _ _ q))) (λ q. rw (q, remove) sound)
-      where
-        cleared : a / 128 < s .segments → SlotsSound n (record { occupied = put (s .occupied) a false; segments = s .segments; head = a / 128 })
-        cleared q = record {
-          segments = sound .segments;
-          head = omega (arith, sound .segments);
-          low = λ b l o. by-eqb a b
-              (λ e. clash (subst (λ (c : ℕ). put (s .occupied) a false c ≡ true) (sym e) o) (put-same (s .occupied) a false))
-              (λ ne. sound .low b l (sym (put-other (s .occupied) a false b ne) ∙ o));
-        }
+    remove-sound = record {
+      segments = rw remove-segments (sound .segments);
+      head = remove-head (λ h. h < n) (sound .head) (λ q. omega (arith, sound .segments));
+      low = λ b l o. rw remove-segments (sound .low b l (remove-was b o));
+    }
 
 -- ---- several
 
