@@ -14,13 +14,13 @@ use Rattle.rules.proofs.Tables.{put-ext}
 use Rattle.slots.specs.Halves.{bit}
 use Rattle.rules.proofs.Tells.{clash}
 
-digit-below : (x : ℕ) → x % 2 < 2
+pub digit-below : (x : ℕ) → x % 2 < 2
 digit-below x = mod-lt x (zero-lt-suc 1)
 
 or-digit : (a b j : ℕ) → bitOr a b / 2 ^ j % 2 ≡ bitOr (a / 2 ^ j % 2) (b / 2 ^ j % 2)
 or-digit a b j = ap (λ (x : ℕ). x % 2) (or-shr a b j) ∙ or-mod (a / 2 ^ j) (b / 2 ^ j) 1
 
-xor-digit : (a b j : ℕ) → bitXor a b / 2 ^ j % 2 ≡ bitXor (a / 2 ^ j % 2) (b / 2 ^ j % 2)
+pub xor-digit : (a b j : ℕ) → bitXor a b / 2 ^ j % 2 ≡ bitXor (a / 2 ^ j % 2) (b / 2 ^ j % 2)
 xor-digit a b j = ap (λ (x : ℕ). x % 2) (xor-shr a b j) ∙ xor-mod (a / 2 ^ j) (b / 2 ^ j) 1
 
 -- the one bit of a power
@@ -66,10 +66,10 @@ pub shl-one : (i : ℕ) → i < 64 → (1 * 2 ^ i) % 2 ^ 64 ≡ 2 ^ i
 shl-one i h = shl-exact 1 i 64 (omega arith) (omega arith) ∙ one-mul (2 ^ i)
 
 -- the lowest bit, and the others
-bit-zero : (n : ℕ) → bit n 0 ≡ eqb (n % 2) 1
+pub bit-zero : (n : ℕ) → bit n 0 ≡ eqb (n % 2) 1
 bit-zero n = rw div-one
 
-bit-suc : (n j : ℕ) → bit n (suc j) ≡ bit (n / 2) j
+pub bit-suc : (n j : ℕ) → bit n (suc j) ≡ bit (n / 2) j
 bit-suc n j =
     let e : suc j ≡ 1 + j = omega arith in
     ap (λ (x : ℕ). eqb (n / 2 ^ x % 2) 1) e ∙ ap (λ (x : ℕ). eqb (x % 2) 1) (sym (shr-shr n 1 j))

@@ -1,5 +1,6 @@
 pub mod Finds
 pub mod Bits
+pub mod Counts
 pub mod Occupied
 pub mod Steps
 pub mod Unique

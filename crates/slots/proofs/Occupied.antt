@@ -2,13 +2,17 @@
 use mathlib.Core.Path.{_≡_, refl, sym, ap, _∙_, fun-ext}
 use mathlib.Core.Bool.{Bool, true, false}
 use mathlib.Core.List.{List}
+use mathlib.Core.Logic.{by-cases}
 use Prim.Native.Nat.{ℕ, zero, suc, _+_, _-_, _*_, _/_, _%_, _^_, _≤_, _<_}
 use native.Mathlib.Nat.{zero-div}
+use native.Mathlib.Decide.{decLt}
 use native.Mathlib.Omega.{arith}
 use lib.ListN.{getD, set, length, replicate}
 use lib.Seq.{getD-set-same, getD-set-other, ext-getD}
 use Rattle.rules.specs.Notation.{put, pastLast}
+use Rattle.rules.specs.Tells.{Tells}
 use Rattle.rules.proofs.Tables.{by-eqb, put-same, put-other, put-ext}
+use Rattle.rules.proofs.Tells.{clash, tells-as}
 use Rattle.slots.specs.Halves.{bit, occ, firstClear}
 use Rattle.slots.proofs.Finds.{seam, at-one, clear-is, clear-of, past-is, past-of}
 use Rattle.slots.proofs.Bits.{bits-ext}
@@ -55,6 +59,32 @@ module _ (hs : List ℕ) (i b : ℕ) (e : b ≡ pastLast (bit (getD hs i 0)) 64)
             (λ k a c. in-half hs i false b 64 (omega arith) (q .after) k a (omega arith)) all;
         here = λ j s. in-half hs i true (b - 1) b (q .high) (λ j a c. q .here j (omega arith)) j (omega arith) (omega (arith, s));
       }))
+
+-- the answer `none` to a look at every half below i: whether each slot from m on is clear
+module _ (hs : List ℕ) (m : ℕ) where
+  abbrev pub ClearTo : ℕ → Type 0
+  ClearTo n = (a : ℕ) → m ≤ a → a < n → occ hs a ≡ false
+
+  module _ (i : ℕ) (none : Bool) where
+    pub look-below : 64 * (i + 1) ≤ m → Tells none (ClearTo (64 * i)) → Tells none (ClearTo (64 * (i + 1)))
+    look-below l t = tells-as t (λ all a x y. absurd (omega arith)) (λ all a x y. all a x (omega arith))
+
+    pub look-empty : pastLast (bit (getD hs i 0)) 64 ≤ 0 → Tells none (ClearTo (64 * i)) → Tells none (ClearTo (64 * (i + 1)))
+    look-empty l t =
+        tells-as t
+        (λ all a x y. by-cases (decLt a (64 * i)) (all a x) (λ n. down-past hs i _ refl l a (omega arith) y))
+        (λ all a x y. all a x (omega arith))
+
+  pub look-set : (i : ℕ) → m ≤ 64 * i → 0 < pastLast (bit (getD hs i 0)) 64 → Tells false (ClearTo (64 * (i + 1)))
+  look-set i l h =
+      let q = past-of (bit (getD hs i 0)) 64 _ refl in
+      let j : ℕ = pastLast (bit (getD hs i 0)) 64 - 1 in
+      let d : (64 * i + j) / 64 ≡ i = omega (arith, q .high) in
+      let r : (64 * i + j) % 64 ≡ j = omega (arith, q .high) in
+      record {
+        holds = λ e. clash e refl;
+        shows = λ all. clash (q .here j (omega arith)) (rw (d, r) at (all (64 * i + j) (omega arith) (omega (arith, q .high))));
+      }
 
 -- a half w that is half a / 64 but for bit a % 64, put in its place
 pub occ-set : (hs : List ℕ) (a w : ℕ) (v : Bool) → a / 64 < length hs → bit w ≡ put (bit (getD hs (a / 64) 0)) (a % 64) v

@@ -1,21 +1,22 @@
 -- What the code finds, as the rules say it: the test of soundness by the greatest slot; insert, push and remove from an address.
 -- `n` is the most segments there may be. Assumes nothing.
 use mathlib.Core.Path.{_≡_, refl, sym, ap, _∙_}
-use mathlib.Core.Bool.{Bool, true, false, _&&_}
+use mathlib.Core.Bool.{Bool, true, false}
+use mathlib.Core.Logic.{by-cases}
 use mathlib.Core.Option.{Option, none, some}
-use Prim.Native.Nat.{ℕ, zero, suc, _+_, _-_, _*_, _/_, _%_, _≤_, _<_, max}
+use Prim.Native.Nat.{ℕ, _+_, _-_, _*_, _/_, _%_, _≤_, _<_, max}
+use native.Mathlib.Decide.{decLt}
 use native.Mathlib.Omega.{arith}
-use lib.Dec.{leb, ltb}
 use borrow.Author.Tests.{eq-eqb, ne-eqb, lt-ltb, le-ltb, not-true, not-false}
 use Rattle.rules.specs.Notation.{Answer, given, put, pastLast}
 use Rattle.rules.specs.Sound.{soundSlots}
 use Rattle.rules.specs.Slots.{Slots, Placed, placed, startOf, insertNew, insert, pastGreatest, pushAt, push, removes, remove}
 use Rattle.rules.specs.Tells.{Tells}
-use Rattle.rules.proofs.Searches.{first-found, first-none, past-within, past-above, past-last}
+use Rattle.rules.proofs.Searches.{first-found, first-none, past-within}
 use Rattle.rules.proofs.Placing.{clear, leastClear, insertShort, insert-short}
 use Rattle.rules.proofs.Sound.{SlotsSound}
 use Rattle.rules.proofs.Tables.{put-ext}
-use Rattle.rules.proofs.Tells.{is-false, clash, tells-as, tells-and, tells-lt, tells-le}
+use Rattle.rules.proofs.Tells.{is-false, clash, tells-as}
 use Rattle.rules.proofs.Tests.{tells-slots}
 use Rattle.slots.specs.Halves.{firstClear, grownTo}
 use Rattle.slots.specs.Promises.{Seen, refusing, placedOr7, removal, checked}
@@ -41,21 +42,15 @@ grown-stays l g e = rw (ne-eqb (g % 128) 0 e, grownTo)
 module _ (n : ℕ) (s : Slots) where
   -- ---- soundness
 
-  abbrev test : Bool
-  test = leb (s .segments) n && ltb (s .head) n && leb (pastLast (s .occupied) (128 * n)) (128 * s .segments)
-
-  -- no slot from segment L on is occupied exactly where one past the greatest is at most 128·L
-  pub sound-test : test ≡ soundSlots n s
-  sound-test =
-      told-same test (soundSlots n s)
-      (tells-as (tells-and (tells-and (tells-le (s .segments) n) (tells-lt (s .head) n)) (tells-le (pastLast (s .occupied) (128 * n)) (128 * s .segments)))
-      (λ h. record { segments = h .0 .0; head = h .0 .1; low = λ a l o. omega (arith, past-above (s .occupied) (128 * n) a l o, h .1) })
-      (λ r. ((r .segments, r .head), below r (pastLast (s .occupied) (128 * n)) refl)))
+  -- where L and H are within the room, a state is sound exactly if no slot from segment L on is occupied
+  pub sound-test : (free : Bool) → s .segments ≤ n → s .head < n
+      → Tells free ((a : ℕ) → 128 * s .segments ≤ a → a < 128 * n → s .occupied a ≡ false) → free ≡ soundSlots n s
+  sound-test free l h t =
+      told-same free (soundSlots n s)
+      (tells-as t
+      (λ all. record { segments = l; head = h; low = λ a x o. by-cases (decLt a (128 * s .segments)) (λ y. y) (λ y. clash o (all a (omega arith) x)) })
+      (λ r a x y. is-false (s .occupied a) (λ o. absurd (omega (arith, r .low a y o)))))
       (tells-slots n s)
-    where
-      below : SlotsSound n s → (g : ℕ) → pastLast (s .occupied) (128 * n) ≡ g → pastLast (s .occupied) (128 * n) ≤ 128 * s .segments
-      below r zero e = omega arith
-      below r (suc m) e = omega (arith, r .low m (omega (arith, past-within (s .occupied) (128 * n))) (past-last (s .occupied) (128 * n) m e))
 
   pub sound-segments : soundSlots n s ≡ true → s .segments ≤ n
   sound-segments y = tells-slots n s .holds y .segments

@@ -2,6 +2,7 @@
 ghost use mathlib.Core.Path.{_≡_};
 ghost use mathlib.Core.Bool.{true, false};
 ghost use Prim.Native.Nat.{_<_};
+ghost use lib.Dec.{ltb};
 ghost use Rattle.rules.specs.Notation.{put, pastLast};
 ghost use Rattle.slots.specs.Halves.{bit, firstClear};
 
@@ -27,30 +28,31 @@ pub fn clear_bit(h: u64, i: u64) -> u64
     (h | (1 << i)) ^ (1 << i)
 }
 
-// The lowest clear bit, or 64.
+// Every bit is set.
+const FULL: u64 = 0xffff_ffff_ffff_ffff;
+
+pub fn has_clear(h: u64) -> bool
+    ensures { λ r. ⌜ r ≡ ltb (firstClear (bit h) 0 64) 64 ⌝ }
+{
+    h != FULL
+}
+
+pub fn has_set(h: u64) -> bool
+    ensures { λ r. ⌜ r ≡ ltb 0 (pastLast (bit h) 64) ⌝ }
+{
+    h != 0
+}
+
+// The lowest clear bit, or 64: the zeros at the low end of the complement.
 pub fn lowest_clear(h: u64) -> u64
     ensures { λ r. ⌜ r ≡ firstClear (bit h) 0 64 ⌝ }
 {
-    let mut i: u64 = 0;
-    while i < 64 {
-        if !test_bit(h, i) {
-            return i;
-        }
-        i += 1;
-    }
-    i
+    u64::trailing_zeros(h ^ FULL) as u64
 }
 
-// One past the highest set bit, or 0.
+// One past the highest set bit, or 0: what the zeros at the high end leave.
 pub fn past_highest(h: u64) -> u64
     ensures { λ r. ⌜ r ≡ pastLast (bit h) 64 ⌝ }
 {
-    let mut i: u64 = 64;
-    while 0 < i {
-        if test_bit(h, i - 1) {
-            return i;
-        }
-        i -= 1;
-    }
-    i
+    64 - (u64::leading_zeros(h) as u64)
 }

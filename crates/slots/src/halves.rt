@@ -1,11 +1,12 @@
 // The sixteen halves of a state, lent: questions and changes of one slot, and the two searches. No state is copied here.
 ghost use mathlib.Core.Path.{_≡_};
 ghost use mathlib.Core.Bool.{true, false};
-ghost use Prim.Native.Nat.{_+_, _-_, _*_, _≤_, _<_, min, max};
+ghost use Prim.Native.Nat.{ℕ, _+_, _-_, _*_, _≤_, _<_, min, max};
 ghost use lib.ListN.{length};
 ghost use Rattle.rules.specs.Notation.{put, pastLast};
 ghost use Rattle.rules.specs.Sizes.{base};
 ghost use Rattle.rules.specs.Sound.{soundSlots};
+ghost use Rattle.rules.specs.Tells.{Tells};
 ghost use Rattle.slots.specs.Halves.{occ, firstClear, slotsOf, grownTo};
 use crate::half;
 
@@ -41,9 +42,9 @@ pub fn first_clear(halves: &[u64; 16], from: usize) -> usize
 {
     let mut i = 2 * from;
     while i < 16 {
-        let b = half::lowest_clear(halves[i]);
-        if b < 64 {
-            return 64 * i + (b as usize);
+        let h = halves[i];
+        if half::has_clear(h) {
+            return 64 * i + (half::lowest_clear(h) as usize);
         }
         i += 1;
     }
@@ -56,13 +57,32 @@ pub fn past_greatest(halves: &[u64; 16]) -> usize
 {
     let mut i: usize = 16;
     while 0 < i {
-        let b = half::past_highest(halves[i - 1]);
-        if 0 < b {
-            return 64 * (i - 1) + (b as usize);
+        let h = halves[i - 1];
+        if half::has_set(h) {
+            return 64 * (i - 1) + (half::past_highest(h) as usize);
         }
         i -= 1;
     }
     0
+}
+
+// No slot from segment `from` on is occupied. It stops at no half: so it compiles to a straight line, without a loop.
+fn none_from(halves: &[u64; 16], from: usize) -> bool
+    requires { ⌜ from ≤ 8 ⌝ }
+    ensures { λ r. ⌜ Tells r ((a : ℕ) → 128 * from ≤ a → a < 1024 → occ (now (halves .entry)) a ≡ false) ⌝ }
+{
+    let mut none = true;
+    let mut i: usize = 0;
+    while i < 16 {
+        let h = halves[i];
+        if 2 * from <= i {
+            if half::has_set(h) {
+                none = false;
+            }
+        }
+        i += 1;
+    }
+    none
 }
 
 // What 01 asks of the slots of a state handed in.
@@ -71,7 +91,7 @@ pub fn are_sound(halves: &[u64; 16], segments: usize, head: usize) -> bool
 {
     if segments <= 8 {
         if head < 8 {
-            past_greatest(halves) <= 128 * segments
+            none_from(halves, segments)
         } else {
             false
         }

@@ -1,29 +1,26 @@
 use borrow.Author.Needs.{needs}
-use borrow.Author.Tests.{le-leb, lt-leb, lt-ltb, le-ltb}
+use mathlib.Core.Path.{sym}
+use native.Mathlib.Omega.{arith}
 use Rattle.rules.specs.Sizes.{base}
-use Rattle.slots.specs.Halves.{slotsOf}
-use Rattle.slots.proofs.Steps.{sound-test}
+use Rattle.rules.proofs.Tells.{is-false}
+use Rattle.slots.proofs.Steps.{sound-test, sound-head, sound-segments}
 use Rattle.slots.proofs.halves.are_sound.Statement.{statement}
 use Rattle.slots.proofs.halves.are_sound.Tie as tie
 
-past-greatest-requires : tie.Need-past-greatest-requires
-past-greatest-requires c κs = search needs
-
-mul-result : tie.Need-mul-result
-mul-result c = search needs
+none-from-requires : tie.Need-none-from-requires
+none-from-requires c κs = search needs
 
 returns : tie.Need-returns
 unfolding base
-returns c =
-    rw (← sound-test (base .segments) (slotsOf (c .before .before .before .args .halves .now) (c .before .before .before .args .segments) (c .before .before .before .args .head)), le-leb _ _ (c .before .before .if1 .taken), lt-ltb _ _ (c .before .if2 .taken), c .past-greatest .ensures)
+returns c = sound-test _ _ _ (c .before .before .if1 .taken) (c .before .if2 .taken) (c .none-from .ensures)
 
 returns-2 : tie.Need-returns-2
 unfolding base
-returns-2 c = rw (← sound-test (base .segments) (slotsOf (c .before .before .args .halves .now) (c .before .before .args .segments) (c .before .before .args .head)), le-leb _ _ (c .before .if1 .taken), le-ltb _ _ (c .if2 .left))
+returns-2 c = sym (is-false _ (λ y. absurd (omega (arith, sound-head _ _ y, c .if2 .left))))
 
 returns-3 : tie.Need-returns-3
 unfolding base
-returns-3 c = rw (← sound-test (base .segments) (slotsOf (c .before .args .halves .now) (c .before .args .segments) (c .before .args .head)), lt-leb _ _ (c .if1 .left))
+returns-3 c = sym (is-false _ (λ y. absurd (omega (arith, sound-segments _ _ y, c .if1 .left))))
 
 pub are-sound-spec : {M : Type 1} → statement M
-are-sound-spec = tie.close (tie.spec past-greatest-requires mul-result returns returns-2 returns-3)
+are-sound-spec = tie.close (tie.spec none-from-requires returns returns-2 returns-3)

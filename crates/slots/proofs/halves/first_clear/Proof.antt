@@ -1,11 +1,12 @@
 -- `halves::first_clear`. The loop's invariant: every slot from segment `from` up to half i is occupied. Assumes nothing.
-use borrow.Author.Needs.{needs}
-use mathlib.Core.Path.{_≡_, sym}
+use borrow.Author.Needs.{needs, fits-under}
+use mathlib.Core.Path.{_≡_, refl, sym, ap, _∙_}
 use mathlib.Core.Bool.{true}
-use Prim.Native.Nat.{ℕ, _*_, _≤_, _<_, _-_}
+use Prim.Native.Nat.{ℕ, _+_, _*_, _≤_, _<_, _-_}
 use native.Mathlib.Omega.{arith}
-use Rattle.slots.specs.Halves.{occ}
-use Rattle.slots.proofs.Finds.{seam, clear-is}
+use borrow.Author.Tests.{ltb-true, ltb-false}
+use Rattle.slots.specs.Halves.{bit, occ}
+use Rattle.slots.proofs.Finds.{seam, clear-is, clear-of}
 use Rattle.slots.proofs.Occupied.{up-past, up-here}
 use Rattle.slots.proofs.halves.first_clear.Statement.{statement}
 use Rattle.slots.proofs.halves.first_clear.Tie as tie
@@ -22,25 +23,30 @@ mul-i c = search needs
 loop-holds : tie.Need-loop-holds Inv-loop μ-loop
 loop-holds c = (search needs, search needs, λ k a b. absurd (omega (arith, a, b)))
 
-mul-lowest-clear : tie.Need-mul-lowest-clear Inv-loop μ-loop
-mul-lowest-clear c = search needs
+mul-h : tie.Need-mul-h Inv-loop μ-loop
+mul-h c = search needs
 
-element-copy-out-lowest-clear : tie.Need-element-copy-out-lowest-clear Inv-loop μ-loop
-element-copy-out-lowest-clear c = search needs
+element-copy-out-h : tie.Need-element-copy-out-h Inv-loop μ-loop
+element-copy-out-h c = search needs
 
-lowest-clear-requires : tie.Need-lowest-clear-requires Inv-loop μ-loop
-lowest-clear-requires c κs = search needs
+has-clear-requires : tie.Need-has-clear-requires Inv-loop μ-loop
+has-clear-requires c κs = search needs
 
 mul-result : tie.Need-mul-result Inv-loop μ-loop
 mul-result c = search needs
 
+lowest-clear-requires : tie.Need-lowest-clear-requires Inv-loop μ-loop
+lowest-clear-requires c κs = search needs
+
 add-result : tie.Need-add-result Inv-loop μ-loop
-add-result c = search needs
+add-result c = fits-under _ _ 1025 (omega (arith, clear-of (bit _) 0 64 _ (c .lowest-clear .ensures) .high)) tt
 
 returns : tie.Need-returns Inv-loop μ-loop
 returns c =
-    up-here (c .before .before .before .before .before .args .halves .now) _ _ (c .before .lowest-clear .ensures)
-    _ _ (omega arith) (omega arith) (c .before .before .before .before .loop .inv .2) (c .if1 .taken)
+    ap (λ (x : ℕ). 64 * c .before .before .before .before .before .loop .i + x) (c .lowest-clear .ensures)
+    ∙ up-here (c .before .before .before .before .before .before .args .halves .now) _ _ refl
+    _ _ (omega arith) (omega arith) (c .before .before .before .before .before .loop .inv .2)
+    (ltb-true _ _ (sym (c .before .before .has-clear .ensures) ∙ c .before .if1 .taken))
 
 add-i : tie.Need-add-i Inv-loop μ-loop
 add-i c = search needs
@@ -53,7 +59,7 @@ loop-again c = (
   search needs,
   search needs,
   seam _ _ _ _ (c .before .before .before .before .loop .inv .2)
-      (up-past (c .before .before .before .before .before .args .halves .now) _ _ (c .before .lowest-clear .ensures) (c .if1 .left)),
+      (up-past (c .before .before .before .before .before .args .halves .now) _ _ refl (ltb-false _ _ (sym (c .before .has-clear .ensures) ∙ c .if1 .left))),
 )
 
 returns-2 : tie.Need-returns-2 Inv-loop μ-loop
@@ -73,10 +79,11 @@ first-clear-spec =
     μ-loop
     mul-i
     loop-holds
-    mul-lowest-clear
-    element-copy-out-lowest-clear
-    lowest-clear-requires
+    mul-h
+    element-copy-out-h
+    has-clear-requires
     mul-result
+    lowest-clear-requires
     add-result
     returns
     add-i

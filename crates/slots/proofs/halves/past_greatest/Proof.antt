@@ -1,10 +1,11 @@
 -- `halves::past_greatest`. The loop's invariant: every slot from half i on is clear. Assumes nothing.
-use borrow.Author.Needs.{needs}
-use mathlib.Core.Path.{_≡_, sym}
+use borrow.Author.Needs.{needs, fits-under}
+use mathlib.Core.Path.{_≡_, refl, sym, ap, _∙_}
 use mathlib.Core.Bool.{false}
-use Prim.Native.Nat.{ℕ, _*_, _≤_, _<_}
+use Prim.Native.Nat.{ℕ, _+_, _-_, _*_, _≤_, _<_}
 use native.Mathlib.Omega.{arith}
-use Rattle.slots.specs.Halves.{occ}
+use borrow.Author.Tests.{ltb-true, ltb-false}
+use Rattle.slots.specs.Halves.{bit, occ}
 use Rattle.slots.proofs.Finds.{seam, past-of, past-is}
 use Rattle.slots.proofs.Occupied.{down-past, down-here}
 use Rattle.slots.proofs.halves.past_greatest.Statement.{statement}
@@ -19,17 +20,17 @@ abbrev μ-loop : tie.MeasureT-loop
 loop-holds : tie.Need-loop-holds Inv-loop μ-loop
 loop-holds c = (search needs, λ k a b. absurd (omega (arith, a, b)))
 
-sub-past-highest : tie.Need-sub-past-highest Inv-loop μ-loop
-sub-past-highest c = search needs
+sub-h : tie.Need-sub-h Inv-loop μ-loop
+sub-h c = search needs
 
-mul-past-highest : tie.Need-mul-past-highest Inv-loop μ-loop
-mul-past-highest c = search needs
+mul-h : tie.Need-mul-h Inv-loop μ-loop
+mul-h c = search needs
 
-element-copy-out-past-highest : tie.Need-element-copy-out-past-highest Inv-loop μ-loop
-element-copy-out-past-highest c = search needs
+element-copy-out-h : tie.Need-element-copy-out-h Inv-loop μ-loop
+element-copy-out-h c = search needs
 
-past-highest-requires : tie.Need-past-highest-requires Inv-loop μ-loop
-past-highest-requires c κs = search needs
+has-set-requires : tie.Need-has-set-requires Inv-loop μ-loop
+has-set-requires c κs = search needs
 
 sub-result : tie.Need-sub-result Inv-loop μ-loop
 sub-result c = search needs
@@ -37,13 +38,18 @@ sub-result c = search needs
 mul-result : tie.Need-mul-result Inv-loop μ-loop
 mul-result c = search needs
 
+past-highest-requires : tie.Need-past-highest-requires Inv-loop μ-loop
+past-highest-requires c κs = search needs
+
 add-result : tie.Need-add-result Inv-loop μ-loop
-add-result c = omega (arith, past-of _ _ _ (c .before .past-highest .ensures) .high)
+add-result c = fits-under _ _ 1025 (omega (arith, past-of (bit _) 64 _ (c .past-highest .ensures) .high)) tt
 
 returns : tie.Need-returns Inv-loop μ-loop
 returns c =
-    down-here (c .before .before .before .before .before .args .halves .now) _ _ (c .before .past-highest .ensures)
-    _ (omega arith) (λ k a b. c .before .before .before .before .loop .inv .1 k (omega (arith, a)) b) (c .if1 .taken)
+    ap (λ (x : ℕ). 64 * (c .before .before .before .before .before .loop .i - 1) + x) (c .past-highest .ensures)
+    ∙ down-here (c .before .before .before .before .before .before .args .halves .now) _ _ refl
+    _ (omega arith) (λ k a b. c .before .before .before .before .before .loop .inv .1 k (omega (arith, a)) b)
+    (ltb-true _ _ (sym (c .before .before .has-set .ensures) ∙ c .before .if1 .taken))
 
 sub-i : tie.Need-sub-i Inv-loop μ-loop
 sub-i c = search needs
@@ -55,7 +61,8 @@ loop-again : tie.Need-loop-again Inv-loop μ-loop
 loop-again c = (
   search needs,
   seam _ _ (64 * c .before .before .before .before .loop .i) _
-      (λ k a b. down-past (c .before .before .before .before .before .args .halves .now) _ _ (c .before .past-highest .ensures) (c .if1 .left) k a (omega (arith, b)))
+      (λ k a b. down-past (c .before .before .before .before .before .args .halves .now) _ _ refl
+      (ltb-false _ _ (sym (c .before .has-set .ensures) ∙ c .if1 .left)) k a (omega (arith, b)))
       (c .before .before .before .before .loop .inv .1),
 )
 
@@ -74,12 +81,13 @@ past-greatest-spec =
     Inv-loop
     μ-loop
     loop-holds
-    sub-past-highest
-    mul-past-highest
-    element-copy-out-past-highest
-    past-highest-requires
+    sub-h
+    mul-h
+    element-copy-out-h
+    has-set-requires
     sub-result
     mul-result
+    past-highest-requires
     add-result
     returns
     sub-i
