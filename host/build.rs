@@ -35,6 +35,16 @@ fn names(bytes: &[u8]) -> Option<Vec<&str>> {
     Some(names.split('\0').take(count).collect())
 }
 
+/// What its first object is for, in cargo's word: byte 18 of an ELF file tells the machine.
+fn machine(bytes: &[u8]) -> &'static str {
+    let object = bytes.windows(4).position(|four| four == b"\x7fELF");
+    match object.and_then(|at| bytes.get(at + 18)) {
+        Some(62) => "x86_64",
+        Some(183) => "aarch64",
+        _ => "another machine",
+    }
+}
+
 fn read(path: &Path) -> Vec<u8> {
     std::fs::read(path).unwrap_or_else(|e| {
         stop(&format!(
@@ -49,11 +59,12 @@ fn main() {
     println!("cargo::rerun-if-env-changed=MBOXALIND_ARCHIVE");
     let path = archive();
     println!("cargo::rerun-if-changed={}", path.display());
-    let target = env::var("TARGET").expect("cargo sets it");
-    if !target.starts_with("x86_64-") || !target.contains("linux") {
-        stop(&format!("the archive is for x86-64 Linux, not for {target}: host/README.md says what another machine needs"));
-    }
     let bytes = read(&path);
+    let (target, made_for) = (env::var("TARGET").expect("cargo sets it"), machine(&bytes));
+    if !target.starts_with(made_for) || !target.contains("linux") {
+        let path = path.display();
+        stop(&format!("{path} is for {made_for} on Linux, not for {target}: host/README.md says what another machine needs"));
+    }
     let Some(names) = names(&bytes) else {
         stop(&format!(
             "{} is no archive with a table of names",
