@@ -156,7 +156,7 @@ the same text and a plain writer of the same list. Buffers (its frames and list,
 made and written once before and used again; scopes and handles are made anew for each script on both sides. The original's
 collections are the standard library's, with a cheap hash for names.
 
-To print it again: `host/archive --bare`, then `bin/figures`, then `bin/figures gate LOG`, where LOG is what `.ci/run` printed.
+To print it again: `bin/figures`, then `bin/figures counts`, then `bin/figures gate LOG`, where LOG is what `.ci/run` printed.
 ";
 
 fn main() {

@@ -3,21 +3,34 @@
 use std::fs;
 use std::process::Command;
 
-fn said(program: &str, word: &str) -> String {
-    let output = Command::new(program).arg(word).output();
+/// What a program prints; nothing, where it can't be asked.
+fn printed(program: &str, words: &[&str]) -> String {
+    let output = Command::new(program).args(words).output();
     let text = output.map(|o| String::from_utf8_lossy(&o.stdout).into_owned());
-    let text = text.unwrap_or_default();
-    match text.lines().next() {
+    text.unwrap_or_default()
+}
+
+fn said(program: &str, word: &str) -> String {
+    match printed(program, &[word]).lines().next() {
         Some(line) => line.to_string(),
         None => format!("{program}, which could not be asked"),
     }
 }
 
 fn processor() -> String {
-    let info = fs::read_to_string("/proc/cpuinfo").unwrap_or_default();
-    let named = info.lines().find(|line| line.starts_with("model name"));
-    let name = named.and_then(|line| line.split(':').nth(1));
+    let told = printed("lscpu", &[]);
+    let name = told.lines().find_map(|l| l.strip_prefix("Model name:"));
     name.map_or("unknown".into(), |name| name.trim().into())
+}
+
+/// How our archives were made.
+fn made() -> &'static str {
+    match cfg!(target_arch = "x86_64") {
+        true => "`rt staticlib`, linked as it is",
+        false => {
+            "its LLVM bitcode, compiled for this machine by `oracle/here`; what ships is for x86-64"
+        }
+    }
 }
 
 /// How many others ran in the last minute.
@@ -39,9 +52,6 @@ pub fn lines() -> Vec<String> {
             "- original: {}, cargo's release profile (opt-level 3, no LTO), target-cpu not set",
             said("rustc", "--version")
         ),
-        format!(
-            "- ours: {}, `rt staticlib`, linked as it is",
-            said("rt", "version")
-        ),
+        format!("- ours: {}, {}", said("rt", "version"), made()),
     ]
 }

@@ -1,0 +1,54 @@
+//! One side's work a number of times and nothing else, so that an emulator can count what it takes: work SIDE WHAT TIMES.
+//! WHAT is the stride of pairs over bare slots (sides original, value, lent), or `kind` and the number of a script of 2,048 frames
+//! (original, ours).
+
+use model::Frame;
+use oracle::figures::work::KINDS;
+use oracle::linked_slots::{pairs_by_value, pairs_lent};
+use rune::{Bare, Lean};
+use std::env;
+
+const FRAMES: usize = 2048;
+
+/// The sum of the addresses.
+fn pairs(side: &str, stride: u16, times: usize) -> Option<u64> {
+    match side {
+        "original" => Some(Bare::pairs(times, stride)),
+        "value" => Some(pairs_by_value(times, stride)),
+        "lent" => Some(pairs_lent(times, stride)),
+        _ => None,
+    }
+}
+
+/// The bytes of all lists.
+fn scripts(side: &str, kind: usize, times: usize) -> Option<u64> {
+    let script = Frame::script(&KINDS.get(kind)?.1(FRAMES));
+    let (mut lean, mut list) = (Lean::default(), vec![0; model::BUFFER]);
+    let mut once = || match side {
+        "original" => lean.translate(&script).map(|list| list.len()),
+        "ours" => mboxalind::translate(&script, &mut list).written().ok(),
+        _ => None,
+    };
+    (0..times).map(|_| once().map(|bytes| bytes as u64)).sum()
+}
+
+fn main() {
+    let words: Vec<String> = env::args().skip(1).collect();
+    let words: Vec<&str> = words.iter().map(String::as_str).collect();
+    let done = match words[..] {
+        [side, what, times] => {
+            times
+                .parse()
+                .ok()
+                .and_then(|times| match what.strip_prefix("kind") {
+                    Some(kind) => scripts(side, kind.parse().ok()?, times),
+                    None => pairs(side, what.parse().ok()?, times),
+                })
+        }
+        _ => None,
+    };
+    println!(
+        "{}",
+        done.expect("SIDE WHAT TIMES, as the head of work.rs says")
+    );
+}
