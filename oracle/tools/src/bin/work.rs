@@ -7,6 +7,7 @@ use oracle::figures::work::KINDS;
 use oracle::linked_slots::{pairs_by_value, pairs_lent};
 use rune::{Bare, Lean};
 use std::env;
+use std::process::exit;
 
 const FRAMES: usize = 2048;
 
@@ -32,23 +33,24 @@ fn scripts(side: &str, kind: usize, times: usize) -> Option<u64> {
     (0..times).map(|_| once().map(|bytes| bytes as u64)).sum()
 }
 
+fn done(words: &[String]) -> Option<u64> {
+    let [side, what, times] = words else {
+        return None;
+    };
+    let times = times.parse().ok()?;
+    match what.strip_prefix("kind") {
+        Some(kind) => scripts(side, kind.parse().ok()?, times),
+        None => pairs(side, what.parse().ok()?, times),
+    }
+}
+
 fn main() {
     let words: Vec<String> = env::args().skip(1).collect();
-    let words: Vec<&str> = words.iter().map(String::as_str).collect();
-    let done = match words[..] {
-        [side, what, times] => {
-            times
-                .parse()
-                .ok()
-                .and_then(|times| match what.strip_prefix("kind") {
-                    Some(kind) => scripts(side, kind.parse().ok()?, times),
-                    None => pairs(side, what.parse().ok()?, times),
-                })
+    match done(&words) {
+        Some(number) => println!("{number}"),
+        None => {
+            eprintln!("usage: work SIDE WHAT TIMES");
+            exit(2)
         }
-        _ => None,
-    };
-    println!(
-        "{}",
-        done.expect("SIDE WHAT TIMES, as the head of work.rs says")
-    );
+    }
 }
