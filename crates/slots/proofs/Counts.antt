@@ -34,7 +34,7 @@ full-digit j l =
 full-bit : (j : ℕ) → j < 64 → bit (2 ^ 64 - 1) j ≡ true
 full-bit j l = ap (λ (x : ℕ). eqb x 1) (full-digit j l)
 
-empty-bit : (j : ℕ) → bit 0 j ≡ false
+pub empty-bit : (j : ℕ) → bit 0 j ≡ false
 empty-bit j = rw (zero-div (2 ^ j))
 
 module _ (h : ℕ) (fits : h < 2 ^ 64) where

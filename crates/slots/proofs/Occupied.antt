@@ -4,7 +4,6 @@ use mathlib.Core.Bool.{Bool, true, false}
 use mathlib.Core.List.{List}
 use mathlib.Core.Logic.{by-cases}
 use Prim.Native.Nat.{ℕ, zero, suc, _+_, _-_, _*_, _/_, _%_, _^_, _≤_, _<_}
-use native.Mathlib.Nat.{zero-div}
 use native.Mathlib.Decide.{decLt}
 use native.Mathlib.Omega.{arith}
 use lib.ListN.{getD, set, length, replicate}
@@ -16,6 +15,7 @@ use Rattle.rules.proofs.Tells.{clash, tells-as}
 use Rattle.slots.specs.Halves.{bit, occ, firstClear}
 use Rattle.slots.proofs.Finds.{seam, at-one, clear-is, clear-of, past-is, past-of}
 use Rattle.slots.proofs.Bits.{bits-ext}
+use Rattle.slots.proofs.Counts.{empty-bit}
 
 -- what the bits lo .. hi of half i are, its slots are
 in-half : (hs : List ℕ) (i : ℕ) (v : Bool) (lo hi : ℕ) → hi ≤ 64 → ((j : ℕ) → lo ≤ j → j < hi → bit (getD hs i 0) j ≡ v)
@@ -60,7 +60,7 @@ module _ (hs : List ℕ) (i b : ℕ) (e : b ≡ pastLast (bit (getD hs i 0)) 64)
         here = λ j s. in-half hs i true (b - 1) b (q .high) (λ j a c. q .here j (omega arith)) j (omega arith) (omega (arith, s));
       }))
 
--- the answer `none` to a look at every half below i: whether each slot from m on is clear
+-- a look at one half after the other: `none` is the answer, before half i and after it, whether each slot from m on is clear
 module _ (hs : List ℕ) (m : ℕ) where
   abbrev pub ClearTo : ℕ → Type 0
   ClearTo n = (a : ℕ) → m ≤ a → a < n → occ hs a ≡ false
@@ -110,7 +110,7 @@ zero-half (suc k) zero = refl
 zero-half (suc k) (suc i) = zero-half k i
 
 pub none-occupied : (k : ℕ) → occ (replicate k 0) ≡ (λ a. false)
-none-occupied k = fun-ext (λ a. rw (zero-half k (a / 64), zero-div))
+none-occupied k = fun-ext (λ a. rw (zero-half k (a / 64)) (empty-bit (a % 64)))
 
 -- halves of 64 bits are told by their slots
 pub halves-ext : (hs gs : List ℕ) → length hs ≡ length gs → ((i : ℕ) → getD hs i 0 < 2 ^ 64) → ((i : ℕ) → getD gs i 0 < 2 ^ 64)

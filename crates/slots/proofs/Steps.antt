@@ -1,4 +1,4 @@
--- What the code finds, as the rules say it: the test of soundness by the greatest slot; insert, push and remove from an address.
+-- What the code finds, as the rules say it: the test of soundness by the slots from segment L on; insert, push and remove from an address.
 -- `n` is the most segments there may be. Assumes nothing.
 use mathlib.Core.Path.{_≡_, refl, sym, ap, _∙_}
 use mathlib.Core.Bool.{Bool, true, false}

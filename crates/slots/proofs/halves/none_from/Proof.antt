@@ -1,20 +1,18 @@
 -- `halves::none_from`. The loop's invariant: `none` tells whether every slot from segment `from` up to half i is clear. Assumes nothing.
 use borrow.Author.Needs.{needs}
-use mathlib.Core.Path.{_≡_, refl, sym, _∙_}
-use mathlib.Core.Bool.{false}
+use mathlib.Core.Path.{refl, sym, _∙_}
 use mathlib.Core.Logic.{⊎-elim}
-use Prim.Native.Nat.{ℕ, _*_, _≤_, _<_, _-_}
+use Prim.Native.Nat.{_*_, _≤_, _-_}
 use native.Mathlib.Omega.{arith}
 use borrow.Author.Tests.{ltb-true, ltb-false}
 use Rattle.rules.specs.Tells.{Tells}
 use Rattle.rules.proofs.Tells.{tells-as}
-use Rattle.slots.specs.Halves.{occ}
-use Rattle.slots.proofs.Occupied.{look-below, look-empty, look-set}
+use Rattle.slots.proofs.Occupied.{ClearTo, look-below, look-empty, look-set}
 use Rattle.slots.proofs.halves.none_from.Statement.{statement}
 use Rattle.slots.proofs.halves.none_from.Tie as tie
 
 abbrev Inv-loop : tie.InvT-loop
-Inv-loop halves from none₀ i₀ none i = (i ≤ 16) × Tells none ((a : ℕ) → 128 * from ≤ a → a < 64 * i → occ halves a ≡ false)
+Inv-loop halves from none₀ i₀ none i = (i ≤ 16) × Tells none (ClearTo halves (128 * from) (64 * i))
 
 abbrev μ-loop : tie.MeasureT-loop
 μ-loop halves from none₀ i₀ none i = 16 - i
