@@ -60,17 +60,17 @@ fn main() {
     let path = archive();
     println!("cargo::rerun-if-changed={}", path.display());
     let bytes = read(&path);
-    let (target, made_for) = (env::var("TARGET").expect("cargo sets it"), machine(&bytes));
-    if !target.starts_with(made_for) || !target.contains("linux") {
-        let path = path.display();
-        stop(&format!("{path} is for {made_for} on Linux, not for {target}: host/README.md says what another machine needs"));
-    }
     let Some(names) = names(&bytes) else {
         stop(&format!(
             "{} is no archive with a table of names",
             path.display()
         ));
     };
+    let (target, made_for) = (env::var("TARGET").expect("cargo sets it"), machine(&bytes));
+    if !target.starts_with(made_for) || !target.contains("linux") {
+        let path = path.display();
+        stop(&format!("{path} is for {made_for} on Linux, not for {target}: host/README.md says what another machine needs"));
+    }
     if !names.contains(&"run") {
         stop(&format!("{} has no function run", path.display()));
     }
