@@ -3,7 +3,7 @@
 use mboxalind::Answer;
 use model::Frame;
 use oracle::args::Args;
-use oracle::figures::work::{self, KINDS, LENGTHS};
+use oracle::figures::work::{self, KINDS, LENGTHS, STRIDES};
 use oracle::figures::{clock, plain::Machine, setting};
 use oracle::linked_checks::checks;
 use oracle::linked_slots::{pairs_by_value, pairs_lent};
@@ -32,12 +32,7 @@ fn pairs() {
     println!("once, and a loop lends its halves to the same leaves. Both sums are proved to be the rules' (crate `bare`).\n");
     println!("| slots in turn | original | ours, a call by value for each | ours, halves lent |");
     println!("|---|---|---|---|");
-    for (stride, name) in [
-        (0, "slot 0"),
-        (1, "0, 1, 2 .. 511"),
-        (37, "0, 37, 74 .. modulo 512"),
-        (128, "0, 128, 256, 384"),
-    ] {
+    for (stride, name) in STRIDES {
         let sum = Bare::pairs(PAIRS, stride);
         assert_eq!(sum, pairs_by_value(PAIRS, stride), "the sums differ");
         assert_eq!(sum, pairs_lent(PAIRS, stride), "the sums differ");

@@ -1,9 +1,9 @@
 //! One side's work a number of times and nothing else, so that an emulator can count what it takes: work SIDE WHAT TIMES.
 //! WHAT is the stride of pairs over bare slots (sides original, value, lent), or `kind` and the number of a script of 2,048 frames
-//! (original, ours).
+//! (original, ours). `work names` has each WHAT with its name.
 
 use model::Frame;
-use oracle::figures::work::KINDS;
+use oracle::figures::work::{KINDS, STRIDES};
 use oracle::linked_slots::{pairs_by_value, pairs_lent};
 use rune::{Bare, Lean};
 use std::env;
@@ -44,12 +44,24 @@ fn done(words: &[String]) -> Option<u64> {
     }
 }
 
+fn names() {
+    for (stride, name) in STRIDES {
+        println!("{stride} {name}");
+    }
+    for (i, (name, _)) in KINDS.iter().enumerate() {
+        println!("kind{i} {name}");
+    }
+}
+
 fn main() {
     let words: Vec<String> = env::args().skip(1).collect();
+    if words == ["names"] {
+        return names();
+    }
     match done(&words) {
         Some(number) => println!("{number}"),
         None => {
-            eprintln!("usage: work SIDE WHAT TIMES");
+            eprintln!("usage: work SIDE WHAT TIMES | work names");
             exit(2)
         }
     }

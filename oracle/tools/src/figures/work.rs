@@ -1,4 +1,4 @@
-//! Scripts of several kinds, of a given number of frames, and a list of stores and loads.
+//! What both sides do: pairs over bare slots, scripts of several kinds of a given number of frames, a list of stores and loads.
 
 use model::Frame::{self, *};
 
@@ -12,6 +12,14 @@ pub const KINDS: [Kind; 6] = [
     ("look-ups through up to 63 scopes", climbs),
     ("a run and its freeing", runs),
     ("a run of 16, its freeing, a drain", drains),
+];
+
+/// By how much the slot of the next pair is further on, and which slots that gives.
+pub const STRIDES: [(u16, &str); 4] = [
+    (0, "slot 0"),
+    (1, "0, 1, 2 .. 511"),
+    (37, "0, 37, 74 .. modulo 512"),
+    (128, "0, 128, 256, 384"),
 ];
 
 /// 64, 128 .. 2,048.
