@@ -129,7 +129,7 @@ module _ (room : Room) (place : Placement) (fair : Fair room place (SlotsSound (
 
 -- ---- of edition 1
 
-base-fair : Fair base (edition1 8) (SlotsSound (base .segments))
+pub base-fair : Fair base (edition1 8) (SlotsSound (base .segments))
 unfolding base
 base-fair = edition1-fair-sound base (lit< tt)
 

@@ -10,12 +10,12 @@ use Rattle.rules.specs.Sizes.{Room}
 use Rattle.rules.specs.Slots.{freshSlots}
 use Rattle.rules.specs.AddressSets.{member, repeatsNothing}
 use Rattle.rules.specs.Scopes.{Scope, Binding, Scopes, slots≔, live≔, top≔, bindings≔, dangling≔, size≔, freshScopes, boundIn}
-use Rattle.rules.specs.Needs.{freed}
-use Rattle.rules.specs.Frames.{Handle, State}
-use Rattle.rules.specs.Sound.{sumBelow, times, soundSlots, soundTop, leads, soundParents, onLists, soundOwners, soundDangling, bindsOnce, soundBindings, soundSize, sound, holders, soundHandles, agreeing, soundState}
+use Rattle.rules.specs.Needs.{assigned, freed, scope as inScope, Need, defer, at, ignore}
+use Rattle.rules.specs.Frames.{Handle, kind≔, Remembered, gone, State, needs≔, needed≔}
+use Rattle.rules.specs.Sound.{sumBelow, times, soundSlots, soundTop, leads, soundParents, onLists, soundOwners, soundDangling, bindsOnce, soundBindings, soundSize, sound, holders, soundHandles, agreeing, soundNeeds, soundState}
 
 unfoldable pub small : Room
-small = record { segments = 2; scopes = 4; bindings = 2; handles = 4; lines = 4; size = 256; text = 64 }
+small = record { segments = 2; scopes = 4; bindings = 2; handles = 4; needs = 2; lines = 4; size = 256; text = 64 }
 
 -- the live scope i, or none where it is closed
 unfoldable pub scopes : ℕ → Option Scope → Scopes → Scopes
@@ -94,7 +94,14 @@ handle a h = record { address = a; kind = freed; held = h; written = false }
 
 -- three handles at most, n of them handed out, over the scopes c
 unfoldable pub state : Handle → Handle → Handle → ℕ → Scopes → State
-state x y z n c = record { scopes = c; handles = λ h. elim h [ zero ↦ x | suc i ↦ elim i [ zero ↦ y | suc j ↦ z ] ]; handed = n }
+state x y z n c = record { scopes = c; handles = λ h. elim h [ zero ↦ x | suc i ↦ elim i [ zero ↦ y | suc j ↦ z ] ]; handed = n; needs = λ i. gone; needed = 0 }
+
+-- the handles of `two`, with two needs at most, n of them made
+unfoldable pub whole : Remembered → Remembered → ℕ → State
+whole x y n = state (handle 3 true) (handle 130 true) (handle 0 false) 2 two ▹ needs≔ (λ i. elim i [ zero ↦ x | suc j ↦ y ]) ▹ needed≔ n
+
+unfoldable pub need : Need → ℕ → Remembered
+need d h = record { need = d; handle = h }
 
 unfoldable pub states-sound : List State
 states-sound =
@@ -102,6 +109,9 @@ states-sound =
     -- of a handle that is not held nothing is said
     ∷ state (handle 3 true) (handle 130 true) (handle 9999 false) 3 two
     ∷ state (handle 3 true) (handle 130 true) (handle 3 false) 3 (two ▹ bindings≔ (bound 1 7 ∷ []))
+    -- a need agrees with its handle, also one that another need has by 21, or has no address
+    ∷ whole (need (at (record { slot = 130; kind = inScope (record { index = 1; number = 1 }) })) 1) (need (at (record { slot = 130; kind = assigned })) 1) 2
+    ∷ whole (need (defer (record { index = 9; number = 9 })) 9) (need ignore 9) 2
     ∷ []
 
 unfoldable pub states-not : List State
@@ -116,6 +126,12 @@ states-not =
     ∷ state (handle 130 true) (handle 3 true) (handle 0 false) 2 (two ▹ bindings≔ (bound 1 7 ∷ []))
     -- "the room limits hold"
     ∷ state (handle 3 true) (handle 130 true) (handle 0 false) 5 two
+    ∷ whole gone gone 3
+    -- "needs agree with their handles"
+    ∷ whole (need (at (record { slot = 130; kind = assigned })) 0) gone 1
+    ∷ whole (need (at (record { slot = 0; kind = assigned })) 2) gone 1
+    -- a handle belongs to one need at most
+    ∷ whole (need (at (record { slot = 3; kind = inScope (record { index = 0; number = 0 }) })) 0) (need (at (record { slot = 3; kind = inScope (record { index = 1; number = 1 }) })) 0) 2
     ∷ []
 
 -- ---- the cases
@@ -129,9 +145,9 @@ unfolding small scopes scope slots bound two put allBelow allOf freshSlots membe
 unsound-cases = refl
 
 pub sound-states : allOf (soundState small) states-sound ≡ true
-unfolding small scopes scope slots bound two put allBelow allOf freshSlots member repeatsNothing freshScopes boundIn sumBelow times soundSlots soundTop leads soundParents onLists soundOwners soundDangling bindsOnce soundBindings soundSize sound handle state holders soundHandles agreeing soundState states-sound
+unfolding small scopes scope slots bound two put allBelow allOf freshSlots member repeatsNothing freshScopes boundIn sumBelow times soundSlots soundTop leads soundParents onLists soundOwners soundDangling bindsOnce soundBindings soundSize sound handle state holders soundHandles agreeing soundNeeds soundState need whole states-sound
 sound-states = refl
 
 pub unsound-states : allOf (λ s. not (soundState small s)) states-not ≡ true
-unfolding small scopes scope slots bound two put allBelow allOf freshSlots member repeatsNothing freshScopes boundIn sumBelow times soundSlots soundTop leads soundParents onLists soundOwners soundDangling bindsOnce soundBindings soundSize sound handle state holders soundHandles agreeing soundState states-not
+unfolding small scopes scope slots bound two put allBelow allOf freshSlots member repeatsNothing freshScopes boundIn sumBelow times soundSlots soundTop leads soundParents onLists soundOwners soundDangling bindsOnce soundBindings soundSize sound handle state holders soundHandles agreeing soundNeeds soundState need whole states-not
 unsound-states = refl

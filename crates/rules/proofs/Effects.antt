@@ -10,8 +10,8 @@ use Rattle.rules.specs.Notation.{given, _▹_, put}
 use Rattle.rules.specs.Sizes.{Room}
 use Rattle.rules.specs.Slots.{Slots, Placement, remove, removeAll}
 use Rattle.rules.specs.Scopes.{Binding, Scopes, Found, closed, getName, drainDangling}
-use Rattle.rules.specs.Needs.{Kind, freed}
-use Rattle.rules.specs.Frames.{Frame, child, pop, dangle, restore, popLast, alloc, allocIn, linear, define, get, takeFrom, free, freeQuietly, forget, drain, write, read, readName, Handle, kind≔, held≔, State, scopes≔, handles≔, handed≔, setHandle, grant, allot, close, handBack, freeHandle, Line, loads, shows, step}
+use Rattle.rules.specs.Needs.{Kind, freed, Need, defer, at, ignore, freedNeed}
+use Rattle.rules.specs.Frames.{Frame, child, pop, dangle, restore, popLast, alloc, allocIn, linear, define, get, takeFrom, free, freeQuietly, forget, drain, write, read, readName, newDefer, newAssigned, newIgnore, allocNeed, outputNeed, dropNeed, Handle, kind≔, held≔, State, scopes≔, handles≔, handed≔, setHandle, grant, allot, close, handBack, freeAs, freeHandle, Remembered, gone, needs≔, needed≔, setNeed, addNeed, allotNeed, freeOwn, Line, loads, shows, step}
 use Rattle.rules.specs.Meaning.{Deed, nothing, deed}
 use Rattle.rules.specs.Demand3.{Fair}
 use Rattle.rules.proofs.Chains.{All, all-given, all-then, all-when, all-unless, all-if}
@@ -108,9 +108,35 @@ module _ (room : Room) (place : Placement) (InOrder : Slots → Type 0) (fair : 
         (λ b ne p. rw (w .slots-are) (remove-other (s .handles h .address) b (s .scopes .slots) ne p)))
         (rw (w .slots-are) (fair .removed (s .handles h .address) (s .scopes .slots) order)))
 
+    free-as-effect : (k : Kind) (dangles : Bool) (h o : ℕ) (l : List ℕ) → All (Shows o l) (freeAs k dangles h s)
+    unfolding freeAs
+    free-as-effect k dangles h o l = all-if (λ _. back-effect dangles h o l) (λ _. all-given (kind-only o l h freed))
+
     free-effect : (dangles : Bool) (h o : ℕ) (l : List ℕ) → All (Shows o l) (freeHandle dangles h s)
     unfolding freeHandle
-    free-effect dangles h o l = all-when 13 _ λ _. all-if (λ _. back-effect dangles h o l) (λ _. all-given (kind-only o l h freed))
+    free-effect dangles h o l = all-when 13 _ λ _. free-as-effect (s .handles h .kind) dangles h o l
+
+    -- the needs are not looked at
+    with-needs : {d : Deed} {ls : List Line} {t : State} (needs : ℕ → Remembered) (needed : ℕ) → Good s d ls t → Good s d ls (t ▹ needs≔ needs ▹ needed≔ needed)
+    with-needs needs needed g = record { line = g .line; only = g .only; effect = g .effect; order = g .order }
+
+    add-effect : (x : Remembered) (o : ℕ) (l : List ℕ) → All (Shows o l) (addNeed room x s)
+    unfolding addNeed setNeed
+    add-effect x o l = all-when 22 _ λ _. all-given (with-needs (put (s .needs) (s .needed) x) (s .needed + 1) (quiet o l))
+
+    need-effect : (n : ℕ) (d : Need) (o : ℕ) (l : List ℕ) → All (λ r. Shows o l (r .1)) (allotNeed room place n s d)
+    unfolding allotNeed setNeed
+    need-effect n (defer id) o l = all-unless 4 λ k _. all-then λ r e. all-given (with-needs (put (r .1 .needs) n _) (r .1 .needed) (allot-effect k _ 1 o l .at r e))
+    need-effect n (at a) o l = all-given (with-needs (put (s .needs) n _) (s .needed) (quiet o l))
+    need-effect n ignore o l = all-given (quiet o l)
+    need-effect n freedNeed o l = all-given (quiet o l)
+
+    own-effect : (h : ℕ) (d : Need) (o : ℕ) (l : List ℕ) → All (Shows o l) (freeOwn h s d)
+    unfolding freeOwn
+    own-effect h (defer id) o l = all-given (quiet o l)
+    own-effect h (at a) o l = all-if (λ _. free-as-effect (a .kind) true h o l) (λ _. all-given (quiet o l))
+    own-effect h ignore o l = all-given (quiet o l)
+    own-effect h freedNeed o l = all-given (quiet o l)
 
     named : (name : ℕ) (b : Binding) → getName room name (s .scopes) ≡ given b → s .handles (b .handle) .held ≡ true → s .handles (b .handle) .written ≡ true
         → Good s (deed room s (readName name)) (loads 0x12 (s .handles (b .handle) .address) ∷ []) s
@@ -118,7 +144,7 @@ module _ (room : Room) (place : Placement) (InOrder : Slots → Type 0) (fair : 
     named name b r e w = rw r (good (loading (b .handle) e w) order)
 
     pub effect : (f : Frame) → All (λ r. Good s (deed room s f) (r .0) (r .1)) (step room place s f)
-    unfolding step deed setHandle drainDangling
+    unfolding step deed setHandle setNeed drainDangling
     effect child = all-then λ r e. all-given (same _ _ _ (child-leaves room (s .scopes) .at r e .1))
     effect (pop n) = all-then λ k _. all-given (closing _ _ k)
     effect (dangle n) = all-then λ c e. all-given (same _ _ _ (dangle-leaves (s .scopes) _ .at c e))
@@ -138,3 +164,9 @@ module _ (room : Room) (place : Placement) (InOrder : Slots → Type 0) (fair : 
     effect (write h v) = all-when 13 _ λ _. all-when 14 _ λ e. all-given (good (storing h v _ (not-false _ e)) order)
     effect (read h) = all-when 13 _ λ _. all-when 14 _ λ e. all-when 15 _ λ w. all-given (good (loading h (not-false _ e) (not-false _ w)) order)
     effect (readName name) = all-then λ b r. all-when 14 _ λ e. all-when 15 _ λ w. all-given (named name b r (not-false _ e) (not-false _ w))
+    effect (newDefer n) = all-unless 4 λ k _. all-then λ t e. all-given (add-effect _ 0x20 _ .at t e)
+    effect (newAssigned h) = all-when 13 _ λ _. all-then λ t e. all-given (add-effect _ 0x21 _ .at t e)
+    effect newIgnore = all-then λ t e. all-given (add-effect _ 0x22 _ .at t e)
+    effect (allocNeed n) = all-when 21 _ λ _. all-then λ r e. all-given (need-effect n (s .needs n .need) 0x23 _ .at r e)
+    effect (outputNeed n) = all-when 21 _ λ _. all-then λ o _. all-given (quiet _ _)
+    effect (dropNeed n) = all-when 21 _ λ _. all-then λ t e. all-given (with-needs (put (t .needs) n gone) (t .needed) (own-effect (s .needs n .handle) (s .needs n .need) 0x25 [] .at t e))

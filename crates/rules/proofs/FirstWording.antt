@@ -13,13 +13,13 @@ use Rattle.rules.specs.Sizes.{Room, base}
 use Rattle.rules.specs.Slots.{Slots, Placement, removes, remove, removeAll, edition1}
 use Rattle.rules.specs.AddressSets.{member}
 use Rattle.rules.specs.Scopes.{Scopes, slots≔, Found, byNumber, closed, poppable, popScope, lastPoppable, popLastScope}
-use Rattle.rules.specs.Needs.{Address, giveBack, freeAddress, freeEach, freeRun, Need, defer, at, ignore, freedNeed, freeNeed}
-use Rattle.rules.specs.Frames.{Frame, child, pop, dangle, restore, popLast, alloc, allocIn, linear, define, get, takeFrom, free, freeQuietly, forget, drain, write, read, readName, State, start, scopes≔, close, handBack, freeHandle, Line, shows, Step, oneLine, step, Outcome, before, onward, steps}
+use Rattle.rules.specs.Needs.{Kind, Address, giveBack, freeAddress, freeEach, freeRun, Need, defer, at, ignore, freedNeed, freeNeed}
+use Rattle.rules.specs.Frames.{Frame, child, pop, dangle, restore, popLast, alloc, allocIn, linear, define, get, takeFrom, free, freeQuietly, forget, drain, write, read, readName, newDefer, newAssigned, newIgnore, allocNeed, outputNeed, dropNeed, State, start, scopes≔, close, handBack, freeAs, freeHandle, freeOwn, Line, shows, Step, oneLine, step, Outcome, before, onward, steps}
 use Rattle.rules.specs.Sound.{soundSlots, sound, soundState}
 use Rattle.rules.specs.Demand3.{Fair}
 use Rattle.rules.specs.Text.{split, Script, frames, unread, scriptFrom}
 use Rattle.rules.specs.Entries.{outcome, translated}
-use Rattle.rules.specs.FirstWording.{remove01, removeAll01, AllRemoved, none-left, yes-to, closed01, popScope01, popLastScope01, giveBack01, freeAddress01, freeEach01, freeRun01, freeNeed01, close01, handBack01, freeHandle01, step01, steps01, outcome01, translated01, NoListChanges}
+use Rattle.rules.specs.FirstWording.{remove01, removeAll01, AllRemoved, none-left, yes-to, closed01, popScope01, popLastScope01, giveBack01, freeAddress01, freeEach01, freeRun01, freeNeed01, close01, handBack01, freeAs01, freeHandle01, freeOwn01, step01, steps01, outcome01, translated01, NoListChanges}
 use Rattle.rules.proofs.Chains.{All, all-given, all-when, all-unless, then-same}
 use Rattle.rules.proofs.Tables.{remove-other}
 use Rattle.rules.proofs.Sets.{Once, once, once-nil, Within, member-same, member-tail}
@@ -154,9 +154,20 @@ module _ (room : Room) (s : State) (ok : soundState room s ≡ true) where
   unfolding close close01
   close-as k e = ap (λ (d : Scopes). close k s ▹ scopes≔ d) e
 
+  free-as-same : (k : Kind) (dangles : Bool) (h : ℕ) → freeAs k dangles h s ≡ freeAs01 k dangles h s
+  unfolding freeAs freeAs01 handBack handBack01
+  free-as-same k dangles h = rw (back-same room c scopes-sound dangles (s .handles h .address))
+
   free-handle-same : (dangles : Bool) (h : ℕ) → freeHandle dangles h s ≡ freeHandle01 dangles h s
-  unfolding freeHandle freeHandle01 handBack handBack01
-  free-handle-same dangles h = rw (back-same room c scopes-sound dangles (s .handles h .address))
+  unfolding freeHandle freeHandle01
+  free-handle-same dangles h = rw (free-as-same (s .handles h .kind) dangles h)
+
+  free-own-same : (h : ℕ) (d : Need) → freeOwn h s d ≡ freeOwn01 h s d
+  unfolding freeOwn freeOwn01
+  free-own-same h (defer id) = refl
+  free-own-same h (at a) = rw (free-as-same (a .kind) true h)
+  free-own-same h ignore = refl
+  free-own-same h freedNeed = refl
 
   pub step-same : (place : Placement) (f : Frame) → step room place s f ≡ step01 room place s f
   unfolding step step01
@@ -178,6 +189,12 @@ module _ (room : Room) (s : State) (ok : soundState room s ≡ true) where
   step-same place (write h v) = refl
   step-same place (read h) = refl
   step-same place (readName name) = refl
+  step-same place (newDefer n) = refl
+  step-same place (newAssigned h) = refl
+  step-same place newIgnore = refl
+  step-same place (allocNeed n) = refl
+  step-same place (outputNeed n) = refl
+  step-same place (dropNeed n) = rw (free-own-same (s .needs n .handle) (s .needs n .need))
 
 -- ---- scripts
 

@@ -7,12 +7,12 @@ use Prim.Native.Nat.{ℕ, zero, suc, _*_, _≤_, _<_}
 use native.Mathlib.Omega.{arith}
 use lib.Dec.{eqb, lit<}
 use lib.ListN.{length}
-use borrow.Author.Tests.{eq-eqb}
+use borrow.Author.Tests.{eq-eqb, leb-false}
 use Rattle.rules.specs.Sizes.{Room, base}
 use Rattle.rules.specs.Slots.{Placement}
 use Rattle.rules.specs.Scopes.{Binding, Found, openChild, drainDangling}
-use Rattle.rules.specs.Needs.{Kind}
-use Rattle.rules.specs.Frames.{Frame, child, pop, dangle, restore, popLast, alloc, allocIn, linear, define, get, takeFrom, free, freeQuietly, forget, drain, write, read, readName, State, allot, Line, loads, shows, step}
+use Rattle.rules.specs.Needs.{Kind, Need, defer, at, ignore, freedNeed, outputOf}
+use Rattle.rules.specs.Frames.{Frame, child, pop, dangle, restore, popLast, alloc, allocIn, linear, define, get, takeFrom, free, freeQuietly, forget, drain, write, read, readName, newDefer, newAssigned, newIgnore, allocNeed, outputNeed, dropNeed, Remembered, State, addNeed, lost, allot, allotNeed, slotShown, outputShown, Line, loads, shows, step}
 use Rattle.rules.specs.Text.{rowed, lineTable, counted}
 use Rattle.rules.specs.Demand3.{Fair}
 use Rattle.rules.proofs.Chains.{All, all-as, all-given, all-then, all-when, all-unless}
@@ -21,7 +21,8 @@ use Rattle.rules.proofs.Leaves.{child-leaves, take-leaves}
 use Rattle.rules.proofs.Digits.{Fit, fit-nil, fit}
 use Rattle.rules.proofs.Lists.{FitLine, FitLines, lines}
 use Rattle.rules.proofs.Names.{bound-is, BoundAs, got}
-use Rattle.rules.proofs.Sound.{SlotsSound, StateSound}
+use Rattle.rules.proofs.Sound.{SlotsSound, NeedAgrees, StateSound}
+use Rattle.rules.proofs.Needing.{found}
 use Rattle.rules.proofs.Small.{Small, allot-small}
 
 -- a room with a slot and a scope, whose numbers fit four digits
@@ -31,10 +32,11 @@ pub record Wide (room : Room) : Type 0 where
   pub slots : 128 * room .segments ≤ room .size
   pub size : room .size < 65536
   pub lines : room .lines < 65536
+  pub needs : room .needs < 65536
 
 pub base-wide : Wide base
 unfolding base
-base-wide = record { segments = lit< tt; scopes = lit< tt; slots = omega arith; size = lit< tt; lines = lit< tt }
+base-wide = record { segments = lit< tt; scopes = lit< tt; slots = omega arith; size = lit< tt; lines = lit< tt; needs = lit< tt }
 
 -- "values are 16 bits"
 abbrev pub FitFrame : Frame → Type 0
@@ -56,6 +58,12 @@ FitFrame drain = Unit {0}
 FitFrame (write h v) = v < 65536
 FitFrame (read h) = Unit {0}
 FitFrame (readName name) = Unit {0}
+FitFrame (newDefer n) = Unit {0}
+FitFrame (newAssigned h) = Unit {0}
+FitFrame newIgnore = Unit {0}
+FitFrame (allocNeed n) = Unit {0}
+FitFrame (outputNeed n) = Unit {0}
+FitFrame (dropNeed n) = Unit {0}
 
 -- one line, which fits
 pub data OneFit : List Line → Type 0 where
@@ -107,6 +115,31 @@ module _ (room : Room) (place : Placement) (fair : Fair room place (SlotsSound (
       let agrees = bound-is (w .index) name (s .scopes .bindings) b (w .is) (ok .agreeing) .2 in
       rw (agrees .1) at (small .addresses (b .handle))
 
+  add-fits : (x : Remembered) → All (λ t. s .needed < 65536) (addNeed room x s)
+  unfolding addNeed
+  add-fits x = all-when 22 _ λ q. all-given (omega (arith, leb-false (room .needs) (s .needed) q, wide .needs))
+
+  -- a need's address is its handle's
+  at-fits : (h a : ℕ) → s .handles h .address ≡ a → a < 65536
+  at-fits h a e = rw e at (small .addresses h)
+
+  need-fits : (n h : ℕ) (d : Need) → NeedAgrees (s .handles) (s .handed) h d → All (λ r. slotShown (r .0) < 65536) (allotNeed room place n s d)
+  unfolding allotNeed
+  need-fits n h (defer id) w = all-unless 4 λ k _. all-then λ r e. all-given (allot-fits k _ 1 .at r e)
+  need-fits n h (at a) w = all-given (at-fits h (a .slot) (w .1))
+  need-fits n h ignore w = all-given (lit< tt)
+  need-fits n h freedNeed w = all-given (lit< tt)
+
+  output-fits : (h : ℕ) (d : Need) → NeedAgrees (s .handles) (s .handed) h d → All (λ o. outputShown o < 65536) (outputOf d)
+  unfolding outputOf
+  output-fits h (defer id) w = record { at = λ o e. absurd (let z : _≡_ {A = ℕ} 0 1 = cc in omega arith) }
+  output-fits h (at a) w = all-given (at-fits h (a .slot) (w .1))
+  output-fits h ignore w = all-given (lit< tt)
+  output-fits h freedNeed w = record { at = λ o e. absurd (let z : _≡_ {A = ℕ} 0 1 = cc in omega arith) }
+
+  there : (n : ℕ) → lost s n ≡ false → NeedAgrees (s .handles) (s .handed) (s .needs n .handle) (s .needs n .need)
+  there n q = ok .needing .agree n (found s n q)
+
   drain-fits : OneFit (shows 0x0f (length (s .scopes .dangling) ∷ s .scopes .dangling) ∷ [])
   unfolding rowed lineTable
   drain-fits =
@@ -141,3 +174,9 @@ module _ (room : Room) (place : Placement) (fair : Fair room place (SlotsSound (
   fits-step (write h v) ff = all-when 13 _ λ _. all-when 14 _ λ _. all-given (one-fit (record { small = lit< tt; fits = fit (small .addresses h) (fit ff fit-nil); reads = refl; other = refl }))
   fits-step (read h) ff = all-when 13 _ λ _. all-when 14 _ λ _. all-when 15 _ λ _. all-given (load 0x11 _ (lit< tt) (small .addresses h) refl refl)
   fits-step (readName name) ff = all-then λ b _. all-when 14 _ λ _. all-when 15 _ λ _. all-given (load 0x12 _ (lit< tt) (small .addresses (b .handle)) refl refl)
+  fits-step (newDefer n) ff = all-unless 4 λ k _. all-then λ t e. all-given (line1 0x20 (s .needed) (lit< tt) (add-fits _ .at t e) refl refl)
+  fits-step (newAssigned h) ff = all-when 13 _ λ _. all-then λ t e. all-given (line1 0x21 (s .needed) (lit< tt) (add-fits _ .at t e) refl refl)
+  fits-step newIgnore ff = all-then λ t e. all-given (line1 0x22 (s .needed) (lit< tt) (add-fits _ .at t e) refl refl)
+  fits-step (allocNeed n) ff = all-when 21 _ λ q. all-then λ r e. all-given (line1 0x23 (slotShown (r .0)) (lit< tt) (need-fits n (s .needs n .handle) (s .needs n .need) (there n q) .at r e) refl refl)
+  fits-step (outputNeed n) ff = all-when 21 _ λ q. all-then λ o e. all-given (line1 0x24 (outputShown o) (lit< tt) (output-fits (s .needs n .handle) (s .needs n .need) (there n q) .at o e) refl refl)
+  fits-step (dropNeed n) ff = all-when 21 _ λ q. all-then λ t _. all-given (line0 0x25 (lit< tt) refl refl)

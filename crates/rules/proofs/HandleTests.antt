@@ -6,10 +6,11 @@ use native.Mathlib.Omega.{arith}
 use lib.Dec.{eqb}
 use borrow.Author.Tests.{eq-eqb}
 use Rattle.rules.specs.Sizes.{Room}
-use Rattle.rules.specs.Frames.{State}
-use Rattle.rules.specs.Sound.{one, sumBelow, holders, soundHandles, agreeing, soundState}
+use Rattle.rules.specs.Needs.{Need, defer, at, ignore, freedNeed}
+use Rattle.rules.specs.Frames.{owns, State}
+use Rattle.rules.specs.Sound.{one, sumBelow, holders, soundHandles, agreeing, needAgrees, sharing, soundNeeds, soundState}
 use Rattle.rules.specs.Tells.{Tells}
-use Rattle.rules.proofs.Sound.{Every, HandlesSound, Agrees, StateSound}
+use Rattle.rules.proofs.Sound.{Every, HandlesSound, Agrees, NeedAgrees, NeedsSound, StateSound}
 use Rattle.rules.proofs.Tells.{decided, clash, tells-as, tells-and, tells-implies, tells-true, tells-lt, tells-le, tells-eq, tells-below, tells-every}
 use Rattle.rules.proofs.Counts.{sum-none, sum-only, sum-at, sum-single, sum-some}
 use Rattle.rules.proofs.Tests.{tells-sound}
@@ -84,10 +85,29 @@ module _ (room : Room) (s : State) where
   unfolding agreeing
   tells-agreeing = tells-every (s .scopes .bindings) (λ b. tells-and (tells-lt (b .handle) (s .handed)) (tells-eq (s .handles (b .handle) .address) (b .address)))
 
+  tells-need : (h : ℕ) (d : Need) → Tells (needAgrees s h d) (NeedAgrees (s .handles) (s .handed) h d)
+  tells-need h (defer id) = record { holds = λ _. tt; shows = λ _. refl }
+  tells-need h (at a) = tells-and (tells-lt h (s .handed)) (tells-eq (s .handles h .address) (a .slot))
+  tells-need h ignore = record { holds = λ _. tt; shows = λ _. refl }
+  tells-need h freedNeed = record { holds = λ _. tt; shows = λ _. refl }
+
+  tells-needs : Tells (soundNeeds room s) (NeedsSound (room .needs) (s .handles) (s .handed) (s .needs) (s .needed))
+  unfolding soundNeeds
+  tells-needs =
+      tells-as
+      (tells-and
+      (tells-and (tells-le (s .needed) (room .needs)) (tells-below (s .needed) (λ n _. tells-need (s .needs n .handle) (s .needs n .need))))
+      (tells-below {P = λ i. (j : ℕ) → j < s .needed → sharing s i j ≡ true → i ≡ j} (s .needed) (λ i _. tells-below {P = λ j. sharing s i j ≡ true → i ≡ j} (s .needed) (λ j _. tells-implies (sharing s i j) (tells-eq i j)))))
+      (λ h. record { few = h .0 .0; agree = h .0 .1; apart = λ i j k l d e q. h .1 i k j l (shares i j .shows ((d, e), q)) })
+      (λ r. ((r .few, r .agree), λ i k j l e. let q = shares i j .holds e in r .apart i j k l (q .0 .0) (q .0 .1) (q .1)))
+    where
+      shares : (i j : ℕ) → Tells (sharing s i j) (((owns (s .needs i .need) ≡ true) × (owns (s .needs j .need) ≡ true)) × (s .needs i .handle ≡ s .needs j .handle))
+      shares i j = tells-and (tells-and (tells-true _) (tells-true _)) (tells-eq _ _)
+
   pub tells-state : Tells (soundState room s) (StateSound room s)
   unfolding soundState
   tells-state =
       tells-as
-      (tells-and (tells-and (tells-sound room (s .scopes)) tells-handles) tells-agreeing)
-      (λ h. record { scopes = h .0 .0; handles = h .0 .1; agreeing = h .1 })
-      (λ r. ((r .scopes, r .handles), r .agreeing))
+      (tells-and (tells-and (tells-and (tells-sound room (s .scopes)) tells-handles) tells-agreeing) tells-needs)
+      (λ h. record { scopes = h .0 .0 .0; handles = h .0 .0 .1; agreeing = h .0 .1; needing = h .1 })
+      (λ r. (((r .scopes, r .handles), r .agreeing), r .needing))

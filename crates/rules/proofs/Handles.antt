@@ -43,7 +43,7 @@ agrees-alike handles next handed more up same b q = (omega (arith, q .0), same (
 -- ---- slots are given
 
 module _ (next n a : ℕ) (kind : Kind) (f : ℕ → Handle) (h : ℕ) where
-  grant-new : next ≤ h → h < next + n → grant next n a kind f h ≡ record { address = a + (h - next); kind = kind; held = true; written = false }
+  pub grant-new : next ≤ h → h < next + n → grant next n a kind f h ≡ record { address = a + (h - next); kind = kind; held = true; written = false }
   unfolding grant
   grant-new lo hi = rw (le-leb next h lo, lt-ltb h (next + n) hi, grant)
 
@@ -102,11 +102,11 @@ module _ {m most handed : ℕ} {handles : ℕ → Handle} (s : Slots) (p : Place
 
 -- ---- a scope is closed
 
-letGo-address : (l : List ℕ) (f : ℕ → Handle) (h : ℕ) → letGo l f h .address ≡ f h .address
+pub letGo-address : (l : List ℕ) (f : ℕ → Handle) (h : ℕ) → letGo l f h .address ≡ f h .address
 unfolding letGo
 letGo-address l f h = decided (member (f h .address) l) (λ e. rw (e, letGo)) (λ e. rw (e, letGo))
 
-letGo-other : (l : List ℕ) (f : ℕ → Handle) (h : ℕ) → member (f h .address) l ≡ false → letGo l f h ≡ f h
+pub letGo-other : (l : List ℕ) (f : ℕ → Handle) (h : ℕ) → member (f h .address) l ≡ false → letGo l f h ≡ f h
 unfolding letGo
 letGo-other l f h e = rw (e, letGo)
 

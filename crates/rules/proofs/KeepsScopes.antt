@@ -18,7 +18,7 @@ use Rattle.rules.proofs.Sound.{TopSound, listsOf, Sound}
 use Rattle.rules.proofs.Tells.{clash}
 use Rattle.rules.proofs.Naming.{Here, found-at, found-here, top-at, top-here}
 use Rattle.rules.proofs.Removing.{removeAll-sound}
-use Rattle.rules.proofs.Parents.{is-some, here-live, top-some, parent-of, opened-live, opened-rooted, closed-live, closed-rooted, closed-top}
+use Rattle.rules.proofs.Parents.{none-is, is-some, here-live, top-some, parent-of, opened-live, opened-rooted, closed-live, closed-rooted, closed-top}
 use Rattle.rules.proofs.Changed.{after-top, after-rooted, after-bindings}
 use Rattle.rules.proofs.Owners.{owned-at, lists-put, owned-alike, owned-closed, dangling-closed, size-closed}
 use Rattle.rules.proofs.Names.{every-as, unbound-every, unbound-once, unbound-length}
@@ -94,10 +94,6 @@ module _ (room : Room) (c : Scopes) (s : Sound room c) where
   childless : (i : ℕ) → hasChild room c i ≡ false → (j : ℕ) → j < room .scopes → childOf i (c .live j) ≡ false
   unfolding hasChild
   childless i e j l = first-none (λ a. childOf i (c .live a)) 0 (room .scopes) (none-is _ e) j (omega arith) (omega arith)
-    where
-      none-is : (o : Option ℕ) → isSome o ≡ false → o ≡ none
-      none-is none q = refl
-      none-is (some a) q = clash refl q
 
   pub closed-sound : (k : Found) → Here (room .scopes) (c .live) k → hasChild room c (k .index) ≡ false → Sound room (closed k c)
   unfolding closed

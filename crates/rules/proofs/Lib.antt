@@ -32,7 +32,10 @@ pub mod KeepsSlots
 pub mod KeepsNames
 pub mod KeepsNeeds
 pub mod Handles
+pub mod Needing
 pub mod KeepsSteps
+pub mod AsNeeds
+pub mod Apart
 pub mod Held
 pub mod Lookups
 pub mod Exact

@@ -66,6 +66,12 @@ module _ (room : Room) (c : Scopes) (id : Id) (k : Found) (e : byId room c id �
       let t = tells-and (tells-lt (id .index) (room .scopes)) (tells-true (hasNumber (id .number) (c .live (id .index)))) .holds (id-at .0) in
       found-here (room .scopes) (c .live) (id .index) k (t .0) (id-at .1)
 
+  pub id-is : (k .index ≡ id .index) × (k .scope .number ≡ id .number)
+  id-is =
+      let r = found-at (c .live) (id .index) k (id-at .1) in
+      let t = tells-and (tells-true (ltb (id .index) (room .scopes))) (tells-true (hasNumber (id .number) (c .live (id .index)))) .holds (id-at .0) in
+      (r .0, tells-eq (k .scope .number) (id .number) .holds (sym (number-of (id .number) (c .live (id .index)) (k .scope) (ap (c .live) (sym (r .0)) ∙ r .1)) ∙ t .1))
+
 -- by its number
 module _ (room : Room) (c : Scopes) (n : ℕ) (k : Found) (e : byNumber room c n ≡ some k) where
   record Numbered : Type 0 where

@@ -13,12 +13,12 @@ use Rattle.rules.specs.Sizes.{Room}
 use Rattle.rules.specs.Slots.{Placement}
 use Rattle.rules.specs.AddressSets.{member, without, added, addedAll, withoutAll, run}
 use Rattle.rules.specs.Scopes.{Scope, Scopes, top≔, dangling≔, owned≔, newScope, Found, found, hasNumber, topScope, byNumber, setScope, openChild, allocate, closed, poppable, lastPoppable, dangleScope, restoreScope, bindIn, getName, takeName, drainDangling}
-use Rattle.rules.specs.Needs.{Kind, giveBack}
-use Rattle.rules.specs.Frames.{State, scopes≔, Frame, child, pop, dangle, restore, popLast, alloc, allocIn, linear, define, get, takeFrom, free, freeQuietly, forget, drain, write, read, readName, Line, stores, loads, shows, setHandle, allot, close, handBack, freeHandle, step, Step, before, onward, Outcome, accepted, refusedAt, steps}
+use Rattle.rules.specs.Needs.{Kind, giveBack, Need, defer, at, ignore, freedNeed}
+use Rattle.rules.specs.Frames.{State, scopes≔, Frame, child, pop, dangle, restore, popLast, alloc, allocIn, linear, define, get, takeFrom, free, freeQuietly, forget, drain, write, read, readName, newDefer, newAssigned, newIgnore, allocNeed, outputNeed, dropNeed, Line, stores, loads, shows, setHandle, allot, close, handBack, freeAs, freeHandle, Remembered, gone, needs≔, needed≔, setNeed, addNeed, allotNeed, slotShown, freeOwn, step, Step, before, onward, Outcome, accepted, refusedAt, steps}
 use Rattle.rules.specs.Sound.{sumBelow, ownedBy}
 use Rattle.rules.specs.Text.{operandsOf, lineText, listText}
 use Rattle.rules.proofs.Chains.{All, all-given, all-then, all-when, all-unless, all-if, none-some}
-use Rattle.rules.proofs.Naming.{Here, found-here, top-here, number-here}
+use Rattle.rules.proofs.Naming.{Here, found-here, top-here, id-here, number-here}
 use Rattle.rules.proofs.Sound.{StateSound}
 use Rattle.rules.proofs.Lengths.{addedAll-length, withoutAll-length, without-shorter, run-length, sum-put, sum-grows, line-length}
 
@@ -128,13 +128,39 @@ module _ (room : Room) (place : Placement) (s : State) (sound : StateSound room 
       all-when 16 _ λ _. all-then λ r e.
       all-given (record { covers = omega (arith, line-length (l (r .0)), few (r .0), allocate-owes room (s .scopes) place k n p .at r e) })
 
-  free-pays : (dangles : Bool) (h o : ℕ) → All (Pays room s (shows o [] ∷ [])) (freeHandle dangles h s)
-  unfolding freeHandle handBack setHandle
-  free-pays dangles h o =
-      all-when 13 _ λ _.
+  free-as-pays : (k : Kind) (dangles : Bool) (h o : ℕ) → All (Pays room s (shows o [] ∷ [])) (freeAs k dangles h s)
+  unfolding freeAs handBack setHandle
+  free-as-pays k dangles h o =
       all-if
       (λ _. all-when 14 _ λ _. all-then λ c e. all-given (short _ _ (omega arith) (back-owes room (s .scopes) dangles _ tops .at c e) refl))
       (λ _. all-given (short _ _ (omega arith) (omega arith) refl))
+
+  free-pays : (dangles : Bool) (h o : ℕ) → All (Pays room s (shows o [] ∷ [])) (freeHandle dangles h s)
+  unfolding freeHandle
+  free-pays dangles h o = all-when 13 _ λ _. free-as-pays (s .handles h .kind) dangles h o
+
+  with-needs : {ls : List Line} {t : State} (needs : ℕ → Remembered) (needed : ℕ) → Pays room s ls t → Pays room s ls (t ▹ needs≔ needs ▹ needed≔ needed)
+  with-needs needs needed p = record { covers = p .covers }
+
+  add-pays : (x : Remembered) (o a : ℕ) → All (Pays room s (shows o (a ∷ []) ∷ [])) (addNeed room x s)
+  unfolding addNeed setNeed
+  add-pays x o a = all-when 22 _ λ _. all-given (with-needs (put (s .needs) (s .needed) x) (s .needed + 1) (short _ s (omega arith) (omega arith) refl))
+
+  need-pays : (n : ℕ) (d : Need) → All (λ r. Pays room s (shows 0x23 (slotShown (r .0) ∷ []) ∷ []) (r .1)) (allotNeed room place n s d)
+  unfolding allotNeed setNeed
+  need-pays n (defer id) =
+      all-unless 4 λ k q. all-then λ r e.
+      all-given (with-needs (put (r .1 .needs) n _) (r .1 .needed) (allot-pays k _ 1 (λ a. shows 0x23 (a ∷ [])) (id-here room (s .scopes) id k q) (λ a. omega arith) .at r e))
+  need-pays n (at a) = all-given (with-needs (put (s .needs) n _) (s .needed) (short _ s (omega arith) (omega arith) refl))
+  need-pays n ignore = all-given (short _ s (omega arith) (omega arith) refl)
+  need-pays n freedNeed = all-given (short _ s (omega arith) (omega arith) refl)
+
+  own-pays : (h : ℕ) (d : Need) → All (Pays room s (shows 0x25 [] ∷ [])) (freeOwn h s d)
+  unfolding freeOwn
+  own-pays h (defer id) = all-given (short _ s (omega arith) (omega arith) refl)
+  own-pays h (at a) = all-if (λ _. free-as-pays (a .kind) true h 0x25) (λ _. all-given (short _ s (omega arith) (omega arith) refl))
+  own-pays h ignore = all-given (short _ s (omega arith) (omega arith) refl)
+  own-pays h freedNeed = all-given (short _ s (omega arith) (omega arith) refl)
 
   bind-owes : (t : Found) (name address handle : ℕ) → All (λ c. owing room c ≤ owing room (s .scopes)) (bindIn room t name address handle (s .scopes))
   unfolding bindIn owing
@@ -153,7 +179,7 @@ module _ (room : Room) (place : Placement) (s : State) (sound : StateSound room 
   popped n = all-unless 4 λ k e. all-when 5 _ λ _. all-when 6 _ λ _. all-given (numbers n k e)
 
   pub pays : (f : Frame) → All (λ r. Pays room s (r .0) (r .1)) (step room place s f)
-  unfolding step setHandle close drainDangling
+  unfolding step setHandle setNeed close drainDangling
   pays child = all-then λ r e. all-given (short _ _ (omega arith) (child-owes room (s .scopes) .at r e) refl)
   pays (pop n) = all-then λ k e. all-given (short _ _ (omega arith) (close-owes room (s .scopes) k (popped n .at k e)) refl)
   pays (dangle n) = all-then λ c e. all-given (short _ _ (omega arith) (dangle-owes room (s .scopes) _ (numbers n) .at c e) refl)
@@ -173,6 +199,12 @@ module _ (room : Room) (place : Placement) (s : State) (sound : StateSound room 
   pays (write h v) = all-when 13 _ λ _. all-when 14 _ λ _. all-given (short _ _ (omega arith) (omega arith) refl)
   pays (read h) = all-when 13 _ λ _. all-when 14 _ λ _. all-when 15 _ λ _. all-given (short _ _ (omega arith) (omega arith) refl)
   pays (readName name) = all-then λ b _. all-when 14 _ λ _. all-when 15 _ λ _. all-given (short _ _ (omega arith) (omega arith) refl)
+  pays (newDefer n) = all-unless 4 λ k _. all-then λ t e. all-given (add-pays _ 0x20 _ .at t e)
+  pays (newAssigned h) = all-when 13 _ λ _. all-then λ t e. all-given (add-pays _ 0x21 _ .at t e)
+  pays newIgnore = all-then λ t e. all-given (add-pays _ 0x22 _ .at t e)
+  pays (allocNeed n) = all-when 21 _ λ _. all-then λ r e. all-given (need-pays n (s .needs n .need) .at r e)
+  pays (outputNeed n) = all-when 21 _ λ _. all-then λ o _. all-given (short _ _ (omega arith) (omega arith) refl)
+  pays (dropNeed n) = all-when 21 _ λ _. all-then λ t e. all-given (with-needs (put (t .needs) n gone) (t .needed) (own-pays (s .needs n .handle) (s .needs n .need) .at t e))
 
 -- ---- a script
 

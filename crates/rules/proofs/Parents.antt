@@ -18,6 +18,10 @@ pub some-is : {A : Type 0} (o : Option A) → isSome o ≡ true → (a : A) × (
 some-is none e = clash e refl
 some-is (some a) e = (a, refl)
 
+pub none-is : {A : Type 0} (o : Option A) → isSome o ≡ false → o ≡ none
+none-is none e = refl
+none-is (some a) e = clash refl e
+
 pub is-some : {A : Type 0} {o : Option A} {a : A} → o ≡ some a → isSome o ≡ true
 is-some e = rw e
 

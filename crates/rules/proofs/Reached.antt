@@ -58,4 +58,5 @@ start-sound room segments scopes = record {
     holder = λ a l t. clash t refl;
   };
   agreeing = every-nil;
+  needing = record { few = omega arith; agree = λ n l. absurd (omega arith); apart = λ i j k l d e q. absurd (omega arith) };
 }

@@ -1,4 +1,4 @@
--- The number of a refusal is from 1 to 20, and its line is that of a frame. Assumes nothing.
+-- The number of a refusal is from 1 to 22, and its line is that of a frame. Assumes nothing.
 use mathlib.Core.Path.{_≡_, refl, sym, subst, _∙_}
 use mathlib.Core.Bool.{Bool, true, false, _&&_}
 use mathlib.Core.Option.{Option, none, some}
@@ -11,15 +11,15 @@ use Rattle.rules.specs.Notation.{Answer, given, refused, _>>=_, refuse_w
 use Rattle.rules.specs.Sizes.{Room}
 use Rattle.rules.specs.Slots.{Placement}
 use Rattle.rules.specs.Scopes.{Scopes, Found, openChild, allocate, poppable, lastPoppable, dangleScope, restoreScope, bindIn, getName, takeName}
-use Rattle.rules.specs.Needs.{Kind, giveBack}
-use Rattle.rules.specs.Frames.{State, Frame, child, pop, dangle, restore, popLast, alloc, allocIn, linear, define, get, takeFrom, free, freeQuietly, forget, drain, write, read, readName, Line, Step, step, allot, handBack, freeHandle, Outcome, accepted, refusedAt, before, onward, steps}
+use Rattle.rules.specs.Needs.{Kind, giveBack, Need, defer, at, ignore, freedNeed, outputOf}
+use Rattle.rules.specs.Frames.{Remembered, State, Frame, child, pop, dangle, restore, popLast, alloc, allocIn, linear, define, get, takeFrom, free, freeQuietly, forget, drain, write, read, readName, newDefer, newAssigned, newIgnore, allocNeed, outputNeed, dropNeed, Line, Step, step, allot, handBack, freeAs, freeHandle, addNeed, allotNeed, freeOwn, Outcome, accepted, refusedAt, before, onward, steps}
 use Rattle.rules.proofs.Tells.{tells-and, tells-le}
 use Rattle.rules.proofs.Demand3.{next-frame, no-frame}
 
 -- ---- the number
 
 abbrev low : ℕ → Bool
-low n = leb 1 n && leb n 20
+low n = leb 1 n && leb n 22
 
 record Numbered {A : Type 0} (m : Answer A) : Type 0 where
   at : (n : ℕ) → m ≡ refused n → low n ≡ true
@@ -87,10 +87,39 @@ module _ (room : Room) (place : Placement) where
   unfolding takeName
   num-take name c = num-then (num-get name c) λ _. num-given
 
+  num-free-as : (k : Kind) (dangles : Bool) (h : ℕ) (s : State) → Numbered (freeAs k dangles h s)
+  unfolding freeAs handBack giveBack
+  num-free-as k dangles h s =
+      num-if (λ _. num-when 14 _ refl λ _. num-then (num-unless 12 refl λ _ _. num-when 12 _ refl λ _. num-given) λ _. num-given) (λ _. num-given)
+
   num-free : (dangles : Bool) (h : ℕ) (s : State) → Numbered (freeHandle dangles h s)
-  unfolding freeHandle handBack giveBack
-  num-free dangles h s =
-      num-when 13 _ refl (λ _. num-if (λ _. num-when 14 _ refl λ _. num-then (num-unless 12 refl λ _ _. num-when 12 _ refl λ _. num-given) λ _. num-given) (λ _. num-given))
+  unfolding freeHandle
+  num-free dangles h s = num-when 13 _ refl (λ _. num-free-as (s .handles h .kind) dangles h s)
+
+  num-add : (x : Remembered) (s : State) → Numbered (addNeed room x s)
+  unfolding addNeed
+  num-add x s = num-when 22 _ refl λ _. num-given
+
+  num-allot-need : (n : ℕ) (s : State) (d : Need) → Numbered (allotNeed room place n s d)
+  unfolding allotNeed
+  num-allot-need n s (defer id) = num-unless 4 refl λ k _. num-then (num-allot k _ 1 s) λ _. num-given
+  num-allot-need n s (at a) = num-given
+  num-allot-need n s ignore = num-given
+  num-allot-need n s freedNeed = num-given
+
+  num-output : (d : Need) → Numbered (outputOf d)
+  unfolding outputOf
+  num-output (defer id) = num-by 18 refl
+  num-output (at a) = num-given
+  num-output ignore = num-given
+  num-output freedNeed = num-by 18 refl
+
+  num-own : (h : ℕ) (s : State) (d : Need) → Numbered (freeOwn h s d)
+  unfolding freeOwn
+  num-own h s (defer id) = num-given
+  num-own h s (at a) = num-if (λ _. num-free-as (a .kind) true h s) (λ _. num-given)
+  num-own h s ignore = num-given
+  num-own h s freedNeed = num-given
 
   numbers : (s : State) (f : Frame) → Numbered (step room place s f)
   unfolding step
@@ -113,25 +142,35 @@ module _ (room : Room) (place : Placement) where
   numbers s (write h v) = num-when 13 _ refl (λ _. num-when 14 _ refl λ _. num-given)
   numbers s (read h) = num-when 13 _ refl (λ _. num-when 14 _ refl (λ _. num-when 15 _ refl λ _. num-given))
   numbers s (readName name) = num-then (num-get name (s .scopes)) λ _. num-when 14 _ refl (λ _. num-when 15 _ refl λ _. num-given)
+  numbers s (newDefer n) = num-unless 4 refl λ _ _. num-then (num-add _ s) λ _. num-given
+  numbers s (newAssigned h) = num-when 13 _ refl (λ _. num-then (num-add _ s) λ _. num-given)
+  numbers s newIgnore = num-then (num-add _ s) λ _. num-given
+  numbers s (allocNeed n) = num-when 21 _ refl (λ _. num-then (num-allot-need n s _) λ _. num-given)
+  numbers s (outputNeed n) = num-when 21 _ refl (λ _. num-then (num-output _) λ _. num-given)
+  numbers s (dropNeed n) = num-when 21 _ refl (λ _. num-then (num-own _ s _) λ _. num-given)
 
   -- ---- and the line, of a script
 
-  abbrev Stops : ℕ → ℕ → ℕ → Type 0
-  Stops n j end = (low n ≡ true) × (j < end)
+  abbrev Stops : ℕ → ℕ → ℕ → ℕ → Type 0
+  Stops n i j end = (low n ≡ true) × (i ≤ j) × (j < end)
 
-  behind : (ls : List Line) (o : Outcome) (n j : ℕ) → before ls o ≡ refusedAt n j → o ≡ refusedAt n j
+  pub behind : (ls : List Line) (o : Outcome) (n j : ℕ) → before ls o ≡ refusedAt n j → o ≡ refusedAt n j
   behind ls (accepted more size) n j e = absurd (let z : _≡_ {A = ℕ} 0 1 = cc in omega arith)
   behind ls (refusedAt m k) n j e = e
 
-  stops : (fs : List Frame) (i : ℕ) (s : State) (n j : ℕ) → steps room place i s fs ≡ refusedAt n j → Stops n j (i + length fs)
+  stops : (fs : List Frame) (i : ℕ) (s : State) (n j : ℕ) → steps room place i s fs ≡ refusedAt n j → Stops n i j (i + length fs)
   unfolding onward
   stops [] i s n j e = let q = no-frame room place i s in absurd (let z : _≡_ {A = ℕ} 0 1 = cc in omega arith)
   stops (f ∷ fs) i s n j e = go (step room place s f) refl (sym (next-frame room place i s f fs) ∙ e) (λ t q. stops fs (suc i) t n j q)
     where
       go : (a : Step) → step room place s f ≡ a → onward i a (λ t. steps room place (suc i) t fs) ≡ refusedAt n j
-          → ((t : State) → steps room place (suc i) t fs ≡ refusedAt n j → Stops n j (suc i + length fs)) → Stops n j (i + suc (length fs))
-      go (refused m) p q ih = let a : m ≡ n = cc in let b : i ≡ j = cc in (subst (λ (k : ℕ). low k ≡ true) a (numbers s f .at m p), omega arith)
-      go (given r) p q ih = let h = ih (r .1) (behind (r .0) (steps room place (suc i) (r .1) fs) n j q) in (h .0, omega (arith, h .1))
+          → ((t : State) → steps room place (suc i) t fs ≡ refusedAt n j → Stops n (suc i) j (suc i + length fs)) → Stops n i j (i + suc (length fs))
+      go (refused m) p q ih = let a : m ≡ n = cc in let b : i ≡ j = cc in (subst (λ (k : ℕ). low k ≡ true) a (numbers s f .at m p), omega arith, omega arith)
+      go (given r) p q ih = let h = ih (r .1) (behind (r .0) (steps room place (suc i) (r .1) fs) n j q) in (h .0, omega (arith, h .1), omega (arith, h .2))
 
-  pub refused-within : (fs : List Frame) (i : ℕ) (s : State) (n j : ℕ) → steps room place i s fs ≡ refusedAt n j → (1 ≤ n) × (n ≤ 20) × (j < i + length fs)
-  refused-within fs i s n j e = let k = stops fs i s n j e in let b = tells-and (tells-le 1 n) (tells-le n 20) .holds (k .0) in (b .0, b .1, k .1)
+  pub refused-within : (fs : List Frame) (i : ℕ) (s : State) (n j : ℕ) → steps room place i s fs ≡ refusedAt n j → (1 ≤ n) × (n ≤ 22) × (j < i + length fs)
+  refused-within fs i s n j e = let k = stops fs i s n j e in let b = tells-and (tells-le 1 n) (tells-le n 22) .holds (k .0) in (b .0, b .1, k .2)
+
+  -- what is refused from line i on is refused there or later
+  pub refused-from : (fs : List Frame) (i : ℕ) (s : State) (n j : ℕ) → steps room place i s fs ≡ refusedAt n j → i ≤ j
+  refused-from fs i s n j e = stops fs i s n j e .1

@@ -1,17 +1,21 @@
--- Sessions A to K, by computation. Assumes nothing.
+-- Sessions A to K, and those for needs, by computation. Assumes nothing.
 use mathlib.Core.Path.{_≡_, refl}
 use Rattle.rules.specs.Notation.{_>>=_, refuse_when_, refuse_unless_, if_then_else_, put, first, pastLast}
 use Rattle.rules.specs.Sizes.{base}
 use Rattle.rules.specs.Slots.{freshSlots, clearIn, firstWithClear, insertInto, insertNew, insert, pastGreatest, pushAt, pushes, pushRun, removes, remove, removeAll, edition1}
 use Rattle.rules.specs.AddressSets.{member, added, without, addedAll, withoutAll, run}
-use Rattle.rules.specs.Scopes.{freshScopes, topScope, byNumber, hasChild, setScope, openChild, allocate, unbound, closed, poppable, lastPoppable, dangleScope, restoreScope, boundIn, rebound, bindIn, lookup, getName, takeName, drainDangling}
-use Rattle.rules.specs.Needs.{runKind, goesBack, giveBack}
-use Rattle.rules.specs.Frames.{start, setHandle, unknown, spent, grant, letGo, allot, close, handBack, freeHandle, step, onward, steps}
+use Rattle.rules.specs.Scopes.{freshScopes, topScope, byId, byNumber, hasChild, setScope, openChild, allocate, unbound, closed, poppable, lastPoppable, dangleScope, restoreScope, boundIn, rebound, bindIn, lookup, getName, takeName, drainDangling}
+use Rattle.rules.specs.Needs.{runKind, goesBack, giveBack, outputOf}
+use Rattle.rules.specs.Frames.{start, setHandle, unknown, spent, belongs, barred, grant, letGo, allot, close, handBack, freeAs, freeHandle, setNeed, addNeed, lost, allotNeed, freeOwn, step, onward, steps}
 use Rattle.rules.specs.Meaning.{obey, high}
 use Rattle.rules.specs.Text.{digit, hex2, hex4, value, word, words, raw, split, rowed, lineOf, frameTable, scriptFrom, hexes, lineText, listText, lineTable, sizeTable, listFrom}
 use Rattle.rules.specs.Entries.{outcome, translated, runListed, ranOn, loadText, loadsText, eeText, outcomeText, runText}
-use Rattle.rules.specs.Sessions.{bytes, sessions, SessionsHold}
+use Rattle.rules.specs.Sessions.{bytes, sessions, repeated, needSessions, narrow, noHandle, oneHandle, SessionsHold, NeedSessionsHold}
 
 pub sessions-hold : SessionsHold
-unfolding SessionsHold sessions bytes _>>=_ refuse_when_ refuse_unless_ if_then_else_ put first pastLast base freshSlots clearIn firstWithClear insertInto insertNew insert pastGreatest pushAt pushes pushRun removes remove removeAll edition1 member added without addedAll withoutAll run freshScopes topScope byNumber hasChild setScope openChild allocate unbound closed poppable lastPoppable dangleScope restoreScope boundIn rebound bindIn lookup getName takeName drainDangling runKind goesBack giveBack start setHandle unknown spent grant letGo allot close handBack freeHandle step onward steps obey high digit hex2 hex4 value word words raw split rowed lineOf frameTable scriptFrom hexes lineText listText lineTable sizeTable listFrom outcome translated runListed ranOn loadText loadsText eeText outcomeText runText
+unfolding SessionsHold sessions bytes _>>=_ refuse_when_ refuse_unless_ if_then_else_ put first pastLast base freshSlots clearIn firstWithClear insertInto insertNew insert pastGreatest pushAt pushes pushRun removes remove removeAll edition1 member added without addedAll withoutAll run freshScopes topScope byId byNumber hasChild setScope openChild allocate unbound closed poppable lastPoppable dangleScope restoreScope boundIn rebound bindIn lookup getName takeName drainDangling runKind goesBack giveBack outputOf start setHandle unknown spent belongs barred grant letGo allot close handBack freeAs freeHandle setNeed addNeed lost allotNeed freeOwn step onward steps obey high digit hex2 hex4 value word words raw split rowed lineOf frameTable scriptFrom hexes lineText listText lineTable sizeTable listFrom outcome translated runListed ranOn loadText loadsText eeText outcomeText runText
 sessions-hold = refl
+
+pub need-sessions-hold : NeedSessionsHold
+unfolding NeedSessionsHold needSessions narrow noHandle oneHandle repeated bytes _>>=_ refuse_when_ refuse_unless_ if_then_else_ put first pastLast base freshSlots clearIn firstWithClear insertInto insertNew insert pastGreatest pushAt pushes pushRun removes remove removeAll edition1 member added without addedAll withoutAll run freshScopes topScope byId byNumber hasChild setScope openChild allocate unbound closed poppable lastPoppable dangleScope restoreScope boundIn rebound bindIn lookup getName takeName drainDangling runKind goesBack giveBack outputOf start setHandle unknown spent belongs barred grant letGo allot close handBack freeAs freeHandle setNeed addNeed lost allotNeed freeOwn step onward steps obey high digit hex2 hex4 value word words raw split rowed lineOf frameTable scriptFrom hexes lineText listText lineTable sizeTable listFrom outcome translated runListed ranOn loadText loadsText eeText outcomeText runText
+need-sessions-hold = (refl, refl, refl)

@@ -7,13 +7,13 @@ use Prim.Native.Nat.{ℕ, zero, suc, _+_, _*_, _%_, _≤_, _<_}
 use native.Mathlib.Omega.{arith}
 use native.Mathlib.Nat.{mod-le}
 use lib.Dec.{lit<}
-use Rattle.rules.specs.Notation.{_▹_}
+use Rattle.rules.specs.Notation.{_▹_, put}
 use Rattle.rules.specs.Sizes.{Room}
 use Rattle.rules.specs.Slots.{Placement}
 use Rattle.rules.specs.AddressSets.{member}
 use Rattle.rules.specs.Scopes.{Scopes, freshScopes, Found, closed, drainDangling}
-use Rattle.rules.specs.Needs.{Kind, freed}
-use Rattle.rules.specs.Frames.{Frame, child, pop, dangle, restore, popLast, alloc, allocIn, linear, define, get, takeFrom, free, freeQuietly, forget, drain, write, read, readName, Handle, kind≔, State, start, scopes≔, setHandle, letGo, allot, close, handBack, freeHandle, step}
+use Rattle.rules.specs.Needs.{Kind, freed, Need, defer, at, ignore, freedNeed}
+use Rattle.rules.specs.Frames.{Frame, child, pop, dangle, restore, popLast, alloc, allocIn, linear, define, get, takeFrom, free, freeQuietly, forget, drain, write, read, readName, newDefer, newAssigned, newIgnore, allocNeed, outputNeed, dropNeed, Handle, kind≔, State, start, scopes≔, setHandle, letGo, allot, close, handBack, freeAs, freeHandle, Remembered, gone, needs≔, needed≔, setNeed, addNeed, allotNeed, freeOwn, step}
 use Rattle.rules.specs.Demand3.{Fair}
 use Rattle.rules.proofs.Chains.{All, all-given, all-then, all-when, all-unless, all-if}
 use Rattle.rules.proofs.Tables.{put-alike, grant-cases}
@@ -71,18 +71,43 @@ module _ (room : Room) (place : Placement) (fair : Fair room place (SlotsSound (
         fits,
       )
 
-  free-small : (dangles : Bool) (h : ℕ) → All After (freeHandle dangles h s)
-  unfolding freeHandle handBack
-  free-small dangles h =
-      all-when 13 _ λ _. all-if
+  free-as-small : (k : Kind) (dangles : Bool) (h : ℕ) → All After (freeAs k dangles h s)
+  unfolding freeAs handBack
+  free-as-small k dangles h =
+      all-if
       (λ _. all-when 14 _ λ _. all-then λ d e. all-given (with-handle h _ refl d (back-leaves c dangles (s .handles h .address) .at d e .counter-is)))
       (λ _. all-given (with-handle h (s .handles h ▹ kind≔ freed) refl c refl))
+
+  free-small : (dangles : Bool) (h : ℕ) → All After (freeHandle dangles h s)
+  unfolding freeHandle
+  free-small dangles h = all-when 13 _ λ _. free-as-small (s .handles h .kind) dangles h
+
+  with-needs : {t : State} (needs : ℕ → Remembered) (needed : ℕ) → After t → After (t ▹ needs≔ needs ▹ needed≔ needed)
+  with-needs needs needed a = record { count = a .count; addresses = a .addresses }
+
+  add-small : (x : Remembered) → All After (addNeed room x s)
+  unfolding addNeed setNeed
+  add-small x = all-when 22 _ λ _. all-given (with-needs (put (s .needs) (s .needed) x) (s .needed + 1) stays)
+
+  need-small : (n : ℕ) (d : Need) → All (λ r. After (r .1)) (allotNeed room place n s d)
+  unfolding allotNeed setNeed
+  need-small n (defer id) = all-unless 4 λ k _. all-then λ r e. all-given (with-needs (put (r .1 .needs) n _) (r .1 .needed) (allot-small k _ 1 .at r e .0))
+  need-small n (at a) = all-given (with-needs (put (s .needs) n _) (s .needed) stays)
+  need-small n ignore = all-given stays
+  need-small n freedNeed = all-given stays
+
+  own-small : (h : ℕ) (d : Need) → All After (freeOwn h s d)
+  unfolding freeOwn
+  own-small h (defer id) = all-given stays
+  own-small h (at a) = all-if (λ _. free-as-small (a .kind) true h) (λ _. all-given stays)
+  own-small h ignore = all-given stays
+  own-small h freedNeed = all-given stays
 
   child-small : (d : Scopes) {n : ℕ} → Leaves (c .slots) (c .bindings) ((c .counter + 1) % 4294967296) n d → After (s ▹ scopes≔ d)
   child-small d w = record { count = omega (arith, w .counter-is, small .count, mod-le (c .counter + 1) 4294967296); addresses = small .addresses }
 
   pub small-step : (f : Frame) → All (λ r. After (r .1)) (step room place s f)
-  unfolding step drainDangling
+  unfolding step setNeed drainDangling
   small-step child = all-then λ r e. all-given (child-small (r .1) (child-leaves room c .at r e .1))
   small-step (pop n) = all-then λ k _. all-given (close-small k)
   small-step (dangle n) = all-then λ d e. all-given (with-scopes d (dangle-leaves c _ .at d e .counter-is))
@@ -102,3 +127,9 @@ module _ (room : Room) (place : Placement) (fair : Fair room place (SlotsSound (
   small-step (write h v) = all-when 13 _ λ _. all-when 14 _ λ _. all-given (with-handle h _ refl c refl)
   small-step (read h) = all-when 13 _ λ _. all-when 14 _ λ _. all-when 15 _ λ _. all-given stays
   small-step (readName name) = all-then λ b _. all-when 14 _ λ _. all-when 15 _ λ _. all-given stays
+  small-step (newDefer n) = all-unless 4 λ k _. all-then λ t e. all-given (add-small _ .at t e)
+  small-step (newAssigned h) = all-when 13 _ λ _. all-then λ t e. all-given (add-small _ .at t e)
+  small-step newIgnore = all-then λ t e. all-given (add-small _ .at t e)
+  small-step (allocNeed n) = all-when 21 _ λ _. all-then λ r e. all-given (need-small n (s .needs n .need) .at r e)
+  small-step (outputNeed n) = all-when 21 _ λ _. all-then λ o _. all-given stays
+  small-step (dropNeed n) = all-when 21 _ λ _. all-then λ t e. all-given (with-needs (put (t .needs) n gone) (t .needed) (own-small (s .needs n .handle) (s .needs n .need) .at t e))

@@ -11,7 +11,8 @@ use Rattle.rules.specs.Sizes.{Room}
 use Rattle.rules.specs.Slots.{Slots}
 use Rattle.rules.specs.AddressSets.{member}
 use Rattle.rules.specs.Scopes.{Scope, Binding, Scopes, boundIn}
-use Rattle.rules.specs.Frames.{Handle, State}
+use Rattle.rules.specs.Needs.{Need, defer, at, ignore, freedNeed}
+use Rattle.rules.specs.Frames.{Handle, Remembered, owns, State}
 use Rattle.rules.specs.Sound.{ownedBy}
 use Rattle.rules.proofs.Sets.{Once, Within}
 
@@ -124,7 +125,21 @@ pub record HandlesSound (m most : ℕ) (occupied : ℕ → Bool) (handles : ℕ 
 abbrev pub Agrees : (ℕ → Handle) → ℕ → Binding → Type 0
 Agrees handles handed b = (b .handle < handed) × (handles (b .handle) .address ≡ b .address)
 
+-- the same of a need that remembers h
+abbrev pub NeedAgrees : (ℕ → Handle) → ℕ → ℕ → Need → Type 0
+NeedAgrees handles handed h (defer id) = Unit {0}
+NeedAgrees handles handed h (at a) = (h < handed) × (handles h .address ≡ a .slot)
+NeedAgrees handles handed h ignore = Unit {0}
+NeedAgrees handles handed h freedNeed = Unit {0}
+
+-- needs agree with their handles, and a handle belongs to one need at most: `needed` of them, `most` at most
+pub record NeedsSound (most : ℕ) (handles : ℕ → Handle) (handed : ℕ) (needs : ℕ → Remembered) (needed : ℕ) : Type 0 where
+  pub few : needed ≤ most
+  pub agree : (n : ℕ) → n < needed → NeedAgrees handles handed (needs n .handle) (needs n .need)
+  pub apart : (i j : ℕ) → i < needed → j < needed → owns (needs i .need) ≡ true → owns (needs j .need) ≡ true → needs i .handle ≡ needs j .handle → i ≡ j
+
 pub record StateSound (room : Room) (s : State) : Type 0 where
   pub scopes : Sound room (s .scopes)
   pub handles : HandlesSound (128 * room .segments) (room .handles) (s .scopes .slots .occupied) (s .handles) (s .handed)
   pub agreeing : Every (Agrees (s .handles) (s .handed)) (s .scopes .bindings)
+  pub needing : NeedsSound (room .needs) (s .handles) (s .handed) (s .needs) (s .needed)

@@ -29,6 +29,10 @@ module _ {A : Type 0} (f : ℕ → A) (i : ℕ) (x : A) where
   unfolding put
   put-other j ne = rw (ne-eqb i j ne, put)
 
+  -- x, or what was there
+  pub put-cases {ℓ} : {X : Type ℓ} (j : ℕ) → (i ≡ j → put f i x j ≡ x → X) → ((i ≡ j → ⊥) → put f i x j ≡ f j → X) → X
+  put-cases j here there = by-eqb i j (λ e. here e (subst (λ (k : ℕ). put f i x k ≡ x) e put-same)) (λ ne. there ne (put-other j ne))
+
   -- what a part of the entry says stays everywhere if it stays at i
   pub put-alike : {B : Type 0} (P : A → B) → P x ≡ P (f i) → (j : ℕ) → P (put f i x j) ≡ P (f j)
   put-alike P e j =

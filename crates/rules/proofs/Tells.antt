@@ -1,6 +1,6 @@
 -- A test tells a fact (specs/Tells). One law for each way in which the tests of specs/Sound are put together. Assumes nothing.
 use mathlib.Core.Path.{_≡_, refl, sym, subst, _∙_}
-use mathlib.Core.Bool.{Bool, true, false, not, _&&_, true≢false}
+use mathlib.Core.Bool.{Bool, true, false, not, _&&_, _||_, true≢false}
 use mathlib.Core.List.{List, [], _∷_}
 use Prim.Native.Nat.{ℕ, zero, suc, _≤_, _<_}
 use native.Mathlib.Omega.{arith}
@@ -22,6 +22,10 @@ is-false false n = refl
 
 pub clash {ℓ} : {X : Type ℓ} {b : Bool} → b ≡ true → b ≡ false → X
 clash p q = absurd (true≢false (sym p ∙ q))
+
+pub neither : (a b : Bool) → (a || b) ≡ false → (a ≡ false) × (b ≡ false)
+neither true b q = clash refl q
+neither false b q = (refl, q)
 
 pub tells-as : {r : Bool} {P Q : Type 0} → Tells r P → (P → Q) → (Q → P) → Tells r Q
 tells-as t f g = record { holds = λ e. f (t .holds e); shows = λ q. t .shows (g q) }

@@ -9,8 +9,8 @@ use Rattle.rules.specs.Notation.{Answer, given, _>>=_, refuse_when_, if_
 use Rattle.rules.specs.Sizes.{Room}
 use Rattle.rules.specs.Slots.{Slots, Placement, removes, remove}
 use Rattle.rules.specs.Scopes.{Scopes, slots≔, Found, byNumber, closed, poppable, lastPoppable}
-use Rattle.rules.specs.Needs.{Address, address, freed, isFreed, goesBack, giveBack, forgetAddress, Need, defer, at, ignore, freedNeed}
-use Rattle.rules.specs.Frames.{Frame, child, pop, dangle, restore, popLast, alloc, allocIn, linear, define, get, takeFrom, free, freeQuietly, forget, drain, write, read, readName, kind≔, held≔, State, start, scopes≔, setHandle, spent, close, shows, Step, oneLine, step, Outcome, accepted, refusedAt, onward}
+use Rattle.rules.specs.Needs.{Kind, freed, Address, address, isFreed, goesBack, giveBack, forgetAddress, Need, defer, at, ignore, freedNeed}
+use Rattle.rules.specs.Frames.{Frame, child, pop, dangle, restore, popLast, alloc, allocIn, linear, define, get, takeFrom, free, freeQuietly, forget, drain, write, read, readName, newDefer, newAssigned, newIgnore, allocNeed, outputNeed, dropNeed, kind≔, held≔, gone, isScopeKind, State, start, scopes≔, setHandle, barred, close, setNeed, lost, shows, Step, oneLine, step, Outcome, accepted, refusedAt, onward}
 use Rattle.rules.specs.Text.{split, Script, frames, unread, scriptFrom}
 use Rattle.rules.specs.Entries.{translated}
 
@@ -90,15 +90,25 @@ handBack01 dangles h s = do
   c ← giveBack01 dangles (s .handles h .address) (s .scopes)
   given (s ▹ scopes≔ c ▹ setHandle h (s .handles h ▹ held≔ false ▹ kind≔ freed))
 
+unfoldable pub freeAs01 : Kind → Bool → ℕ → State → Answer State
+freeAs01 k dangles h s =
+    if (goesBack (s .scopes) k)
+    then handBack01 dangles h s
+    else given (s ▹ setHandle h (s .handles h ▹ kind≔ freed))
+
 unfoldable pub freeHandle01 : Bool → ℕ → State → Answer State
 freeHandle01 dangles h s = do
-  _ ← refuse 13 when (spent s h)
-  if (goesBack (s .scopes) (s .handles h .kind))
-      then handBack01 dangles h s
-      else given (s ▹ setHandle h (s .handles h ▹ kind≔ freed))
+  _ ← refuse 13 when (barred s h)
+  freeAs01 (s .handles h .kind) dangles h s
+
+unfoldable pub freeOwn01 : ℕ → State → Need → Answer State
+freeOwn01 h s (defer id) = given s
+freeOwn01 h s (at a) = if (isScopeKind (a .kind)) then freeAs01 (a .kind) true h s else given s
+freeOwn01 h s ignore = given s
+freeOwn01 h s freedNeed = given s
 
 module _ (room : Room) (place : Placement) where
-  -- 02, 05, 0c and 0d remove slots; every other frame is as it was
+  -- 02, 05, 0c, 0d, and 25 of W-201, remove slots; every other frame is as it was
   unfoldable pub step01 : State → Frame → Step
   step01 s child = step room place s child
   step01 s (pop n) = do
@@ -126,6 +136,15 @@ module _ (room : Room) (place : Placement) where
   step01 s (write h v) = step room place s (write h v)
   step01 s (read h) = step room place s (read h)
   step01 s (readName name) = step room place s (readName name)
+  step01 s (newDefer n) = step room place s (newDefer n)
+  step01 s (newAssigned h) = step room place s (newAssigned h)
+  step01 s newIgnore = step room place s newIgnore
+  step01 s (allocNeed n) = step room place s (allocNeed n)
+  step01 s (outputNeed n) = step room place s (outputNeed n)
+  step01 s (dropNeed n) = do
+    _ ← refuse 21 when (lost s n)
+    t ← freeOwn01 (s .needs n .handle) s (s .needs n .need)
+    oneLine (shows 0x25 []) (t ▹ setNeed n gone)
 
   unfoldable pub steps01 : ℕ → State → List Frame → Outcome
   steps01 i s [] = accepted [] (s .scopes .size)

@@ -1,4 +1,5 @@
--- Document 01, "Script frames" and "Numbers given back": one frame, and a script. Refusals stand in the order of "Order".
+-- Document 01, "Script frames" and "Numbers given back", and W-201 of document 02, "Needs in scripts": one frame, and a script. Refusals
+-- stand in the order of "Order" and of W-201.
 -- Assumes nothing.
 use mathlib.Core.Bool.{Bool, true, false, not, _&&_, _||_}
 use mathlib.Core.Option.{Option, none, some}
@@ -6,16 +7,16 @@ use mathlib.Core.List.{List, [], _∷_, _++_}
 use Prim.Native.Nat.{ℕ, zero, suc, _+_, _-_}
 use lib.ListN.{length}
 use lib.Dec.{eqb, ltb, leb}
-use Rattle.rules.specs.Notation.{Answer, given, refused, _>>=_, refuse_when_, refuse_unless_, if_then_else_, _▹_, put}
+use Rattle.rules.specs.Notation.{Answer, given, refused, _>>=_, refuse_when_, refuse_unless_, if_then_else_, isSome, orElse, _▹_, put, first}
 use Rattle.rules.specs.Sizes.{Room}
 use Rattle.rules.specs.Slots.{Placement}
 use Rattle.rules.specs.AddressSets.{member}
-use Rattle.rules.specs.Scopes.{Binding, Scopes, freshScopes, Found, idOf, topScope, byNumber, openChild, allocate, closed, poppable, lastPoppable, dangleScope, restoreScope, bindIn, getName, takeName, drainDangling}
-use Rattle.rules.specs.Needs.{Kind, local, freed, scope, runKind, allocatedKind, isFreed, goesBack, giveBack}
+use Rattle.rules.specs.Scopes.{Binding, Scopes, freshScopes, Found, idOf, topScope, byId, byNumber, openChild, allocate, closed, poppable, lastPoppable, dangleScope, restoreScope, bindIn, getName, takeName, drainDangling}
+use Rattle.rules.specs.Needs.{Kind, local, dangling, assigned, freed, scope, runKind, allocatedKind, isFreed, goesBack, giveBack, Need, defer, at, ignore, freedNeed, Output, keep, discard, outputOf}
 
 -- ---- frames
 
--- "One frame a line": 01, 02, .. 12 in this order
+-- "One frame a line": 01, 02, .. 12 in this order; then 20 to 25 of W-201
 pub data Frame : Type 0 where
   child : Frame
   pop dangle restore : ℕ → Frame
@@ -26,6 +27,9 @@ pub data Frame : Type 0 where
   drain : Frame
   write : ℕ → ℕ → Frame
   read readName : ℕ → Frame
+  newDefer newAssigned : ℕ → Frame
+  newIgnore : Frame
+  allocNeed outputNeed dropNeed : ℕ → Frame
 
 -- ---- handles
 
@@ -46,23 +50,71 @@ held≔ x h = record { address = h .address; kind = h .kind; held = x; written =
 abbrev pub written≔ : Bool → Handle → Handle
 written≔ x h = record { address = h .address; kind = h .kind; held = h .held; written = x }
 
--- where a script stands: the scopes, and the handles that were handed out, from 0 on
+-- ---- needs
+
+-- 01's need, and the handle that it remembers; 0 stands there where it has no address
+pub record Remembered : Type 0 where
+  pub need : Need
+  pub handle : ℕ
+
+abbrev pub gone : Remembered
+gone = record { need = freedNeed; handle = 0 }
+
+abbrev pub isScopeKind : Kind → Bool
+isScopeKind local = false
+isScopeKind dangling = false
+isScopeKind assigned = false
+isScopeKind freed = false
+isScopeKind (scope id) = true
+
+-- "The first 23 on a deferred need takes the next handle, which belongs to the need": the address is then a Scope address. That of a
+-- need by 21 is Assigned.
+abbrev pub owns : Need → Bool
+owns (defer id) = false
+owns (at a) = isScopeKind (a .kind)
+owns ignore = false
+owns freedNeed = false
+
+abbrev pub isGone : Need → Bool
+isGone (defer id) = false
+isGone (at a) = false
+isGone ignore = false
+isGone freedNeed = true
+
+-- ---- the state
+
+-- where a script stands: the scopes, the handles that were handed out, from 0 on, and the needs, "numbered from 0"
 pub record State : Type 0 where
   pub scopes : Scopes
   pub handles : ℕ → Handle
   pub handed : ℕ
+  pub needs : ℕ → Remembered
+  pub needed : ℕ
 
 abbrev pub scopes≔ : Scopes → State → State
-scopes≔ x s = record { scopes = x; handles = s .handles; handed = s .handed }
+scopes≔ x s = record { scopes = x; handles = s .handles; handed = s .handed; needs = s .needs; needed = s .needed }
 
 abbrev pub handles≔ : (ℕ → Handle) → State → State
-handles≔ x s = record { scopes = s .scopes; handles = x; handed = s .handed }
+handles≔ x s = record { scopes = s .scopes; handles = x; handed = s .handed; needs = s .needs; needed = s .needed }
 
 abbrev pub handed≔ : ℕ → State → State
-handed≔ x s = record { scopes = s .scopes; handles = s .handles; handed = x }
+handed≔ x s = record { scopes = s .scopes; handles = s .handles; handed = x; needs = s .needs; needed = s .needed }
+
+abbrev pub needs≔ : (ℕ → Remembered) → State → State
+needs≔ x s = record { scopes = s .scopes; handles = s .handles; handed = s .handed; needs = x; needed = s .needed }
+
+abbrev pub needed≔ : ℕ → State → State
+needed≔ x s = record { scopes = s .scopes; handles = s .handles; handed = s .handed; needs = s .needs; needed = x }
 
 unfoldable pub start : State
-start = record { scopes = freshScopes; handles = λ h. record { address = 0; kind = freed; held = false; written = false }; handed = 0 }
+start =
+    record {
+      scopes = freshScopes;
+      handles = λ h. record { address = 0; kind = freed; held = false; written = false };
+      handed = 0;
+      needs = λ n. gone;
+      needed = 0;
+    }
 
 -- the handle h, changed to x
 unfoldable pub setHandle : ℕ → Handle → State → State
@@ -75,6 +127,18 @@ unknown s h = leb (s .handed) h
 -- 13: ".. for 09, 0c, 0d, 0e also Freed"
 unfoldable pub spent : State → ℕ → Bool
 spent s h = unknown s h || isFreed (s .handles h .kind)
+
+-- h is the handle of the need x
+abbrev pub keeps : Remembered → ℕ → Bool
+keeps x h = owns (x .need) && eqb (x .handle) h
+
+-- h belongs to a need
+unfoldable pub belongs : State → ℕ → Bool
+belongs s h = isSome (first (λ n. keeps (s .needs n) h) 0 (s .needed))
+
+-- ".. it may be written and read, but 0c, 0d and 0e on it give 13": for these, unknown, Freed, or a need's
+unfoldable pub barred : State → ℕ → Bool
+barred s h = spent s h || belongs s h
 
 -- "Handles count from 0 in the order handed out, n for a run, never used again": n of them, for the n slots from a on
 unfoldable pub grant : ℕ → ℕ → ℕ → Kind → (ℕ → Handle) → ℕ → Handle
@@ -114,13 +178,60 @@ handBack dangles h s = do
   c ← giveBack dangles (s .handles h .address) (s .scopes)
   given (s ▹ scopes≔ c ▹ setHandle h (s .handles h ▹ held≔ false ▹ kind≔ freed))
 
+-- h, as an address of kind k, becomes Freed: where a slot goes back 14, 12
+unfoldable pub freeAs : Kind → Bool → ℕ → State → Answer State
+freeAs k dangles h s =
+    if (goesBack (s .scopes) k)
+    then handBack dangles h s
+    else given (s ▹ setHandle h (s .handles h ▹ kind≔ freed))
+
 -- "free 13, then where a slot goes back 14, 12"
 unfoldable pub freeHandle : Bool → ℕ → State → Answer State
 freeHandle dangles h s = do
-  _ ← refuse 13 when (spent s h)
-  if (goesBack (s .scopes) (s .handles h .kind))
-      then handBack dangles h s
-      else given (s ▹ setHandle h (s .handles h ▹ kind≔ freed))
+  _ ← refuse 13 when (barred s h)
+  freeAs (s .handles h .kind) dangles h s
+
+-- ---- what 20 to 25 do
+
+unfoldable pub setNeed : ℕ → Remembered → State → State
+setNeed n x s = s ▹ needs≔ (put (s .needs) n x)
+
+-- "Needs are numbered from 0, at most 64 in a script."; 22: "a 65th need"
+unfoldable pub addNeed : Room → Remembered → State → Answer State
+addNeed room x s = do
+  _ ← refuse 22 when (leb (room .needs) (s .needed))
+  given (s ▹ setNeed (s .needed) x ▹ needed≔ (s .needed + 1))
+
+-- 21: "need unknown or freed"
+unfoldable pub lost : State → ℕ → Bool
+lost s n = leb (s .needed) n || isGone (s .needs n .need)
+
+-- 01: "Allocating turns Defer into a Scope address by alloc in, acts on an Address as above, and answers none otherwise": the need n,
+-- which is the last one given. "on 23 of a deferred need 4 (its scope has closed), 16, 7"
+unfoldable pub allotNeed : Room → Placement → ℕ → State → Need → Answer (Option ℕ × State)
+allotNeed room place n s (defer id) = do
+  k ← refuse 4 unless (byId room (s .scopes) id)
+  r ← allot room place k (scope id) 1 s
+  given (some (r .0), r .1 ▹ setNeed n (record { need = at (record { slot = r .0; kind = scope id }); handle = s .handed }))
+allotNeed room place n s (at a) =
+    given (some (a .slot), s ▹ setNeed n (record { need = at (record { slot = a .slot; kind = allocatedKind (a .kind) }); handle = s .needs n .handle }))
+allotNeed room place n s ignore = given (none, s)
+allotNeed room place n s freedNeed = given (none, s)
+
+-- 01: "free: frees an Address"; the handle h that belongs to a need becomes Freed with it: 14, 12
+unfoldable pub freeOwn : ℕ → State → Need → Answer State
+freeOwn h s (defer id) = given s
+freeOwn h s (at a) = if (isScopeKind (a .kind)) then freeAs (a .kind) true h s else given s
+freeOwn h s ignore = given s
+freeOwn h s freedNeed = given s
+
+-- "the address, or `ffff` for none or discard"
+abbrev pub slotShown : Option ℕ → ℕ
+slotShown o = orElse o 0xffff
+
+abbrev pub outputShown : Output → ℕ
+outputShown (keep a) = a
+outputShown discard = 0xffff
 
 -- ---- lines of the list
 
@@ -189,7 +300,7 @@ module _ (room : Room) (place : Placement) where
     t ← freeHandle false h s
     oneLine (shows 0x0d []) t
   step s (forget h) = do
-    _ ← refuse 13 when (spent s h)
+    _ ← refuse 13 when (barred s h)
     oneLine (shows 0x0e []) (s ▹ setHandle h (s .handles h ▹ kind≔ freed))
   step s drain =
       let r : List ℕ × Scopes = drainDangling (s .scopes) in
@@ -209,6 +320,34 @@ module _ (room : Room) (place : Placement) where
     _ ← refuse 14 when (not (s .handles (b .handle) .held))
     _ ← refuse 15 when (not (s .handles (b .handle) .written))
     oneLine (loads 0x12 (s .handles (b .handle) .address)) s
+  -- W-201: "20 to 22 answer the need's number; 23 and 24 the address, or `ffff` for none or discard." 22 comes "after 4 or 13".
+  step s (newDefer n) = do
+    k ← refuse 4 unless (byNumber room (s .scopes) n)
+    t ← addNeed room (record { need = defer (idOf k); handle = 0 }) s
+    oneLine (shows 0x20 (s .needed ∷ [])) t
+  -- "Frame 21 takes any known handle, Freed or not."
+  step s (newAssigned h) = do
+    _ ← refuse 13 when (unknown s h)
+    t ← addNeed room (record { need = at (record { slot = s .handles h .address; kind = assigned }); handle = h }) s
+    oneLine (shows 0x21 (s .needed ∷ [])) t
+  step s newIgnore = do
+    t ← addNeed room (record { need = ignore; handle = 0 }) s
+    oneLine (shows 0x22 (s .needed ∷ [])) t
+  -- "21 need unknown or freed, checked first"
+  step s (allocNeed n) = do
+    _ ← refuse 21 when (lost s n)
+    r ← allotNeed room place n s (s .needs n .need)
+    oneLine (shows 0x23 (slotShown (r .0) ∷ [])) (r .1)
+  -- "on 24 then 18"
+  step s (outputNeed n) = do
+    _ ← refuse 21 when (lost s n)
+    o ← outputOf (s .needs n .need)
+    oneLine (shows 0x24 (outputShown o ∷ [])) s
+  -- "on 25 then 14, 12"
+  step s (dropNeed n) = do
+    _ ← refuse 21 when (lost s n)
+    t ← freeOwn (s .needs n .handle) s (s .needs n .need)
+    oneLine (shows 0x25 []) (t ▹ setNeed n gone)
 
 -- ---- scripts
 

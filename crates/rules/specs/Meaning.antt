@@ -9,7 +9,7 @@ use Rattle.rules.specs.Notation.{Answer, given, refused, put}
 use Rattle.rules.specs.Sizes.{Room}
 use Rattle.rules.specs.Slots.{Placement}
 use Rattle.rules.specs.Scopes.{Binding, getName}
-use Rattle.rules.specs.Frames.{Frame, child, pop, dangle, restore, popLast, alloc, allocIn, linear, define, get, takeFrom, free, freeQuietly, forget, drain, write, read, readName, State, Line, stores, loads, shows, Step, step}
+use Rattle.rules.specs.Frames.{Frame, child, pop, dangle, restore, popLast, alloc, allocIn, linear, define, get, takeFrom, free, freeQuietly, forget, drain, write, read, readName, newDefer, newAssigned, newIgnore, allocNeed, outputNeed, dropNeed, State, Line, stores, loads, shows, Step, step}
 
 -- ---- "what the script means if each allocation had a box of its own, never used again"
 
@@ -42,6 +42,12 @@ deed room s drain = nothing
 deed room s (write h v) = fill h v
 deed room s (read h) = show h
 deed room s (readName name) = showBound (getName room name (s .scopes))
+deed room s (newDefer n) = nothing
+deed room s (newAssigned h) = nothing
+deed room s newIgnore = nothing
+deed room s (allocNeed n) = nothing
+deed room s (outputNeed n) = nothing
+deed room s (dropNeed n) = nothing
 
 abbrev pub filled : Deed → (ℕ → ℕ) → ℕ → ℕ
 filled nothing boxes = boxes

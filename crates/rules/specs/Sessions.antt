@@ -1,6 +1,7 @@
--- Document 01, "Sessions to hold", A to K: one list, and the statement over it. Assumes nothing.
+-- Document 01, "Sessions to hold", A to K: one list, and the statement over it; and a list of sessions for needs (W-201 of document 02).
+-- Assumes nothing.
 use mathlib.Core.Path.{_≡_}
-use mathlib.Core.List.{List, [], _∷_, map}
+use mathlib.Core.List.{List, [], _∷_, _++_, map}
 use Prim.Native.Nat.{ℕ, zero, suc}
 use Prim.Native.Char.{code}
 use Prim.Native.String.{String}
@@ -55,15 +56,109 @@ sessions =
     ∷ session "01\n070000\n0c0000\n06\n" "010001\n070000\n0c\n060001\n900002\n" ""
     ∷ []
 
--- what an accepted script's list prints; nothing is run where it was refused
-abbrev pub runOf : Outcome → List ℕ
-runOf (accepted ls size) = runText (ranOn base (replicate size 0) (listText ls size))
-runOf (refusedAt n i) = []
+-- n times the same, then a script that is refused
+unfoldable pub repeated : ℕ → List ℕ → List ℕ
+repeated zero l = []
+repeated (suc n) l = l ++ repeated n l
 
-abbrev pub held : List ℕ → Session
-held script =
-    let o : Outcome = translated base (edition1 8) script in
-    record { script = script; list = outcomeText o; output = runOf o }
+abbrev after : ℕ → String → String → String → Session
+after n r s l = record { script = repeated n (bytes r) ++ bytes s; list = bytes l; output = [] }
+
+unfoldable pub needSessions : List Session
+needSessions =
+    -- the three kinds of need, their output, and a need's handle written, read and named
+    session "01\n200001\n22\n06\n210000\n230000\n240000\n1000010009\n110001\n0900070001\n120007\n230001\n240001\n230002\n240002\n250000\n250001\n250002\n0f\n" "010001\n200000\n220001\n060000\n210002\n230001\n240001\n1000010009\n110001\n09\n120001\n23ffff\n24ffff\n230000\n240000\n25\n25\n25\n0f00010001\n900002\n" "a00009\na00009\n"
+    -- a second 23 takes no handle
+    ∷ session "200000\n230000\n230000\n06\n1000010007\n110001\n" "200000\n230000\n230000\n060001\n1000010007\n110001\n900002\n" "a00007\n"
+    -- a deferred need is allocated in its scope, which need not be the top
+    ∷ session "200000\n01\n230000\n06\n020001\n0f\n240000\n" "200000\n010001\n230000\n060001\n02\n0f00010001\n240000\n900002\n" ""
+    -- 0c, 0d and 0e of a need's handle: 13
+    ∷ session "200000\n230000\n0c0000\n" "ee0d0002\n" ""
+    ∷ session "200000\n230000\n0d0000\n" "ee0d0002\n" ""
+    ∷ session "200000\n230000\n0e0000\n" "ee0d0002\n" ""
+    -- and after 25, when it is Freed
+    ∷ session "200000\n230000\n250000\n0c0000\n" "ee0d0003\n" ""
+    -- 21 need unknown
+    ∷ session "230000\n" "ee150000\n" ""
+    ∷ session "22\n240001\n" "ee150001\n" ""
+    ∷ session "250000\n" "ee150000\n" ""
+    -- 21 need freed
+    ∷ session "22\n250000\n230000\n" "ee150002\n" ""
+    ∷ session "22\n250000\n240000\n" "ee150002\n" ""
+    ∷ session "22\n250000\n250000\n" "ee150002\n" ""
+    -- 18 on 24 of a deferred need
+    ∷ session "200000\n240000\n" "ee120001\n" ""
+    -- 4 on 20, 13 on 21
+    ∷ session "200005\n" "ee040000\n" ""
+    ∷ session "06\n210001\n" "ee0d0001\n" ""
+    -- 21 of a freed handle
+    ∷ session "06\n0c0000\n210000\n240000\n" "060000\n0c\n210000\n240000\n900001\n" ""
+    -- on 23 of a deferred need 4: its scope has closed, also where its index was used again
+    ∷ session "01\n200001\n020001\n230000\n" "ee040003\n" ""
+    ∷ session "01\n200001\n020001\n01\n230000\n" "ee040004\n" ""
+    -- 65 needs
+    ∷ after 65 "22\n" "" "ee160040\n"
+    -- 22 after 4 or 13
+    ∷ after 64 "22\n" "200001\n" "ee040040\n"
+    ∷ after 64 "22\n" "200000\n" "ee160040\n"
+    ∷ after 64 "22\n" "210000\n" "ee0d0040\n"
+    ∷ after 64 "22\n" "22\n" "ee160040\n"
+    -- freed needs count
+    ∷ after 64 "22\n" "250000\n22\n" "ee160041\n"
+    -- 23 of an allocated need whose scope has closed
+    ∷ session "01\n200001\n230000\n020001\n230000\n" "010001\n200000\n230000\n02\n230000\n900001\n" ""
+    -- 09 of a need's handle, until 25
+    ∷ session "200000\n230000\n0900070000\n" "200000\n230000\n09\n900001\n" ""
+    ∷ session "200000\n230000\n250000\n0900070000\n" "ee0d0003\n" ""
+    -- 21 of a handle that isn't held, or is a need's
+    ∷ session "01\n06\n020001\n210000\n" "010001\n060000\n02\n210000\n900001\n" ""
+    ∷ session "200000\n230000\n210000\n250001\n240000\n0c0000\n" "ee0d0005\n" ""
+    -- 25 of a need by 21 leaves the handle as it is
+    ∷ session "06\n210000\n250000\n0c0000\n" "060000\n210000\n25\n0c\n900001\n" ""
+    -- 25 away from its scope: the slot is kept and still readable
+    ∷ session "200000\n230000\n1000000005\n01\n250000\n110000\n" "200000\n230000\n1000000005\n010001\n25\n110000\n900001\n" "a00005\n"
+    -- 25 gives the slot back, which dangles
+    ∷ session "200000\n230000\n250000\n0f\n" "200000\n230000\n25\n0f00010000\n900001\n" ""
+    ∷ session "200000\n230000\n1000000005\n250000\n110000\n" "ee0e0004\n" ""
+    -- after 05
+    ∷ session "05\n22\n230000\n" "05\n220000\n23ffff\n900000\n" ""
+    ∷ session "06\n05\n210000\n230000\n240000\n250000\n" "060000\n05\n210000\n230000\n240000\n25\n900001\n" ""
+    -- root's need, freed after 05
+    ∷ session "200000\n230000\n05\n250000\n" "200000\n230000\n05\n25\n900001\n" ""
+    -- 25 after its scope was closed, and its index used again
+    ∷ session "01\n200001\n230000\n020001\n01\n250000\n06\n" "010001\n200000\n230000\n02\n010002\n25\n060000\n900001\n" ""
+    ∷ []
+
+-- 4 before 16 before 7 on 23 of a deferred need: in one segment, where the script has filled it, with no handle more and with one
+unfoldable pub narrow : ℕ → Room
+narrow handles =
+    record { segments = 1; scopes = base .scopes; bindings = base .bindings; handles = handles; needs = base .needs; lines = base .lines; size = base .size; text = base .text }
+
+unfoldable pub noHandle : List Session
+noHandle =
+    session "01\n200001\n020001\n080080\n230000\n" "ee040004\n" ""
+    ∷ session "080080\n200000\n230000\n" "ee100002\n" ""
+    ∷ []
+
+unfoldable pub oneHandle : List Session
+oneHandle = session "080080\n200000\n230000\n" "ee070002\n" "" ∷ []
+
+-- what an accepted script's list prints; nothing is run where it was refused
+abbrev pub runOf : Room → Outcome → List ℕ
+runOf room (accepted ls size) = runText (ranOn room (replicate size 0) (listText ls size))
+runOf room (refusedAt n i) = []
+
+abbrev pub held : Room → List ℕ → Session
+held room script =
+    let o : Outcome = translated room (edition1 (room .segments)) script in
+    record { script = script; list = outcomeText o; output = runOf room o }
+
+-- each session is as the rules say
+abbrev pub Hold : Room → List Session → Type 0
+Hold room l = map (λ s. held room (s .script)) l ≡ l
 
 unfoldable pub SessionsHold : Type 0
-SessionsHold = map (λ s. held (s .script)) sessions ≡ sessions
+SessionsHold = Hold base sessions
+
+unfoldable pub NeedSessionsHold : Type 0
+NeedSessionsHold = Hold base needSessions × Hold (narrow 128) noHandle × Hold (narrow 129) oneHandle

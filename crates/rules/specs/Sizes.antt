@@ -11,6 +11,8 @@ pub record Room : Type 0 where
   pub bindings : ℕ
   -- handles of a script
   pub handles : ℕ
+  -- needs of a script
+  pub needs : ℕ
   -- frame lines of a script or a list
   pub lines : ℕ
   -- the greatest size that a list may give
@@ -19,6 +21,6 @@ pub record Room : Type 0 where
   pub text : ℕ
 
 -- "1,024 slots, addresses 0..1023, in 8 segments of 128. 64 live scopes, root included. 256 live bindings over all scopes. Scripts:
--- 2,048 frames, 2,048 handles. Text buffers: 32,768 bytes"
+-- 2,048 frames, 2,048 handles. Text buffers: 32,768 bytes"; W-201: "Needs .. at most 64 in a script."
 unfoldable pub base : Room
-base = record { segments = 8; scopes = 64; bindings = 256; handles = 2048; lines = 2048; size = 1024; text = 32768 }
+base = record { segments = 8; scopes = 64; bindings = 256; handles = 2048; needs = 64; lines = 2048; size = 1024; text = 32768 }

@@ -11,7 +11,8 @@ use Rattle.rules.specs.Sizes.{Room}
 use Rattle.rules.specs.Slots.{Slots}
 use Rattle.rules.specs.AddressSets.{repeatsNothing}
 use Rattle.rules.specs.Scopes.{Scope, Binding, Scopes, boundIn}
-use Rattle.rules.specs.Frames.{Handle, State}
+use Rattle.rules.specs.Needs.{Need, defer, at, ignore, freedNeed}
+use Rattle.rules.specs.Frames.{Handle, Remembered, owns, State}
 
 -- ---- counting
 
@@ -130,5 +131,23 @@ soundHandles room s =
 unfoldable pub agreeing : State → Bool
 agreeing s = allOf (λ b. ltb (b .handle) (s .handed) && eqb (s .handles (b .handle) .address) (b .address)) (s .scopes .bindings)
 
+-- W-212: "needs agree with their handles as bindings do"
+abbrev pub needAgrees : State → ℕ → Need → Bool
+needAgrees s h (defer id) = true
+needAgrees s h (at a) = ltb h (s .handed) && eqb (s .handles h .address) (a .slot)
+needAgrees s h ignore = true
+needAgrees s h freedNeed = true
+
+-- i and j are two needs with one handle
+abbrev pub sharing : State → ℕ → ℕ → Bool
+sharing s i j = owns (s .needs i .need) && owns (s .needs j .need) && eqb (s .needs i .handle) (s .needs j .handle)
+
+-- "at most 64 in a script"; needs agree with their handles, and a handle belongs to one need at most
+unfoldable pub soundNeeds : Room → State → Bool
+soundNeeds room s =
+    leb (s .needed) (room .needs)
+    && allBelow (λ n. needAgrees s (s .needs n .handle) (s .needs n .need)) (s .needed)
+    && allBelow (λ i. allBelow (λ j. implies (sharing s i j) (eqb i j)) (s .needed)) (s .needed)
+
 unfoldable pub soundState : Room → State → Bool
-soundState room s = sound room (s .scopes) && soundHandles room s && agreeing s
+soundState room s = sound room (s .scopes) && soundHandles room s && agreeing s && soundNeeds room s

@@ -6,7 +6,7 @@ use Prim.Native.Nat.{ℕ, zero, suc, _+_, _*_, _-_, _/_, _%_}
 use lib.ListN.{length}
 use lib.Dec.{eqb, ltb, leb}
 use Rattle.rules.specs.Sizes.{Room}
-use Rattle.rules.specs.Frames.{Frame, child, pop, dangle, restore, popLast, alloc, allocIn, linear, define, get, takeFrom, free, freeQuietly, forget, drain, write, read, readName, Line, stores, loads, shows}
+use Rattle.rules.specs.Frames.{Frame, child, pop, dangle, restore, popLast, alloc, allocIn, linear, define, get, takeFrom, free, freeQuietly, forget, drain, write, read, readName, newDefer, newAssigned, newIgnore, allocNeed, outputNeed, dropNeed, Line, stores, loads, shows}
 
 -- ---- "lowercase hex"
 
@@ -111,7 +111,7 @@ with2 f (a ∷ b ∷ c ∷ l) = none
 
 -- ---- scripts
 
--- "01 child; 02 pop s; .. 12 read name"
+-- "01 child; 02 pop s; .. 12 read name"; W-201: "20 defer s, 21 assigned handle, 22 ignore, 23 allocate need, 24 output of need, 25 free need"
 unfoldable pub frameTable : List (Row Frame)
 frameTable =
     row 0x01 (with0 child)
@@ -132,6 +132,12 @@ frameTable =
     ∷ row 0x10 (with2 write)
     ∷ row 0x11 (with1 read)
     ∷ row 0x12 (with1 readName)
+    ∷ row 0x20 (with1 newDefer)
+    ∷ row 0x21 (with1 newAssigned)
+    ∷ row 0x22 (with0 newIgnore)
+    ∷ row 0x23 (with1 allocNeed)
+    ∷ row 0x24 (with1 outputNeed)
+    ∷ row 0x25 (with1 dropNeed)
     ∷ []
 
 -- all frames, or the first line with 1 or 2
@@ -207,6 +213,12 @@ lineTable =
     ∷ row 0x10 (with2 stores)
     ∷ row 0x11 (with1 (loads 0x11))
     ∷ row 0x12 (with1 (loads 0x12))
+    ∷ row 0x20 (adding 0x20)
+    ∷ row 0x21 (adding 0x21)
+    ∷ row 0x22 (adding 0x22)
+    ∷ row 0x23 (adding 0x23)
+    ∷ row 0x24 (adding 0x24)
+    ∷ row 0x25 (bare 0x25)
     ∷ []
 
 -- "`90`, four digits and LF"
