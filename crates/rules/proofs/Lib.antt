@@ -47,3 +47,5 @@ pub mod Fits
 pub mod Scripts
 pub mod Bytes
 pub mod FirstWording
+pub mod OwnHandles
+pub mod Drops

@@ -13,3 +13,4 @@ pub mod Entries
 pub mod Demand3
 pub mod Sessions
 pub mod FirstWording
+pub mod Drops
