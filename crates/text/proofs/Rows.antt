@@ -4,16 +4,16 @@ use mathlib.Core.Path.{_≡_, refl, sym, ap, _∙_}
 use mathlib.Core.Bool.{Bool, true, false}
 use mathlib.Core.List.{List, [], _∷_}
 use mathlib.Core.Option.{Option, none, some}
-use Prim.Native.Nat.{ℕ, suc, _<_}
+use Prim.Native.Nat.{ℕ, suc, _-_, _<_}
 use native.Mathlib.Omega.{arith}
 use native.Mathlib.Numerals.{add-one}
 use lib.Dec.{eqb, eqb·suc-suc}
-use lib.ListN.{length, getD}
+use lib.ListN.{length, getD, take}
 use borrow.Author.Tests.{ne-eqb, eqb-true}
 use Rattle.rules.specs.Frames as rules
-use Rattle.rules.specs.Frames.{child, pop, dangle, restore, popLast, alloc, allocIn, linear, define, get, takeFrom, free, freeQuietly, forget, drain, write, read, readName, stores, loads, shows}
+use Rattle.rules.specs.Frames.{child, pop, dangle, restore, popLast, alloc, allocIn, linear, define, get, takeFrom, free, freeQuietly, forget, drain, write, read, readName, newDefer, newAssigned, newIgnore, allocNeed, outputNeed, dropNeed, stores, loads, shows}
 use Rattle.rules.specs.Text.{Raw, raw, Row, rowed, lineOf, frameTable, lineTable, sizeTable, with0, with1, with2, counted, bare, adding}
-use Rattle.text.specs.Shapes.{pick, Shaped, column, shapeIn, frameShapes, sizeShape, shapes, shapeOf, frame, readAs}
+use Rattle.text.specs.Shapes.{pick, Shaped, column, shapeIn, frameShapes, sizeShape, shapes, shapeOf, frame, fit, readAs}
 use Rattle.text.specs.Lines.{ended, codeOf, frameOf, framed, frameReading, lined, sizedOr, lineReading, readingOf}
 use Rattle.text.specs.declared.lines.Frame.{Frame}
 use Rattle.text.specs.declared.lines.Reading.{Reading}
@@ -121,7 +121,13 @@ script-rows =
     (rows refl (two-of framed refl 0x10 _ (λ a b. refl))
     (rows refl (frame-of-one 0x11 _ (λ a. refl))
     (rows refl (frame-of-one 0x12 _ (λ a. refl))
-    no-rows))))))))))))))))))
+    (rows refl (frame-of-one 0x20 _ (λ a. refl))
+    (rows refl (frame-of-one 0x21 _ (λ a. refl))
+    (rows refl (bare-frame 0x22 _ refl)
+    (rows refl (frame-of-one 0x23 _ (λ a. refl))
+    (rows refl (frame-of-one 0x24 _ (λ a. refl))
+    (rows refl (frame-of-one 0x25 _ (λ a. refl))
+    no-rows))))))))))))))))))))))))
 
 -- ---- lists
 
@@ -160,7 +166,13 @@ line-rows =
     (rows refl (two-of lined refl 0x10 stores (λ a b. refl))
     (rows refl (one-of lined refl 0x11 (loads 0x11) (λ a. refl))
     (rows refl (one-of lined refl 0x12 (loads 0x12) (λ a. refl))
-    no-rows)))))))))))))))))
+    (rows refl (adding-line 0x20)
+    (rows refl (adding-line 0x21)
+    (rows refl (adding-line 0x22)
+    (rows refl (adding-line 0x23)
+    (rows refl (adding-line 0x24)
+    (rows refl (bare-line 0x25)
+    no-rows)))))))))))))))))))))))
 
 -- the size line, whose opcode is no other's
 abbrev showSize : Option ℕ → Reading
@@ -210,7 +222,7 @@ unfolding frameReading lineReading lineOf
 reading-open false t = refl
 reading-open true t = refl
 
--- ---- records of frames: each of the 18 opcodes is one frame of the rules
+-- ---- records of frames: each of the 24 opcodes is one frame of the rules
 
 pub frame-code : (f : rules.Frame) → frameOf (codeOf f) ≡ some f
 unfolding frameOf rowed frameTable shapeOf frameShapes
@@ -232,6 +244,23 @@ frame-code drain = refl
 frame-code (write h v) = refl
 frame-code (read h) = refl
 frame-code (readName name) = refl
+frame-code (newDefer s) = refl
+frame-code (newAssigned h) = refl
+frame-code newIgnore = refl
+frame-code (allocNeed n) = refl
+frame-code (outputNeed n) = refl
+frame-code (dropNeed n) = refl
+
+-- the opcode of a record's frame is the record's
+pub opcode-told : (f : Frame) (g : rules.Frame) → frameOf f ≡ some g → codeOf g .opcode ≡ f .opcode
+unfolding frameOf shapeOf
+opcode-told f g e =
+    let l = take (shapeOf false (f .opcode) - 1) (f .a ∷ f .b ∷ []) in
+    go (fit (shapeOf false (f .opcode)) (length l) (getD l 0 0)) (getD l 0 0) (getD l 1 0) (sym (ap framed e) ∙ by-rows false framed refl script-rows (record { opcode = f .opcode; operands = l }))
+  where
+    go : (fits : Bool) (a b : ℕ) → One (codeOf g) ≡ pick fits (One (frame (f .opcode) a b)) Malformed → codeOf g .opcode ≡ f .opcode
+    go true a b q = let x : codeOf g ≡ frame (f .opcode) a b = cc in ap (λ (y : Frame). y .opcode) x
+    go false a b q = absurd (let z : _≡_ {A = ℕ} 0 1 = cc in omega arith)
 
 -- no two frames have one record
 pub code-one : (f g : rules.Frame) → codeOf f ≡ codeOf g → f ≡ g

@@ -84,7 +84,13 @@ table-told =
     (rows (two-of _ (λ a b. refl))
     (rows (one-of _ (λ a. refl))
     (rows (one-of _ (λ a. refl))
-    no-rows)))))))))))))))))
+    (rows (one-of _ (λ a. refl))
+    (rows (one-of _ (λ a. refl))
+    (rows (one-of _ (λ a. refl))
+    (rows (one-of _ (λ a. refl))
+    (rows (one-of _ (λ a. refl))
+    (rows (none-of _ refl)
+    no-rows)))))))))))))))))))))))
 
 pub told-line : (l : Split) (x : Line) → lineOf lineTable l ≡ some x → told x ≡ true
 unfolding lineOf

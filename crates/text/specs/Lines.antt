@@ -7,7 +7,7 @@ use Prim.Native.Nat.{ℕ, zero, suc, _+_, _*_, _/_, _%_, _-_, _≤_, _<_}
 use lib.ListN.{length, getD, take, drop}
 use lib.Dec.{eqb, ltb, leb}
 use Rattle.rules.specs.Frames as rules
-use Rattle.rules.specs.Frames.{child, pop, dangle, restore, popLast, alloc, allocIn, linear, define, get, takeFrom, free, freeQuietly, forget, drain, write, read, readName, Line, stores, loads, shows}
+use Rattle.rules.specs.Frames.{child, pop, dangle, restore, popLast, alloc, allocIn, linear, define, get, takeFrom, free, freeQuietly, forget, drain, write, read, readName, newDefer, newAssigned, newIgnore, allocNeed, outputNeed, dropNeed, Line, stores, loads, shows}
 use Rattle.rules.specs.Text.{value, Split, split, rowed, lineOf, frameTable, lineTable, sizeTable, opcodeOf, operandsOf}
 use Rattle.text.specs.declared.lines.Frame.{Frame}
 use Rattle.text.specs.declared.lines.Reading.{Reading}
@@ -88,6 +88,12 @@ codeOf drain = frame 0x0f 0 0
 codeOf (write h v) = frame 0x10 h v
 codeOf (read h) = frame 0x11 h 0
 codeOf (readName name) = frame 0x12 name 0
+codeOf (newDefer s) = frame 0x20 s 0
+codeOf (newAssigned h) = frame 0x21 h 0
+codeOf newIgnore = frame 0x22 0 0
+codeOf (allocNeed n) = frame 0x23 n 0
+codeOf (outputNeed n) = frame 0x24 n 0
+codeOf (dropNeed n) = frame 0x25 n 0
 
 -- the rules' frame of a record
 unfoldable pub frameOf : Frame → Option rules.Frame

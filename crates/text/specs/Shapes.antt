@@ -51,6 +51,12 @@ frameShapes =
     ∷ shaped 0x10 3 3
     ∷ shaped 0x11 2 2
     ∷ shaped 0x12 2 2
+    ∷ shaped 0x20 2 2
+    ∷ shaped 0x21 2 2
+    ∷ shaped 0x22 1 2
+    ∷ shaped 0x23 2 2
+    ∷ shaped 0x24 2 2
+    ∷ shaped 0x25 2 1
     ∷ []
 
 abbrev pub sizeShape : Shaped
@@ -66,7 +72,7 @@ shapeOf list o = shapeIn list shapes o
 
 -- the opcode's row in the code's table
 unfoldable pub rowOf : ℕ → ℕ
-rowOf o = pick (ltb o 19) o (pick (eqb o 0x90) 19 0)
+rowOf o = pick (ltb o 0x26) o (pick (eqb o 0x90) 0x26 0)
 
 -- ---- what a line comes to, of its opcode, how many operands it has and the first two
 

@@ -69,7 +69,7 @@ fn digits_from(s: &[u8], p: usize) -> Digits
 
 // A row for each opcode: the shape of its operands in scripts, then in lists. 0: no such opcode; 1: no operand; 2: one; 3: two; 4: a
 // count and as many operands. The first row is for all other opcodes.
-const SHAPES: [u8; 20] = [
+const SHAPES: [u8; 39] = [
     0x00, //
     0x12, // 01 child
     0x21, // 02 pop
@@ -89,17 +89,36 @@ const SHAPES: [u8; 20] = [
     0x33, // 10 write
     0x22, // 11 read
     0x22, // 12 read name
+    0x00, //
+    0x00, //
+    0x00, //
+    0x00, //
+    0x00, //
+    0x00, //
+    0x00, //
+    0x00, //
+    0x00, //
+    0x00, //
+    0x00, //
+    0x00, //
+    0x00, //
+    0x22, // 20 defer
+    0x22, // 21 assigned
+    0x12, // 22 ignore
+    0x22, // 23 allocate need
+    0x22, // 24 output of need
+    0x21, // 25 free need
     0x02, // 90 the size
 ];
 
 fn row_of(opcode: u8) -> usize
     ensures { λ r. ⌜ r ≡ rowOf opcode ⌝ }
 {
-    if opcode < 19 {
+    if opcode < 0x26 {
         return opcode as usize;
     }
     if opcode == 0x90 {
-        return 19;
+        return 0x26;
     }
     0
 }
