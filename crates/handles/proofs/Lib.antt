@@ -1,3 +1,4 @@
 pub mod Changes
 pub mod Packing
 pub mod Grants
+pub mod NeedTables

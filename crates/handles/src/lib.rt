@@ -1,4 +1,6 @@
-// The handles of a script: each in one number of a table, and for each slot the handle that took it last.
+// The handles of a script: each in one number of a table, and for each slot the handle that took it last. `remembered` are its needs.
+pub mod remembered;
+
 ghost use mathlib.Core.Path.{_≡_};
 ghost use mathlib.Core.Bool.{_&&_};
 ghost use Prim.Native.Nat.{ℕ, _+_, _≤_, _<_};

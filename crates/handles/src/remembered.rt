@@ -1,0 +1,118 @@
+// The needs of a script: each in one number of a table, and in another table the handle that it remembers, as a binding does.
+ghost use mathlib.Core.Path.{_≡_};
+ghost use Prim.Native.Nat.{_<_};
+ghost use Rattle.rules.specs.Needs as rule;
+ghost use Rattle.rules.specs.Frames as frame;
+ghost use Rattle.scopes.specs.View.{idOf};
+ghost use Rattle.needs.specs.Kinds.{needOf};
+ghost use Rattle.handles.specs.NeedTable.{needIn, belongsIn, Table};
+use crate::Handle;
+use crate::packed;
+use needs::Address;
+use needs::AddressKind;
+use needs::Need;
+use scopes::HandleNumber;
+use scopes::ScopeId;
+use slots::SlotAddress;
+
+// Needs count from 0 in the order made. A need's number is neither a handle's nor a slot's.
+pub struct NeedNumber(pub u16);
+
+// ---- a need in one number
+
+// An ignored need; a freed one.
+pub const IGNORE: u64 = 12;
+
+pub const FREED: u64 = 0;
+
+// A need that is deferred to a scope.
+pub fn deferred(id: ScopeId) -> u64
+    ensures { λ r. ⌜ needIn r ≡ rule.defer (idOf id) ⌝ }
+{
+    let b = packed(Handle {
+        address: Address {
+            slot: SlotAddress(0),
+            kind: AddressKind::Scope(id),
+        },
+        written: false,
+    });
+    b + 2
+}
+
+// A need whose address is assigned from elsewhere.
+pub fn assigned(slot: SlotAddress) -> u64
+    requires { ⌜ slot .0 < 1024 ⌝ }
+    ensures { λ r. ⌜ needIn r ≡ rule.at (rule.address (slot .0) rule.assigned) ⌝ }
+{
+    packed(Handle {
+        address: Address {
+            slot,
+            kind: AddressKind::Assigned,
+        },
+        written: false,
+    })
+}
+
+pub fn need_in(b: u64) -> Need
+    ensures { λ r. ⌜ needOf r ≡ needIn b ⌝ }
+{
+    let code = b / 2 % 8;
+    let id = ScopeId {
+        index: (b / 1048576 % 256) as u8,
+        number: (b / 268435456 % 4294967296) as u32,
+    };
+    let slot = SlotAddress((b / 16 % 1024) as u16);
+    if code == 5 {
+        return Need::Defer(id);
+    }
+    if code == 6 {
+        return Need::Ignore;
+    }
+    if code == 3 {
+        return Need::Address(Address {
+            slot,
+            kind: AddressKind::Assigned,
+        });
+    }
+    if code == 4 {
+        return Need::Address(Address {
+            slot,
+            kind: AddressKind::Scope(id),
+        });
+    }
+    Need::Freed
+}
+
+// ---- whose handle it is
+
+// Whether h belongs to the need of number b, which remembers r.
+fn is_its(b: u64, r: u16, h: u16) -> bool
+    ensures { λ x. ⌜ x ≡ frame.keeps (record { need = needIn b; handle = r }) h ⌝ }
+{
+    if b / 2 % 8 == 4 {
+        return r == h;
+    }
+    false
+}
+
+// Whether h belongs to a need.
+pub fn belongs<'a>(
+    needs: &'a [u64; 64],
+    remembers: &'a [u16; 64],
+    needed: usize,
+    h: HandleNumber,
+) -> bool
+    requires { ⌜ Table (now needs) (now remembers) needed ⌝ }
+    ensures { λ r. ⌜ r ≡ belongsIn (now (needs .entry)) (now (remembers .entry)) needed (h .0) ⌝ }
+{
+    let mut i: usize = 0;
+    while i < needed {
+        let b = needs[i];
+        let r = remembers[i];
+        if is_its(b, r, h.0) {
+            return true;
+        }
+        i += 1;
+    }
+    false
+}
