@@ -1,4 +1,4 @@
--- 06 alloc, 07 alloc in and 08 linear, case by case: 3 or 4, 16, and what was granted. Assumes nothing.
+-- 06 alloc and 08 linear, case by case: 3 or 4, 16, and what was granted. Assumes nothing.
 use mathlib.Core.Path.{_≡_, refl, sym, ap, subst, _∙_}
 use mathlib.Core.Logic.{_⊎_, ⊎-elim, inl, inr}
 use mathlib.Core.Bool.{Bool, true, false, _&&_}
@@ -12,18 +12,17 @@ use Rattle.rules.specs.Notation.{Answer, given, refused, _>>=_, refuse_when_, r
 use Rattle.rules.specs.Sizes.{base}
 use Rattle.rules.specs.Slots.{edition1}
 use Rattle.rules.specs.Scopes as rule
-use Rattle.rules.specs.Scopes.{Found, Id, allocate, topScope, byId, byNumber}
-use Rattle.rules.specs.Needs.{Kind, local, scope, runKind}
-use Rattle.rules.specs.Frames.{State, Frame, alloc, allocIn, linear, shows, oneLine, Step, allot, step}
+use Rattle.rules.specs.Scopes.{Found, Id, allocate, topScope, byId}
+use Rattle.rules.specs.Needs.{Kind, local, runKind}
+use Rattle.rules.specs.Frames.{State, Frame, alloc, linear, shows, oneLine, Step, allot, step}
 use Rattle.rules.proofs.Chains.{none-some, unless-some, unless-none, when-true, refused-on}
 use Rattle.rules.proofs.Tells.{tells-and, tells-lt, tells-true, clash}
 use Rattle.rules.proofs.Naming.{found-at}
 use Rattle.rules.proofs.Exact.{top-found}
-use Rattle.scopes.specs.View.{view, index, idOf, at, atFirst, Seen, seen, told}
+use Rattle.scopes.specs.View.{view, index, at, atFirst, Seen, seen, told}
 use Rattle.scopes.specs.Lent.{made, Whole}
 use Rattle.scopes.proofs.Finds.{no-top}
 use Rattle.scopes.specs.declared.Scopes.{Scopes}
-use Rattle.scopes.specs.declared.ScopeId.{ScopeId}
 use Rattle.scopes.specs.declared.Numbers.{Numbers}
 use Rattle.scopes.specs.declared.Outcome.{Outcome}
 use Rattle.scopes.specs.declared.Reply.the-variants as reply
@@ -34,7 +33,6 @@ use Rattle.frames.specs.Steps.{stepped, Few, Stands, Works, Grants, Reac
 use Rattle.frames.specs.declared.steps.Adds.{Adds}
 use Rattle.frames.specs.declared.steps.Adds.the-variants.{One, Refused}
 use Rattle.frames.specs.declared.steps.Stepped.{Stepped}
-use Rattle.frames.proofs.Meant.{no-scope-there}
 use Rattle.frames.proofs.Moving.{few-reply}
 use Rattle.frames.proofs.Allotting.{allots}
 
@@ -48,7 +46,7 @@ module _ (s : Scopes) where
       (λ l. absurd (ne (l .0)))
       (stands .whole .sound .rooted .topped)
 
-id-is : (c : rule.Scopes) (id : Id) (k : Found) → byId base c id ≡ some k → id ≡ rule.idOf k
+pub id-is : (c : rule.Scopes) (id : Id) (k : Found) → byId base c id ≡ some k → id ≡ rule.idOf k
 unfolding byId
 id-is c id k e = go (ltb (id .index) (base .scopes) && rule.hasNumber (id .number) (c .live (id .index))) refl
   where
@@ -99,7 +97,7 @@ module _ (s : Scopes) (handles holders : List ℕ) (handed : ℕ) (stands : Stan
     holders-length = g .holders-length;
   }
 
-  full : (k : Found) (kind : Kind) (n : ℕ) → 2048 < handed + n → allot base (edition1 (base .segments)) k kind n standing ≡ refused 16
+  pub full : (k : Found) (kind : Kind) (n : ℕ) → 2048 < handed + n → allot base (edition1 (base .segments)) k kind n standing ≡ refused 16
   unfolding allot base
   full k kind n l = when-true 16 _ (lt-ltb 2048 (handed + n) l)
 
@@ -124,29 +122,6 @@ module _ (s : Scopes) (handles holders : List ℕ) (handed : ℕ) (stands : Stan
     pub alloc-step : step base (edition1 (base .segments)) standing alloc ≡ (allot base (edition1 (base .segments)) top local 1 standing >>= λ x. oneLine (shows 0x06 (x .0 ∷ [])) (x .1))
     unfolding step
     alloc-step = unless-some 3 _ (has-top s stands ne .1)
-
-  -- ---- alloc in: `id` is the id that the number n means
-
-  module _ (n : ℕ) (id : ScopeId) (is : byId base c (idOf id) ≡ byNumber base c n) where
-    pub alloc-in-4 : id .index ≡ 255 → step base (edition1 (base .segments)) standing (allocIn n) ≡ refused 4
-    unfolding step base byId
-    alloc-in-4 e =
-        let nobody : byId base c (idOf id) ≡ none = ap (λ (i : ℕ). byId base c (record { index = i; number = id .number })) e in
-        unless-none 4 _ (sym is ∙ nobody)
-
-    -- the scope that is meant, if there is one
-    module _ (k : Found) (e : byNumber base c n ≡ some k) where
-      pub alloc-in-16 : 2048 ≤ handed → step base (edition1 (base .segments)) standing (allocIn n) ≡ refused 16
-      unfolding step
-      alloc-in-16 l = unless-some 4 _ e ∙ refused-on 16 _ (full k (scope (rule.idOf k)) 1 (omega arith))
-
-      pub alloc-in-seen : (o : Outcome) → seen o ≡ told at c (rule.allocIn (edition1 (base .segments)) (byId base c (idOf id)) c) → seen o ≡ told at c (allocate (edition1 (base .segments)) k 1 c)
-      unfolding rule.allocIn
-      alloc-in-seen o q = q ∙ ap (told at c) (unless-some 4 _ (is ∙ e))
-
-      pub alloc-in-step : step base (edition1 (base .segments)) standing (allocIn n) ≡ (allot base (edition1 (base .segments)) k (scope (idOf id)) 1 standing >>= λ x. oneLine (shows 0x07 (x .0 ∷ [])) (x .1))
-      unfolding step
-      alloc-in-step = unless-some 4 _ e ∙ λ t. allot base (edition1 (base .segments)) k (scope (sym (id-is c (idOf id) k (is ∙ e)) t)) 1 standing >>= λ x. oneLine (shows 0x07 (x .0 ∷ [])) (x .1)
 
   -- ---- linear
 

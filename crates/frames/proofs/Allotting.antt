@@ -15,7 +15,7 @@ use Rattle.rules.specs.Slots.{Slots, Placed, edition1}
 use Rattle.rules.specs.Scopes as rule
 use Rattle.rules.specs.Scopes.{Found, allocate, topScope}
 use Rattle.rules.specs.Needs.{Kind}
-use Rattle.rules.specs.Frames.{State, scopes≔, handles≔, handed≔, Line, shows, oneLine, Step, grant, allot}
+use Rattle.rules.specs.Frames.{gone as noNeed, State, scopes≔, handles≔, handed≔, Line, shows, oneLine, Step, grant, allot}
 use Rattle.rules.specs.Demand3.{Fair, Gives}
 use Rattle.rules.proofs.Sound.{SlotsSound}
 use Rattle.rules.proofs.Tells.{decided, is-false, clash}
@@ -122,7 +122,7 @@ module _ (s : Scopes) (handles holders : List ℕ) (handed : ℕ) (stands : Stan
         let slots : w .placed .next ≡ view (r .state) .slots = sym (w .leaves .slots-are) ∙ ap (λ (y : rule.Scopes). y .slots) (sym same) in
         let tables : grant handed n (x .0) (kindOf kind) (standing .handles) ≡ handleAt (view (r .state) .slots .occupied) handles′ holders′
         = (λ t. grant handed n (w .address t) (kindOf kind) (standing .handles)) ∙ sym (granting all) ∙ (λ t. handleAt (slots t .occupied) handles′ holders′) in
-        λ t. record { scopes = sym same t; handles = tables t; handed = sym (h .0) t }
+        λ t. record { scopes = sym same t; handles = tables t; handed = sym (h .0) t; needs = λ n. noNeed; needed = 0 }
 
     pub allots : (op : ℕ) → (allot base (edition1 (base .segments)) k (kindOf kind) n standing >>= λ x. oneLine (shows op (x .0 ∷ [])) (x .1)) ≡ stepped op (r .adds) (stateOf (view (r .state)) handles′ holders′ (r .handed)) drained
     unfolding allot base _>>=_ refuse_when_

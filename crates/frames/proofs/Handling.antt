@@ -8,12 +8,12 @@ use native.Mathlib.Omega.{arith}
 use lib.Dec.{eqb, leb}
 use lib.ListN.{length, getD, set, length-set}
 use borrow.Author.Tests.{le-leb, lt-leb}
-use Rattle.rules.specs.Notation.{Answer, given, refused, _>>=_, refuse_when_, _▹_, put}
+use Rattle.rules.specs.Notation.{Answer, given, refused, _>>=_, refuse_when_, _▹_, put, first}
 use Rattle.rules.specs.Sizes.{base}
 use Rattle.rules.specs.Slots.{edition1}
 use Rattle.rules.specs.Scopes as rule
 use Rattle.rules.specs.Needs.{Kind, Address, address, freed, allocatedKind, isFreed}
-use Rattle.rules.specs.Frames.{State, Handle, kind≔, written≔, Frame, define, forget, write, read, shows, stores, loads, oneLine, unknown, spent, setHandle, step}
+use Rattle.rules.specs.Frames.{gone as noNeed, State, Handle, kind≔, written≔, Frame, define, forget, write, read, shows, stores, loads, oneLine, unknown, spent, belongs, barred, setHandle, step}
 use Rattle.rules.proofs.Chains.{when-true, when-false}
 use Rattle.slots.specs.Halves.{occ}
 use Rattle.scopes.specs.View.{view}
@@ -43,6 +43,15 @@ module _ (t : State) (h : ℕ) where
   pub unspent : h < t .handed → isFreed (t .handles h .kind) ≡ false → spent t h ≡ false
   unfolding spent unknown
   unspent l e = ap (λ (b : Bool). b || isFreed (t .handles h .kind)) (lt-leb (t .handed) h l) ∙ e
+
+  pub barred-spent : spent t h ≡ true → barred t h ≡ true
+  unfolding barred
+  barred-spent e = ap (λ (b : Bool). b || belongs t h) e
+
+  -- where there are no needs
+  pub unbarred : t .needed ≡ 0 → spent t h ≡ false → barred t h ≡ false
+  unfolding barred belongs first
+  unbarred z e = rw (e, z)
 
   pub is-unknown : t .handed ≤ h → unknown t h ≡ true
   unfolding unknown
@@ -101,24 +110,21 @@ module _ (s : Scopes) (handles holders : List ℕ) (handed : ℕ) (stands : Stan
     pub set-changed : (k : Kind) (w : Bool) → kindOf (y .address .kind) ≡ k → y .written ≡ w
         → setHandle h (record { address = standing .handles h .address; kind = k; held = standing .handles h .held; written = w }) standing ≡ after
     unfolding setHandle
-    set-changed k w p q = λ t. record { scopes = c; handles = sym (changed k w p q) t; handed = handed }
+    set-changed k w p q = λ t. record { scopes = c; handles = sym (changed k w p q) t; handed = handed; needs = λ n. noNeed; needed = 0 }
 
     pub now-long : length (set handles h b) ≡ 2048
     now-long = simp length-set (stands .handles-length)
 
   -- ---- freed, its slot kept
 
-  module _ (b : ℕ) (new : Coded b (freedAs x)) (l : h < handed) (known : h < length handles) (live : isFreed (kindOf (x .address .kind)) ≡ false) where
-    pub live-kind : isFreed (standing .handles h .kind) ≡ false
-    live-kind = ap isFreed (coded .kind) ∙ live
-
+  module _ (b : ℕ) (new : Coded b (freedAs x)) (known : h < length handles) where
     pub set-freed : setHandle h (standing .handles h ▹ kind≔ freed) standing ≡ stateOf c (set handles h b) holders handed
     set-freed = set-changed b (freedAs x) new refl known freed (standing .handles h .written) refl (sym (coded .written))
 
-    pub forget-works : (drained : List ℕ) → Works (forget h) 0x0e s handles holders handed (record { state = s; handed = handed; adds = Nothing }) (set handles h b) holders drained
+    pub forget-works : h < handed → isFreed (kindOf (x .address .kind)) ≡ false → (drained : List ℕ) → Works (forget h) 0x0e s handles holders handed (record { state = s; handed = handed; adds = Nothing }) (set handles h b) holders drained
     unfolding step
-    forget-works drained = record {
-      does = when-false 13 _ (unspent standing h l live-kind) ∙ ap (oneLine (shows 0x0e [])) set-freed;
+    forget-works l live drained = record {
+      does = when-false 13 _ (unbarred standing h refl (unspent standing h l (ap isFreed (coded .kind) ∙ live))) ∙ ap (oneLine (shows 0x0e [])) set-freed;
       whole = stands .whole;
       few = tt;
       handles-length = now-long b (freedAs x) new refl known;
@@ -127,7 +133,7 @@ module _ (s : Scopes) (handles holders : List ℕ) (handed : ℕ) (stands : Stan
 
   pub forget-13 : isFreed (kindOf (x .address .kind)) ≡ true → step base (edition1 (base .segments)) standing (forget h) ≡ refused 13
   unfolding step
-  forget-13 e = when-true 13 _ (spent-freed standing h (ap isFreed (coded .kind) ∙ e))
+  forget-13 e = when-true 13 _ (barred-spent standing h (spent-freed standing h (ap isFreed (coded .kind) ∙ e)))
 
   -- ---- written
 
@@ -173,7 +179,7 @@ module _ (s : Scopes) (handles holders : List ℕ) (handed : ℕ) (stands : Stan
 module _ (t : State) (h : ℕ) (l : t .handed ≤ h) where
   pub forget-unknown : step base (edition1 (base .segments)) t (forget h) ≡ refused 13
   unfolding step
-  forget-unknown = when-true 13 _ (spent-unknown t h l)
+  forget-unknown = when-true 13 _ (barred-spent t h (spent-unknown t h l))
 
   pub write-unknown : (v : ℕ) → step base (edition1 (base .segments)) t (write h v) ≡ refused 13
   unfolding step

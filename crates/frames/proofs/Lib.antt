@@ -2,6 +2,10 @@ pub mod Moving
 pub mod Meant
 pub mod Allotting
 pub mod Allocations
+pub mod InScope
 pub mod Handling
 pub mod Reading
 pub mod Freeing
+pub mod NeedSteps
+pub mod Beside
+pub mod Owning

@@ -12,7 +12,7 @@ use Rattle.rules.specs.Slots.{Slots, edition1, removeAll}
 use Rattle.rules.specs.AddressSets.{member}
 use Rattle.rules.specs.Scopes as rule
 use Rattle.rules.specs.Scopes.{Found}
-use Rattle.rules.specs.Frames.{State, scopes≔, Frame, child, pop, dangle, restore, popLast, Line, shows, oneLine, close, letGo, Step, step}
+use Rattle.rules.specs.Frames.{gone as noNeed, State, scopes≔, Frame, child, pop, dangle, restore, popLast, Line, shows, oneLine, close, letGo, Step, step}
 use Rattle.rules.specs.Sound.{ownedBy}
 use Rattle.rules.proofs.Chains.{All}
 use Rattle.rules.proofs.Tables.{removeAll-other}
@@ -29,7 +29,8 @@ use Rattle.scopes.specs.declared.Outcome.{Outcome}
 use Rattle.scopes.specs.declared.Reply.{Reply}
 use Rattle.scopes.specs.declared.Reply.the-variants as reply
 use Rattle.handles.specs.Handles.{handleAt, stateOf}
-use Rattle.frames.specs.Steps.{stepped, addsOf, Few, Stands, Works, Reached}
+use Rattle.frames.specs.Steps.{stepped, addsOf, Few, Stands, Works, Comes, Reached}
+use Rattle.frames.specs.declared.steps.Adds.the-variants.{Refused}
 use Rattle.handles.proofs.Changes.{closing}
 
 pub few-reply : (y : Reply) → Few (addsOf y)
@@ -50,7 +51,7 @@ module _ (c : rule.Scopes) (handles holders : List ℕ) (handed : ℕ) (drained 
   pub over-same : (x d : rule.Scopes) → x ≡ d → x .slots ≡ c .slots → (standing ▹ scopes≔ x) ≡ stateOf d handles holders handed
   over-same x d e k =
       let p : c .slots ≡ d .slots = sym k ∙ ap (λ (y : rule.Scopes). y .slots) e in
-      λ t. record { scopes = e t; handles = handleAt (p t .occupied) handles holders; handed = handed }
+      λ t. record { scopes = e t; handles = handleAt (p t .occupied) handles holders; handed = handed; needs = λ n. noNeed; needed = 0 }
 
   module _ (o : ℕ) (d : rule.Scopes) (y : Reply) where
     abbrev after : Step
@@ -85,7 +86,7 @@ module _ (c : rule.Scopes) (handles holders : List ℕ) (handed : ℕ) (drained 
     close-does (given k) e h =
         let same : d ≡ rule.closed k c = ap (λ (z : Seen). z .next) e in
         let says = ap (λ (z : Seen). z .says) e in
-        (λ t. oneLine (shows o []) (record { scopes = rule.closed k c; handles = sym (h k refl) t; handed = handed }))
+        (λ t. oneLine (shows o []) (record { scopes = rule.closed k c; handles = sym (h k refl) t; handed = handed; needs = λ n. noNeed; needed = 0 }))
         ∙ λ t. stepped o (addsOf (sym says t)) (stateOf (sym same t) handles holders handed) drained
     close-does (refused n) e h = λ t. stepped o (addsOf (sym (ap (λ (z : Seen). z .says) e) t)) (stateOf d handles holders handed) drained
 
@@ -150,3 +151,21 @@ pub ended-works : (s : Scopes) (handles holders : List ℕ) (handed : ℕ) → S
 ended-works s handles holders handed stands o ok r is f op drained e =
     subst (λ (x : Reached). Works f op s handles holders handed x handles holders drained) (sym is)
     (record { does = e; whole = ok; few = few-reply (o .reply); handles-length = stands .handles-length; holders-length = stands .holders-length })
+
+-- ---- what several frames do
+
+pub comes-by : {m m′ : Step} (o : ℕ) (r : Reached) (handles′ holders′ drained : List ℕ) → m ≡ m′ → Comes m′ o r handles′ holders′ drained → Comes m o r handles′ holders′ drained
+comes-by o r handles′ holders′ drained e w =
+    record { does = e ∙ w .does; whole = w .whole; few = w .few; handles-length = w .handles-length; holders-length = w .holders-length }
+
+module _ (s : Scopes) (handles holders : List ℕ) (handed : ℕ) where
+  pub comes-refused : Stands s handles holders handed → (m : Step) (o n : ℕ) (r : Reached) → r ≡ record { state = s; handed = handed; adds = Refused n } → m ≡ refused n → (drained : List ℕ) → Comes m o r handles holders drained
+  comes-refused stands m o n r is e drained =
+      subst (λ (x : Reached). Comes m o x handles holders drained) (sym is)
+      (record { does = e; whole = stands .whole; few = tt; handles-length = stands .handles-length; holders-length = stands .holders-length })
+
+  -- a frame that does just that
+  pub works-by : (f : Frame) (o : ℕ) (m : Step) (r : Reached) (handles′ holders′ drained : List ℕ) → step base (edition1 (base .segments)) (stateOf (view s) handles holders handed) f ≡ m
+      → Comes m o r handles′ holders′ drained → Works f o s handles holders handed r handles′ holders′ drained
+  works-by f o m r handles′ holders′ drained e w =
+      record { does = e ∙ w .does; whole = w .whole; few = w .few; handles-length = w .handles-length; holders-length = w .holders-length }

@@ -4,11 +4,14 @@ use mathlib.Core.Bool.{Bool, true, false, not}
 use mathlib.Core.Option.{none}
 use mathlib.Core.List.{List, [], _∷_}
 use Prim.Native.Nat.{ℕ, _+_, _%_, _≤_, _<_}
-use lib.ListN.{length, take}
-use Rattle.rules.specs.Notation.{refused, _>>=_, refuse_when_}
+use lib.ListN.{length, getD, take}
+use denote.Ref.{RefT, now}
+use denote.Triple.Both.{Both}
+use Rattle.rules.specs.Notation.{Answer, refused, _>>=_, refuse_when_, refuse_unless_}
 use Rattle.rules.specs.Sizes.{base}
 use Rattle.rules.specs.Slots.{edition1}
 use Rattle.rules.specs.Scopes as scope
+use Rattle.rules.specs.Needs.{Kind, scope as inScope}
 use Rattle.rules.specs.Frames as rules
 use Rattle.rules.specs.Frames.{stores, loads, shows, oneLine}
 use Rattle.rules.proofs.Sound.{StateSound}
@@ -18,11 +21,12 @@ use Rattle.scopes.specs.declared.Numbers.{Numbers}
 use Rattle.scopes.specs.declared.Reply.{Reply}
 use Rattle.scopes.specs.declared.Reply.the-variants as reply
 use Rattle.scopes.specs.View.{view, idOf}
-use Rattle.scopes.specs.Lent.{numbersOf, made, Whole}
+use Rattle.scopes.specs.Lent.{numbersOf, made, withSlots, Whole}
 use Rattle.slots.specs.declared.SlotAddress.{SlotAddress}
 use Rattle.needs.specs.Kinds.{kindOf}
 use Rattle.needs.specs.declared.AddressKind.{AddressKind}
-use Rattle.handles.specs.Handles.{stateOf, Hands}
+use Rattle.handles.specs.Handles.{kindIn, stateOf, Coded, Hands}
+use Rattle.handles.specs.declared.Handle.{Handle}
 use Rattle.frames.specs.declared.steps.Adds.{Adds}
 use Rattle.frames.specs.declared.steps.Adds.the-variants.{Nothing, One, Store, Load, Drained, Refused}
 use Rattle.frames.specs.declared.steps.Stepped.{Stepped}
@@ -63,6 +67,14 @@ handleOr reply.Empty = 65535
 handleOr (reply.Opened i) = 65535
 handleOr (reply.Found b) = b .handle .0
 handleOr (reply.Refused n) = 65535
+
+abbrev pub isRefused : Adds → Bool
+isRefused Nothing = false
+isRefused (One a) = false
+isRefused (Store a v) = false
+isRefused (Load a) = false
+isRefused (Drained n) = false
+isRefused (Refused n) = true
 
 -- a drain's addresses stand in a table of 1,024
 abbrev pub Few : Adds → Type 0
@@ -108,6 +120,25 @@ pub record Works (f : rules.Frame) (o : ℕ) (s : Scopes) (handles holders : Lis
   pub handles-length : length handles′ ≡ 2048
   pub holders-length : length holders′ ≡ 1024
 
+-- m, which several frames have a use for, comes to r and the tables after it, with a line of opcode o
+pub record Comes (m : rules.Step) (o : ℕ) (r : Reached) (handles′ holders′ drained : List ℕ) : Type 0 where
+  pub does : m ≡ stepped o (r .adds) (stateOf (view (r .state)) handles′ holders′ (r .handed)) drained
+  pub whole : Whole (r .state)
+  pub few : Few (r .adds)
+  pub handles-length : length handles′ ≡ 2048
+  pub holders-length : length holders′ ≡ 1024
+
+-- a slot in the scope of that id, and its handle: 4, 16, 7; the line shows the address
+unfoldable pub allottedIn : scope.Id → ℕ → rules.State → rules.Step
+allottedIn id o t = do
+  k ← refuse 4 unless (scope.byId base (t .scopes) id)
+  x ← rules.allot base (edition1 (base .segments)) k (inScope id) 1 t
+  oneLine (shows o (x .0 ∷ [])) (x .1)
+
+-- a state that is freed something of, or refused; the line has the opcode alone
+abbrev pub freedThen : ℕ → Answer rules.State → rules.Step
+freedThen o m = m >>= λ t. oneLine (shows o []) t
+
 -- ---- what the functions over lent arrays promise, of any state s that has those arrays
 
 -- the state s, with the arrays that a group of frames is lent
@@ -129,7 +160,36 @@ onNames s live parent bindings n = made (s .halves) (s .links) (s .owner) live (
 abbrev pub onCells : Scopes → List ℕ → List Bool → (parent bindings : List ℕ) → Numbers → Scopes
 onCells s halves live parent bindings n = made halves (s .links) (s .owner) live (s .dangled) parent (s .number) bindings n
 
--- what is asked where the state doesn't matter
+-- ---- over the lent arrays themselves, each at entry and at exit
+
+abbrev pub Lent : Type 0 → Type 0
+Lent A = Both (RefT (List A)) (RefT (List A))
+
+-- the state s with the arrays of a group, as it came in and as it is left
+abbrev pub slotsIn : Scopes → (halves links owner : Lent ℕ) → Numbers → Scopes
+slotsIn s halves links owner n = withSlots s (now (halves .entry)) (now (links .entry)) (now (owner .entry)) n
+
+abbrev pub slotsOut : Scopes → (halves links owner : Lent ℕ) → Numbers → Scopes
+slotsOut s halves links owner n = withSlots s (now (halves .exit)) (now (links .exit)) (now (owner .exit)) n
+
+abbrev pub numberedIn : Scopes → Lent Bool → Lent ℕ → Scopes
+numberedIn s live number = onNumbered s (now (live .entry)) (now (number .entry))
+
+abbrev pub allotsIn : Scopes → (halves links owner : Lent ℕ) → Lent Bool → Lent ℕ → Numbers → Scopes
+allotsIn s halves links owner live number n =
+    onAllots s (now (halves .entry)) (now (links .entry)) (now (owner .entry)) (now (live .entry)) (now (number .entry)) n
+
+abbrev pub allotsOut : Scopes → (halves links owner : Lent ℕ) → Lent Bool → Lent ℕ → Numbers → Scopes
+allotsOut s halves links owner live number n =
+    onAllots s (now (halves .exit)) (now (links .exit)) (now (owner .exit)) (now (live .entry)) (now (number .entry)) n
+
+abbrev pub freesIn : Scopes → (halves links owner number : Lent ℕ) → Numbers → Scopes
+freesIn s halves links owner number n = onFrees s (now (halves .entry)) (now (links .entry)) (now (owner .entry)) (now (number .entry)) n
+
+abbrev pub freesOut : Scopes → (halves links owner number : Lent ℕ) → Numbers → Scopes
+freesOut s halves links owner number n = onFrees s (now (halves .exit)) (now (links .exit)) (now (owner .exit)) (now (number .entry)) n
+
+-- ---- what is asked where the state doesn't matter
 pub record Tables (handles : List ℕ) (handed : ℕ) : Type 0 where
   pub most : handed ≤ 2048
   pub long : length handles ≡ 2048
@@ -166,3 +226,23 @@ pub record Grants (y : Reply) (handed n : ℕ) (k : AddressKind) (handed′ : �
 -- the frame f, of opcode o, loads what handle h holds: 14, 15
 abbrev pub LoadsOf : rules.Frame → ℕ → Scopes → List ℕ → List ℕ → ℕ → ℕ → Type 0
 LoadsOf f o s handles holders handed h = rules.step base (edition1 (base .segments)) (stateOf (view s) handles holders handed) f ≡ loading o (stateOf (view s) handles holders handed) h
+
+-- one slot was asked for in the scope of that id; the handle that was handed out is the next one, and of that scope
+pub record AllotsIn (id : scope.Id) (s : Scopes) (handles holders : List ℕ) (handed : ℕ) (r : Reached) (handles′ holders′ : List ℕ) : Type 0 where
+  pub comes : (o : ℕ) (drained : List ℕ) → Comes (allottedIn id o (stateOf (view s) handles holders handed)) o r handles′ holders′ drained
+  pub hands : isRefused (r .adds) ≡ false → (handed < 2048) × (kindIn (getD handles′ handed 0) ≡ inScope id)
+
+abbrev pub LeadsIn : scope.Id → Scopes → Scopes → (handles holders : Lent ℕ) → ℕ → Stepped → Type 0
+LeadsIn id s t handles holders handed r =
+    Stands s (now (handles .entry)) (now (holders .entry)) handed
+    → AllotsIn id s (now (handles .entry)) (now (holders .entry)) handed (record { state = t; handed = r .handed; adds = r .adds }) (now (handles .exit)) (now (holders .exit))
+
+-- something was freed by m, which may be refused
+abbrev pub Frees : (rules.State → Answer rules.State) → Scopes → Scopes → (handles holders : Lent ℕ) → ℕ → Stepped → Type 0
+Frees m s t handles holders handed r =
+    Stands s (now (handles .entry)) (now (holders .entry)) handed → (o : ℕ) (drained : List ℕ)
+    → Comes (freedThen o (m (stateOf (view s) (now (handles .entry)) (now (holders .entry)) handed))) o (record { state = t; handed = r .handed; adds = r .adds }) (now (handles .exit)) (now (holders .entry)) drained
+
+-- the handle h was handed out, and is known as x
+abbrev pub Known : List ℕ → ℕ → ℕ → Handle → Type 0
+Known handles handed h x = (h < handed) × Coded (getD handles h 0) x

@@ -3,8 +3,9 @@ ghost use mathlib.Core.Path.{_≡_};
 ghost use Prim.Native.Nat.{_+_, _≤_, _<_};
 ghost use lib.ListN.{length};
 ghost use Rattle.rules.specs.Frames as frame;
+ghost use Rattle.scopes.specs.View.{idOf};
 ghost use Rattle.scopes.specs.Lent.{withSlots};
-ghost use Rattle.frames.specs.Steps.{slotOr, onAllots, Stands, Leads, Grants};
+ghost use Rattle.frames.specs.Steps.{slotOr, onAllots, allotsIn, allotsOut, Stands, Leads, LeadsIn, Grants};
 use crate::steps::Adds;
 use crate::steps::Stepped;
 use crate::steps::adds_of;
@@ -16,8 +17,10 @@ use needs::linear::run_kind;
 use scopes::LentOutcome;
 use scopes::Numbers;
 use scopes::Reply;
+use scopes::ScopeId;
 use scopes::Scopes;
 use scopes::lent::place;
+use scopes::open;
 use slots::SlotAddress;
 
 // The slot that was answered; 65,535 where there is none.
@@ -89,6 +92,33 @@ pub fn alloc(
     granted(o, handles, holders, handed, 1, AddressKind::Local)
 }
 
+// One slot in the scope of that id, and its handle: 4, 16, 7.
+pub fn alloc_in_scope<'a>(
+    halves: &mut [u64; 16],
+    links: &mut [u16; 2178],
+    owner: &mut [u8; 1024],
+    live: &'a [bool; 64],
+    number: &'a [u32; 64],
+    n: Numbers,
+    handles: &mut [u64; 2048],
+    holders: &mut [u16; 1024],
+    handed: usize,
+    id: ScopeId,
+) -> Stepped
+    requires { ⌜ ((s : Scopes) × Stands (onAllots s (now halves) (now links) (now owner) (now live) (now number) n) (now handles) (now holders) handed) ⌝ }
+    ensures { λ r. ⌜ ((s : Scopes) → LeadsIn (idOf id) (allotsIn s halves links owner live number n) (allotsOut s halves links owner live number (r .numbers)) handles holders handed r) ⌝ }
+{
+    let i = open::place_of(live, number, id);
+    if i == 64 {
+        return refused(n, handed, 4);
+    }
+    if 2048 <= handed {
+        return refused(n, handed, 16);
+    }
+    let o = place::alloc_in(halves, links, owner, live, number, n, id);
+    granted(o, handles, holders, handed, 1, AddressKind::Scope(id))
+}
+
 pub fn alloc_in<'a>(
     halves: &mut [u64; 16],
     links: &mut [u16; 2178],
@@ -105,14 +135,18 @@ pub fn alloc_in<'a>(
     ensures { λ r. ⌜ ((s : Scopes) → Leads (frame.allocIn k) 0x07 (onAllots s (now (halves .entry)) (now (links .entry)) (now (owner .entry)) (now (live .entry)) (now (number .entry)) n) (onAllots s (now (halves .exit)) (now (links .exit)) (now (owner .exit)) (now (live .entry)) (now (number .entry)) (r .numbers)) (now (handles .entry)) (now (holders .entry)) handed r (now (handles .exit)) (now (holders .exit))) ⌝ }
 {
     let id = meant(live, number, k);
-    if id.index == 255 {
-        return refused(n, handed, 4);
-    }
-    if 2048 <= handed {
-        return refused(n, handed, 16);
-    }
-    let o = place::alloc_in(halves, links, owner, live, number, n, id);
-    granted(o, handles, holders, handed, 1, AddressKind::Scope(id))
+    alloc_in_scope(
+        halves,
+        links,
+        owner,
+        live,
+        number,
+        n,
+        handles,
+        holders,
+        handed,
+        id,
+    )
 }
 
 pub fn linear(

@@ -2,15 +2,11 @@
 ghost use mathlib.Core.Path.{_≡_};
 ghost use mathlib.Core.Bool.{true, false};
 ghost use mathlib.Core.List.{List};
-ghost use Prim.Native.Nat.{ℕ, _<_};
-ghost use lib.ListN.{getD};
-ghost use Rattle.rules.specs.Needs.{isFreed, goesBack};
+ghost use Prim.Native.Nat.{ℕ};
 ghost use Rattle.rules.specs.Frames as frame;
-ghost use Rattle.scopes.specs.View.{view};
 ghost use Rattle.scopes.specs.Lent.{withSlots};
 ghost use Rattle.needs.specs.Kinds.{kindOf};
-ghost use Rattle.handles.specs.Handles.{Coded};
-ghost use Rattle.frames.specs.Steps.{freeing, freeCode, onFrees, Tables, Stands, Leads, Stays};
+ghost use Rattle.frames.specs.Steps.{freeing, freeCode, onFrees, slotsIn, slotsOut, freesIn, freesOut, Tables, Known, Stands, Leads, Stays, Frees};
 use crate::steps::Adds;
 use crate::steps::Stepped;
 use crate::steps::ended;
@@ -19,6 +15,7 @@ use handles::Handle;
 use handles::forgotten;
 use handles::is_held;
 use handles::unpacked;
+use needs::AddressKind;
 use needs::addresses::goes_back;
 use needs::addresses::is_done;
 use needs::addresses::is_freed;
@@ -40,8 +37,8 @@ fn hand_back(
     x: Handle,
     dangles: bool,
 ) -> Stepped
-    requires { ⌜ ((s : Scopes) × Stands (withSlots s (now halves) (now links) (now owner) n) (now handles) (now holders) handed) × (h .0 < handed) × Coded (getD (now handles) (h .0) 0) x × (isFreed (kindOf (x .address .kind)) ≡ false) ⌝ }
-    ensures { λ r. ⌜ ((s : Scopes) → goesBack (view (withSlots s (now (halves .entry)) (now (links .entry)) (now (owner .entry)) n)) (kindOf (x .address .kind)) ≡ true → Leads (freeing dangles (h .0)) (freeCode dangles) (withSlots s (now (halves .entry)) (now (links .entry)) (now (owner .entry)) n) (withSlots s (now (halves .exit)) (now (links .exit)) (now (owner .exit)) (r .numbers)) (now (handles .entry)) (now (holders .entry)) handed r (now (handles .exit)) (now (holders .entry))) ⌝ }
+    requires { ⌜ ((s : Scopes) × Stands (withSlots s (now halves) (now links) (now owner) n) (now handles) (now holders) handed) × Known (now handles) handed (h .0) x ⌝ }
+    ensures { λ r. ⌜ ((s : Scopes) → Frees (frame.handBack dangles (h .0)) (slotsIn s halves links owner n) (slotsOut s halves links owner (r .numbers)) handles holders handed r) ⌝ }
 {
     let address = x.address;
     let slot = address.slot;
@@ -65,8 +62,8 @@ fn hand_back(
     }
 }
 
-// 13, then where the slot goes back 14, 12.
-pub fn free(
+// The handle h, which is known as x, is freed as an address of that kind: where the slot goes back 14, 12.
+pub fn free_as(
     halves: &mut [u64; 16],
     links: &mut [u16; 2178],
     owner: &mut [u8; 1024],
@@ -76,21 +73,13 @@ pub fn free(
     holders: &[u16; 1024],
     handed: usize,
     h: HandleNumber,
+    x: Handle,
+    kind: AddressKind,
     dangles: bool,
 ) -> Stepped
-    requires { ⌜ ((s : Scopes) × Stands (onFrees s (now halves) (now links) (now owner) (now number) n) (now handles) (now holders) handed) ⌝ }
-    ensures { λ r. ⌜ ((s : Scopes) → Leads (freeing dangles (h .0)) (freeCode dangles) (onFrees s (now (halves .entry)) (now (links .entry)) (now (owner .entry)) (now (number .entry)) n) (onFrees s (now (halves .exit)) (now (links .exit)) (now (owner .exit)) (now (number .entry)) (r .numbers)) (now (handles .entry)) (now (holders .entry)) handed r (now (handles .exit)) (now (holders .entry))) ⌝ }
+    requires { ⌜ ((s : Scopes) × Stands (onFrees s (now halves) (now links) (now owner) (now number) n) (now handles) (now holders) handed) × Known (now handles) handed (h .0) x ⌝ }
+    ensures { λ r. ⌜ ((s : Scopes) → Frees (frame.freeAs (kindOf kind) dangles (h .0)) (freesIn s halves links owner number n) (freesOut s halves links owner number (r .numbers)) handles holders handed r) ⌝ }
 {
-    let i = h.0 as usize;
-    if handed <= i {
-        return refused(n, handed, 13);
-    }
-    let x = unpacked(handles[i]);
-    let address = x.address;
-    let kind = address.kind;
-    if is_freed(kind) {
-        return refused(n, handed, 13);
-    }
     if goes_back(number, n.top, kind) {
         return hand_back(
             halves,
@@ -105,12 +94,55 @@ pub fn free(
             dangles,
         );
     }
+    let i = h.0 as usize;
     handles[i] = forgotten(x);
     Stepped {
         numbers: n,
         handed,
         adds: Adds::Nothing,
     }
+}
+
+// 13, then where the slot goes back 14, 12.
+pub fn free(
+    halves: &mut [u64; 16],
+    links: &mut [u16; 2178],
+    owner: &mut [u8; 1024],
+    number: &[u32; 64],
+    n: Numbers,
+    handles: &mut [u64; 2048],
+    holders: &[u16; 1024],
+    handed: usize,
+    h: HandleNumber,
+    dangles: bool,
+) -> Stepped
+    requires { ⌜ ((s : Scopes) × Stands (onFrees s (now halves) (now links) (now owner) (now number) n) (now handles) (now holders) handed) ⌝ }
+    ensures { λ r. ⌜ ((s : Scopes) → Leads (freeing dangles (h .0)) (freeCode dangles) (freesIn s halves links owner number n) (freesOut s halves links owner number (r .numbers)) (now (handles .entry)) (now (holders .entry)) handed r (now (handles .exit)) (now (holders .entry))) ⌝ }
+{
+    let i = h.0 as usize;
+    if handed <= i {
+        return refused(n, handed, 13);
+    }
+    let x = unpacked(handles[i]);
+    let address = x.address;
+    let kind = address.kind;
+    if is_freed(kind) {
+        return refused(n, handed, 13);
+    }
+    free_as(
+        halves,
+        links,
+        owner,
+        number,
+        n,
+        handles,
+        holders,
+        handed,
+        h,
+        x,
+        kind,
+        dangles,
+    )
 }
 
 // 13.

@@ -51,7 +51,7 @@ unfolding base
 returns-3 c = λ s holders stands.
     let k = c .before .before .before .before in
     let st = start k in
-    forget-works _ _ _ _ stands (st .args .h .0) (k .unpacked .result) (k .unpacked .ensures) (c .forgotten .result) (c .forgotten .ensures) (k .before .before .if1 .left) (omega (arith, st .pre .most, st .pre .long))
+    forget-works _ _ _ _ stands (st .args .h .0) (k .unpacked .result) (k .unpacked .ensures) (c .forgotten .result) (c .forgotten .ensures) (omega (arith, st .pre .most, st .pre .long)) (k .before .before .if1 .left)
     (sym (c .before .before .is-freed .ensures) ∙ c .before .if2 .left)
 
 pub forget-spec : {M : Type 1} → statement M

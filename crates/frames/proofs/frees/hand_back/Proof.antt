@@ -6,10 +6,10 @@ use borrow.Author.Tests.{not-true, not-false}
 use Rattle.scopes.specs.Lent.{withSlots}
 use Rattle.scopes.specs.declared.Scopes.{Scopes}
 use Rattle.scopes.specs.declared.Outcome.{Outcome}
-use Rattle.frames.specs.Steps.{freeing, freeCode}
-use Rattle.frames.proofs.Allocations.{reached-is, works-refused}
+use Rattle.frames.proofs.Allocations.{reached-is}
+use Rattle.frames.proofs.Moving.{comes-refused}
 use Rattle.frames.proofs.Handling.{held-is}
-use Rattle.frames.proofs.Freeing.{back-14, back-refused, back-works}
+use Rattle.frames.proofs.Freeing.{back-14, back-refused, back-comes}
 use borrow.Author.Needs.{needs}
 use Rattle.frames.proofs.frees.hand_back.Statement.{statement}
 use Rattle.frames.proofs.frees.hand_back.Tie as tie
@@ -36,12 +36,12 @@ refused-requires : tie.Need-refused-requires
 refused-requires c κs = tt
 
 returns : tie.Need-returns
-returns c = λ s back stands.
+returns c = λ s stands o.
     let k = c .before .before in
     let st = start k in
-    works-refused _ _ _ _ stands (freeing (st .args .dangles) (st .args .h .0)) (freeCode (st .args .dangles)) 14 _ (reached-is (c .refused .ensures))
-    (back-14 _ _ _ _ stands (st .args .h .0) (st .args .x) (st .pre .2) (st .args .dangles) (st .pre .1) (st .pre .3) back
-    (held-is _ _ _ _ stands (st .args .h .0) (st .args .x) (st .pre .2) _ (k .is-held .result) refl (k .is-held .ensures) ∙ not-true _ (c .before .if1 .taken)))
+    comes-refused _ _ _ _ stands _ o 14 _ (reached-is (c .refused .ensures))
+    (back-14 _ _ _ _ stands (st .args .h .0) (st .args .x) (st .pre .1 .1) (st .args .dangles) (st .pre .1 .0)
+    (held-is _ _ _ _ stands (st .args .h .0) (st .args .x) (st .pre .1 .1) _ (k .is-held .result) refl (k .is-held .ensures) ∙ not-true _ (c .before .if1 .taken)) o)
 
 give-back-requires : tie.Need-give-back-requires
 give-back-requires c κs = let p = c .before .before .before .before .before .before .before .before .before .before .pre .0 in (p .0, p .1 .whole)
@@ -53,15 +53,15 @@ ended-requires : tie.Need-ended-requires
 ended-requires c κs = tt
 
 returns-2 : tie.Need-returns-2
-returns-2 c = λ s back stands.
+returns-2 c = λ s stands op.
     let g = c .before .before .before .before in
     let k = g .before .before .before .before .before in
     let st = start k in
     let o = outcome g s in
     let e = g .give-back .ensures s (stands .whole) in
-    back-refused _ _ _ _ stands (st .args .h .0) (st .args .x) (st .pre .2) (st .args .dangles) (st .pre .1) (st .pre .3) back
-    (held-is _ _ _ _ stands (st .args .h .0) (st .args .x) (st .pre .2) _ (k .is-held .result) refl (k .is-held .ensures) ∙ not-false _ (g .before .before .before .before .if1 .left))
-    o (e .0) (e .1) (sym (c .before .before .is-done .ensures) ∙ not-true _ (c .before .if2 .taken)) _ (reached-is (c .ended .ensures))
+    back-refused _ _ _ _ stands (st .args .h .0) (st .args .x) (st .pre .1 .1) (st .args .dangles) (st .pre .1 .0)
+    (held-is _ _ _ _ stands (st .args .h .0) (st .args .x) (st .pre .1 .1) _ (k .is-held .result) refl (k .is-held .ensures) ∙ not-false _ (g .before .before .before .before .if1 .left))
+    o (e .0) (e .1) (sym (c .before .before .is-done .ensures) ∙ not-true _ (c .before .if2 .taken)) _ (reached-is (c .ended .ensures)) op
 
 cast-i : tie.Need-cast-i
 cast-i c = search needs
@@ -74,19 +74,19 @@ mul-handles c = search needs
 
 element-write-handles : tie.Need-element-write-handles
 unfolding base
-element-write-handles c = omega (arith, start (c .before .before .before .before .before .before .before .before .before .before) .pre .1, start (c .before .before .before .before .before .before .before .before .before .before) .pre .0 .1 .state .handles .few)
+element-write-handles c = omega (arith, start (c .before .before .before .before .before .before .before .before .before .before) .pre .1 .0, start (c .before .before .before .before .before .before .before .before .before .before) .pre .0 .1 .state .handles .few)
 
 returns-3 : tie.Need-returns-3
 unfolding base
-returns-3 c = λ s back stands.
+returns-3 c = λ s stands op.
     let g = c .before .before .before .before .before in
     let k = g .before .before .before .before .before in
     let st = start k in
     let o = outcome g s in
     let e = g .give-back .ensures s (stands .whole) in
-    back-works _ _ _ _ stands (st .args .h .0) (st .args .x) (st .pre .2) (st .args .dangles) (st .pre .1) (st .pre .3) back
-    (held-is _ _ _ _ stands (st .args .h .0) (st .args .x) (st .pre .2) _ (k .is-held .result) refl (k .is-held .ensures) ∙ not-false _ (g .before .before .before .before .if1 .left))
-    (c .forgotten .result) (c .forgotten .ensures) (omega (arith, st .pre .1, stands .state .handles .few, stands .handles-length)) o (e .0) (e .1) (sym (c .before .before .before .is-done .ensures) ∙ not-false _ (c .before .before .if2 .left))
+    back-comes _ _ _ _ stands (st .args .h .0) (st .args .x) (st .pre .1 .1) (st .args .dangles) (st .pre .1 .0)
+    (held-is _ _ _ _ stands (st .args .h .0) (st .args .x) (st .pre .1 .1) _ (k .is-held .result) refl (k .is-held .ensures) ∙ not-false _ (g .before .before .before .before .if1 .left))
+    (c .forgotten .result) (c .forgotten .ensures) (omega (arith, st .pre .1 .0, stands .state .handles .few, stands .handles-length)) o (e .0) (e .1) (sym (c .before .before .before .is-done .ensures) ∙ not-false _ (c .before .before .if2 .left)) op
 
 pub hand-back-spec : {M : Type 1} → statement M
 hand-back-spec =

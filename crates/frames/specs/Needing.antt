@@ -1,0 +1,108 @@
+-- The steps of a script with needs, W-201 of document 02: what the frames 20 to 25, and 0c, 0d, 0e beside needs, promise. Assumes nothing.
+use mathlib.Core.Path.{_≡_}
+use mathlib.Core.List.{List, [], _∷_}
+use Prim.Native.Nat.{ℕ}
+use lib.ListN.{length}
+use denote.Ref.{now}
+use Rattle.rules.specs.Notation.{_>>=_}
+use Rattle.rules.specs.Sizes.{base}
+use Rattle.rules.specs.Slots.{edition1}
+use Rattle.rules.specs.Scopes as scope
+use Rattle.rules.specs.Needs.{Kind, freed, Need, defer, at, ignore, freedNeed}
+use Rattle.rules.specs.Frames as rules
+use Rattle.rules.specs.Frames.{Remembered, shows, oneLine}
+use Rattle.rules.proofs.Sound.{NeedsSound}
+use Rattle.scopes.specs.declared.Scopes.{Scopes}
+use Rattle.scopes.specs.View.{view}
+use Rattle.scopes.specs.Lent.{Whole}
+use Rattle.needs.specs.declared.OutputAnswer.{OutputAnswer}
+use Rattle.needs.specs.declared.OutputAnswer.the-variants as output
+use Rattle.handles.specs.Handles.{handleAt}
+use Rattle.handles.specs.NeedTable.{rememberedAt, Needing, table, stateWith}
+use Rattle.frames.specs.Steps.{stepped, Few, Stands, Reached, Lent}
+use Rattle.frames.specs.declared.steps.Adds.{Adds}
+use Rattle.frames.specs.declared.steps.Adds.the-variants.{One, Refused}
+use Rattle.frames.specs.declared.steps.Stepped.{Stepped}
+
+-- ---- steps
+
+-- where a script with needs stands
+pub record StandsWith (s : Scopes) (handles holders : List ℕ) (handed : ℕ) (t : Needing) : Type 0 where
+  pub stands : Stands s handles holders handed
+  pub needing : NeedsSound (base .needs) (handleAt (view s .slots .occupied) handles holders) handed (rememberedAt (t .needs) (t .remembers)) (t .needed)
+  pub needs-length : length (t .needs) ≡ 64
+  pub remembers-length : length (t .remembers) ≡ 64
+
+-- The frame f, of opcode o, leads from the state and the tables before it to r and the tables after it, as the rules say.
+pub record WorksWith (f : rules.Frame) (o : ℕ) (s : Scopes) (handles holders : List ℕ) (handed : ℕ) (t : Needing) (r : Reached) (handles′ holders′ : List ℕ) (t′ : Needing) (drained : List ℕ) : Type 0 where
+  pub does : rules.step base (edition1 (base .segments)) (stateWith (view s) handles holders handed t) f
+      ≡ stepped o (r .adds) (stateWith (view (r .state)) handles′ holders′ (r .handed) t′) drained
+  pub whole : Whole (r .state)
+  pub few : Few (r .adds)
+  pub handles-length : length handles′ ≡ 2048
+  pub holders-length : length holders′ ≡ 1024
+  pub needs-length : length (t′ .needs) ≡ 64
+  pub remembers-length : length (t′ .remembers) ≡ 64
+
+-- the state becomes u, the needs t′
+abbrev pub LeadsWith : rules.Frame → ℕ → Scopes → Scopes → List ℕ → List ℕ → ℕ → Needing → Stepped → List ℕ → List ℕ → Needing → Type 0
+LeadsWith f o s u handles holders handed t r handles′ holders′ t′ =
+    StandsWith s handles holders handed t → (drained : List ℕ) → WorksWith f o s handles holders handed t (record { state = u; handed = r .handed; adds = r .adds }) handles′ holders′ t′ drained
+
+-- the scopes, the handles and their count stay; the needs become t′
+abbrev pub Makes : rules.Frame → ℕ → Scopes → List ℕ → List ℕ → ℕ → Needing → Adds → Needing → Type 0
+Makes f o s handles holders handed t adds t′ =
+    StandsWith s handles holders handed t → (drained : List ℕ) → WorksWith f o s handles holders handed t (record { state = s; handed = handed; adds = adds }) handles holders t′ drained
+
+-- one more need, x, was asked for: 22, or its number is added
+pub record Adding (x : Remembered) (t : Needing) (adds : Adds) (t′ : Needing) : Type 0 where
+  pub does : (c : scope.Scopes) (handles holders : List ℕ) (handed o : ℕ) (drained : List ℕ)
+      → (rules.addNeed base x (stateWith c handles holders handed t) >>= λ u. oneLine (shows o (t .needed ∷ [])) u) ≡ stepped o adds (stateWith c handles holders handed t′) drained
+  pub few : Few adds
+  pub needs-length : length (t′ .needs) ≡ 64
+  pub remembers-length : length (t′ .remembers) ≡ 64
+
+-- what 24 shows
+abbrev pub shownOf : OutputAnswer → Adds
+shownOf (output.Keep a) = One (a .0)
+shownOf output.Discard = One 0xffff
+shownOf (output.Refused n) = Refused n
+
+-- the kind of the address that a need has
+abbrev pub needKind : Need → Kind
+needKind (defer id) = freed
+needKind (at a) = a .kind
+needKind ignore = freed
+needKind freedNeed = freed
+
+-- ---- over the lent arrays themselves
+
+abbrev pub tableIn : (needs remembers : Lent ℕ) → ℕ → Needing
+tableIn needs remembers needed = table (now (needs .entry)) (now (remembers .entry)) needed
+
+abbrev pub tableOut : (needs remembers : Lent ℕ) → ℕ → Needing
+tableOut needs remembers needed = table (now (needs .exit)) (now (remembers .exit)) needed
+
+-- a step over all tables: the state becomes u, the needs t′
+abbrev pub Goes : rules.Frame → ℕ → Scopes → Scopes → (handles holders : Lent ℕ) → ℕ → Needing → Stepped → Needing → Type 0
+Goes f o s u handles holders handed t r t′ =
+    LeadsWith f o s u (now (handles .entry)) (now (holders .entry)) handed t r (now (handles .exit)) (now (holders .exit)) t′
+
+-- .. that leaves the holders
+abbrev pub GoesBack : rules.Frame → ℕ → Scopes → Scopes → (handles holders : Lent ℕ) → ℕ → Needing → Stepped → Needing → Type 0
+GoesBack f o s u handles holders handed t r t′ =
+    LeadsWith f o s u (now (handles .entry)) (now (holders .entry)) handed t r (now (handles .exit)) (now (holders .entry)) t′
+
+-- .. that changes the handle table alone
+abbrev pub Forgets : rules.Frame → ℕ → Scopes → Lent ℕ → List ℕ → ℕ → Needing → Adds → Type 0
+Forgets f o s handles holders handed t adds =
+    StandsWith s (now (handles .entry)) holders handed t → (drained : List ℕ)
+    → WorksWith f o s (now (handles .entry)) holders handed t (record { state = s; handed = handed; adds = adds }) (now (handles .exit)) holders t drained
+
+-- .. that makes a need, whatever handles there are
+abbrev pub Notes : rules.Frame → ℕ → Scopes → Needing → Adds → Needing → Type 0
+Notes f o s t adds t′ = (handles holders : List ℕ) (handed : ℕ) → Makes f o s handles holders handed t adds t′
+
+-- .. that asks one
+abbrev pub Asks : rules.Frame → ℕ → Lent ℕ → ℕ → Adds → Type 0
+Asks f o needs needed adds = (s : Scopes) (remembers : List ℕ) → let t : Needing = table (now (needs .entry)) remembers needed in Notes f o s t adds t

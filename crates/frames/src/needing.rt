@@ -1,0 +1,144 @@
+// 20 defer, 21 assigned, 22 ignore, 24 output of need: frames that make a need or ask one, and leave all else alone.
+ghost use mathlib.Core.Path.{_≡_};
+ghost use mathlib.Core.List.{List};
+ghost use Prim.Native.Nat.{ℕ, _≤_};
+ghost use Rattle.rules.specs.Frames as frame;
+ghost use Rattle.needs.specs.Kinds.{needOf};
+ghost use Rattle.handles.specs.NeedTable.{needIn, Table};
+ghost use Rattle.frames.specs.Steps.{numberedIn, Tables};
+ghost use Rattle.frames.specs.Needing.{Makes, Notes, Asks, Adding, shownOf, tableIn, tableOut};
+use crate::steps::Adds;
+use crate::steps::meant;
+use handles::remembered;
+use handles::remembered::NeedNumber;
+use handles::remembered::need_in;
+use handles::unpacked;
+use needs::Need;
+use needs::OutputAnswer;
+use needs::any;
+use scopes::HandleNumber;
+use scopes::Scopes;
+
+// How many needs there are, and what the line adds.
+pub struct Noted {
+    pub needed: usize,
+    pub adds: Adds,
+}
+
+// ---- 20, 21, 22
+
+// One more need, of number b, that remembers h: 22.
+fn add(needs: &mut [u64; 64], remembers: &mut [u16; 64], needed: usize, b: u64, h: u16) -> Noted
+    requires { ⌜ Table (now needs) (now remembers) needed ⌝ }
+    ensures { λ r. ⌜ Adding (record { need = needIn b; handle = h }) (tableIn needs remembers needed) (r .adds) (tableOut needs remembers (r .needed)) ⌝ }
+{
+    if 64 <= needed {
+        return Noted {
+            needed,
+            adds: Adds::Refused(22),
+        };
+    }
+    needs[needed] = b;
+    remembers[needed] = h;
+    Noted {
+        needed: needed + 1,
+        adds: Adds::One(needed as u16),
+    }
+}
+
+// 4, 22.
+pub fn defer<'a>(
+    live: &'a [bool; 64],
+    number: &'a [u32; 64],
+    needs: &mut [u64; 64],
+    remembers: &mut [u16; 64],
+    needed: usize,
+    k: u16,
+) -> Noted
+    requires { ⌜ Table (now needs) (now remembers) needed ⌝ }
+    ensures { λ r. ⌜ ((s : Scopes) → Notes (frame.newDefer k) 0x20 (numberedIn s live number) (tableIn needs remembers needed) (r .adds) (tableOut needs remembers (r .needed))) ⌝ }
+{
+    let id = meant(live, number, k);
+    if id.index == 255 {
+        return Noted {
+            needed,
+            adds: Adds::Refused(4),
+        };
+    }
+    let b = remembered::deferred(id);
+    add(needs, remembers, needed, b, 0)
+}
+
+// 13, 22.
+pub fn assigned(
+    handles: &[u64; 2048],
+    handed: usize,
+    needs: &mut [u64; 64],
+    remembers: &mut [u16; 64],
+    needed: usize,
+    h: HandleNumber,
+) -> Noted
+    requires { ⌜ Tables (now handles) handed × Table (now needs) (now remembers) needed ⌝ }
+    ensures { λ r. ⌜ ((s : Scopes) (holders : List ℕ) → Makes (frame.newAssigned (h .0)) 0x21 s (now (handles .entry)) holders handed (tableIn needs remembers needed) (r .adds) (tableOut needs remembers (r .needed))) ⌝ }
+{
+    let i = h.0 as usize;
+    if handed <= i {
+        return Noted {
+            needed,
+            adds: Adds::Refused(13),
+        };
+    }
+    let x = unpacked(handles[i]);
+    let address = x.address;
+    let slot = address.slot;
+    let b = remembered::assigned(slot);
+    add(needs, remembers, needed, b, h.0)
+}
+
+// 22.
+pub fn ignore(needs: &mut [u64; 64], remembers: &mut [u16; 64], needed: usize) -> Noted
+    requires { ⌜ Table (now needs) (now remembers) needed ⌝ }
+    ensures { λ r. ⌜ ((s : Scopes) → Notes frame.newIgnore 0x22 s (tableIn needs remembers needed) (r .adds) (tableOut needs remembers (r .needed))) ⌝ }
+{
+    add(needs, remembers, needed, remembered::IGNORE, 0)
+}
+
+// ---- 24
+
+pub fn is_gone(d: Need) -> bool
+    ensures { λ r. ⌜ r ≡ frame.isGone (needOf d) ⌝ }
+{
+    match d {
+        Need::Freed => true,
+        Need::Defer(_) => false,
+        Need::Address(_) => false,
+        Need::Ignore => false,
+    }
+}
+
+fn shown(answer: OutputAnswer) -> Adds
+    ensures { λ r. ⌜ r ≡ shownOf answer ⌝ }
+{
+    match answer {
+        OutputAnswer::Keep(a) => Adds::One(a.0),
+        OutputAnswer::Discard => Adds::One(0xffff),
+        OutputAnswer::Refused(n) => Adds::Refused(n),
+    }
+}
+
+// 21, 18.
+pub fn output(needs: &[u64; 64], needed: usize, k: NeedNumber) -> Adds
+    requires { ⌜ needed ≤ 64 ⌝ }
+    ensures { λ r. ⌜ Asks (frame.outputNeed (k .0)) 0x24 needs needed r ⌝ }
+{
+    let i = k.0 as usize;
+    if needed <= i {
+        return Adds::Refused(21);
+    }
+    let d = need_in(needs[i]);
+    if is_gone(d) {
+        return Adds::Refused(21);
+    }
+    let a = any::output(d);
+    shown(a)
+}
