@@ -1,76 +1,52 @@
 -- One step, by its opcode. Assumes nothing.
 use native.Mathlib.Omega.{arith}
-use mathlib.Core.Path.{refl}
-use Rattle.rules.specs.Frames as frame
-use Rattle.rules.specs.Text.{rowed, frameTable}
-use Rattle.text.specs.Lines.{frameOf}
-use Rattle.text.specs.Shapes.{shapeOf, frameShapes}
+use mathlib.Core.Path.{sym, _∙_}
+use Rattle.rules.proofs.Tells.{clash}
 use Rattle.scopes.specs.Lent.{made}
 use Rattle.scopes.specs.declared.Scopes.{Scopes}
-use Rattle.frames.proofs.Reading.{drain-works}
-use Rattle.dispatch.proofs.Opcodes.{works-as}
+use Rattle.frames.proofs.Beside.{plain-works}
+use Rattle.dispatch.specs.Dispatched.{isPlain}
+use Rattle.dispatch.proofs.Opcodes.{plain-by, plain-code}
 use Rattle.dispatch.proofs.step.Statement.{statement}
 use Rattle.dispatch.proofs.step.Tie as tie
 
 abbrev state : tie.Start → Scopes
 state st = made (st .args .halves .now) (st .args .links .now) (st .args .owner .now) (st .args .live .now) (st .args .dangled .now) (st .args .parent .now) (st .args .number .now) (st .args .bindings .now) (st .args .n)
 
-scope-step-requires : tie.Need-scope-step-requires
-scope-step-requires c κs = (c .before .before .before .before .before .before .before .before .before .pre .0 .whole, c .before .before .before .before .before .before .before .before .if1 .taken)
+need-step-requires : tie.Need-need-step-requires
+need-step-requires c κs = let st = c .before .before .before .before .before .before .before .before .before .before in ((state st, st .pre .0), c .before .before .before .before .before .before .before .before .before .if1 .taken)
 
 returns : tie.Need-returns
-returns c = let st = c .before .before .before .before .before .before .before .before .before .before in (λ g q. c .scope-step .ensures g q _ _ (st .pre .0) _, st .pre .1)
+returns c = let st = c .before .before .before .before .before .before .before .before .before .before .before in (λ g q. c .need-step .ensures g q (state st) (st .pre .0) _, st .pre .1)
 
-allot-step-requires : tie.Need-allot-step-requires
-allot-step-requires c κs = let st = c .before .before .before .before .before .before .before .before .before in ((state st, st .pre .0), omega (arith, c .before .before .before .before .before .before .before .before .if1 .left), c .before .before .before .before .before .before .before .if2 .taken)
-
-returns-2 : tie.Need-returns-2
-returns-2 c = let st = c .before .before .before .before .before .before .before .before .before .before in (λ g q. c .allot-step .ensures g q (state st) (st .pre .0) _, st .pre .1)
-
-name-step-requires : tie.Need-name-step-requires
-name-step-requires c κs = let st = c .before .before .before .before .before .before .before in ((state st, (_, st .pre .0)), omega (arith, c .before .before .before .before .before .if2 .left), c .before .before .before .before .if3 .taken)
-
-returns-3 : tie.Need-returns-3
-returns-3 c = let st = c .before .before .before .before .before .before .before .before in (λ g q. c .name-step .ensures g q (state st) _ (st .pre .0) _, st .pre .1)
+is-freeing-requires : tie.Need-is-freeing-requires
+is-freeing-requires c κs = tt
 
 free-step-requires : tie.Need-free-step-requires
-free-step-requires c κs = let st = c .before .before .before .before .before .before .before .before .before .before in ((state st, st .pre .0), omega (arith, c .before .before .before .before .before .before .before .if3 .left), c .before .before .before .before .before .before .if4 .taken)
+free-step-requires c κs = let st = c .before .before .before .before .before .before .before .before .before .before .before in let p = c .before .before .before .before .before .before .before .before .before .is-freeing .ensures .holds (c .before .before .before .before .before .before .before .before .if2 .taken) in ((state st, st .pre .0), p .0, p .1)
 
-returns-4 : tie.Need-returns-4
-returns-4 c = let st = c .before .before .before .before .before .before .before .before .before .before .before in (λ g q. c .free-step .ensures g q (state st) (st .pre .0) _, st .pre .1)
+returns-2 : tie.Need-returns-2
+returns-2 c = let st = c .before .before .before .before .before .before .before .before .before .before .before .before .before in (λ g q. c .before .free-step .ensures g q (state st) (st .pre .0) _, st .pre .1)
 
-drain-requires : tie.Need-drain-requires
-drain-requires c κs = let st = c .before .before .before .before .before .before .before .before in (state st, st .pre .0 .whole, st .pre .1)
+plain-step-requires : tie.Need-plain-step-requires
+plain-step-requires c κs =
+    let st = c .before .before .before .before .before .before .before .before .before .before .before .before .before .before in
+    (st .pre .0 .stands, (st .pre .1, plain-by (st .args .f .opcode) (λ p. clash (c .before .before .before .before .before .before .before .before .before .before .before .before .is-freeing .ensures .shows p) (c .before .before .before .before .before .before .before .before .before .before .before .if2 .left)) (omega (arith, c .before .before .before .before .before .before .before .before .before .before .before .before .before .if1 .left))))
 
-returns-5 : tie.Need-returns-5
-unfolding frameOf rowed frameTable shapeOf frameShapes
-returns-5 c =
-    let st = c .before .before .before .before .before .before .before .before .before in
-    let d = c .drain .ensures .0 (state st) (st .pre .0 .whole) in (
-      λ g q. works-as (st .args .f) 0x0f frame.drain g (c .before .before .before .before .if5 .taken) refl q
-          (drain-works _ _ _ _ (st .pre .0) _ (c .drain .result) _ (d .0) (d .1) (d .2) (c .drain .ensures .1 .1) (c .drain .ensures .1 .2)),
-      c .drain .ensures .1 .1,
-    )
-
-cell-step-requires : tie.Need-cell-step-requires
-cell-step-requires c κs = let st = c .before .before .before .before .before .before .before .before .before .before .before in ((state st, st .pre .0), omega (arith, c .before .before .before .before .before .before .before .if4 .left, c .before .before .before .before .before .before .if5 .left))
-
-returns-6 : tie.Need-returns-6
-returns-6 c = let st = c .before .before .before .before .before .before .before .before .before .before .before .before in (λ g q. c .cell-step .ensures g q (state st) (st .pre .0) _, st .pre .1)
+returns-3 : tie.Need-returns-3
+returns-3 c =
+    let st = c .before .before .before .before .before .before .before .before .before .before .before .before .before .before .before .before in
+    let p : isPlain (st .args .f .opcode) = plain-by (st .args .f .opcode) (λ p. clash (c .before .before .before .before .before .before .before .before .before .before .before .before .before .before .is-freeing .ensures .shows p) (c .before .before .before .before .before .before .before .before .before .before .before .before .before .if2 .left)) (omega (arith, c .before .before .before .before .before .before .before .before .before .before .before .before .before .before .before .if1 .left)) in
+    (λ g q. plain-works _ _ _ _ _ (st .pre .0) g (st .args .f .opcode) _ _ _ _ (plain-code (st .args .f) g p q) (c .before .plain-step .ensures .0 g q), c .before .plain-step .ensures .1)
 
 pub step-spec : {M : Type 1} → statement M
 step-spec =
     tie.close
     (tie.spec
-    scope-step-requires
+    need-step-requires
     returns
-    allot-step-requires
-    returns-2
-    name-step-requires
-    returns-3
+    is-freeing-requires
     free-step-requires
-    returns-4
-    drain-requires
-    returns-5
-    cell-step-requires
-    returns-6)
+    returns-2
+    plain-step-requires
+    returns-3)

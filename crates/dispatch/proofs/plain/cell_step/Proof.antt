@@ -6,9 +6,9 @@ use Rattle.rules.specs.Text.{rowed, frameTable}
 use Rattle.text.specs.Lines.{frameOf}
 use Rattle.text.specs.Shapes.{shapeOf, frameShapes}
 use Rattle.frames.specs.Steps.{onCells}
-use Rattle.dispatch.proofs.Opcodes.{works-as, no-frame, is-high}
-use Rattle.dispatch.proofs.cell_step.Statement.{statement}
-use Rattle.dispatch.proofs.cell_step.Tie as tie
+use Rattle.dispatch.proofs.Opcodes.{works-as, no-frame, is-between}
+use Rattle.dispatch.proofs.plain.cell_step.Statement.{statement}
+use Rattle.dispatch.proofs.plain.cell_step.Tie as tie
 
 write-requires : tie.Need-write-requires
 write-requires c κs = let st = c .before .before in (onCells (st .pre .0 .0) (st .args .halves .now) (st .args .live .now) (st .args .parent .now) (st .args .bindings .now) (st .args .n), st .pre .0 .1)
@@ -32,7 +32,7 @@ unfolding frameOf rowed frameTable shapeOf frameShapes
 returns-3 c = λ g q s stands drained. let st = c .before .before .before .before .before in works-as (st .args .f) 0x12 (frame.readName (st .args .f .a)) g (c .before .before .if3 .taken) refl q (c .read-name .ensures s stands drained)
 
 returns-4 : tie.Need-returns-4
-returns-4 c = λ g q. let st = c .before .before .before in no-frame (is-high (st .args .f) (omega (arith, st .pre .1, c .before .before .if1 .left, c .before .if2 .left, c .if3 .left))) q
+returns-4 c = λ g q. let st = c .before .before .before in no-frame (is-between (st .args .f) (omega (arith, st .pre .1, c .before .before .if1 .left, c .before .if2 .left, c .if3 .left)) (st .pre .2)) q
 
 pub cell-step-spec : {M : Type 1} → statement M
 cell-step-spec =

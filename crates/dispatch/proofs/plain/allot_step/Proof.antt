@@ -7,8 +7,8 @@ use Rattle.text.specs.Lines.{frameOf}
 use Rattle.text.specs.Shapes.{shapeOf, frameShapes}
 use Rattle.frames.specs.Steps.{onAllots}
 use Rattle.dispatch.proofs.Opcodes.{works-as}
-use Rattle.dispatch.proofs.allot_step.Statement.{statement}
-use Rattle.dispatch.proofs.allot_step.Tie as tie
+use Rattle.dispatch.proofs.plain.allot_step.Statement.{statement}
+use Rattle.dispatch.proofs.plain.allot_step.Tie as tie
 
 alloc-requires : tie.Need-alloc-requires
 alloc-requires c κs = let p = c .before .before .before .before .before .before .pre .0 in (onAllots (p .0) (c .before .before .before .before .before .before .args .halves .now) (c .before .before .before .before .before .before .args .links .now) (c .before .before .before .before .before .before .args .owner .now) (c .before .before .before .before .before .before .args .live .now) (c .before .before .before .before .before .before .args .number .now) (c .before .before .before .before .before .before .args .n), p .1)

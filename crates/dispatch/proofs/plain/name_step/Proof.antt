@@ -8,8 +8,8 @@ use Rattle.text.specs.Shapes.{shapeOf, frameShapes}
 use Rattle.scopes.specs.declared.Scopes.{Scopes}
 use Rattle.frames.specs.Steps.{onNames}
 use Rattle.dispatch.proofs.Opcodes.{works-as}
-use Rattle.dispatch.proofs.name_step.Statement.{statement}
-use Rattle.dispatch.proofs.name_step.Tie as tie
+use Rattle.dispatch.proofs.plain.name_step.Statement.{statement}
+use Rattle.dispatch.proofs.plain.name_step.Tie as tie
 
 -- the state that s is with the arrays as they came in
 abbrev state : tie.Start → Scopes → Scopes

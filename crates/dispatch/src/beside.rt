@@ -1,0 +1,188 @@
+// The frames that look at needs, by their opcodes: 0c to 0e, and 20 to 25.
+ghost use mathlib.Core.Path.{_≡_};
+ghost use mathlib.Core.Option.{some};
+ghost use mathlib.Core.List.{List};
+ghost use Prim.Native.Nat.{ℕ, _≤_, _<_};
+ghost use Rattle.rules.specs.Frames as frame;
+ghost use Rattle.text.specs.Lines.{frameOf};
+ghost use Rattle.handles.specs.NeedTable.{Table, table};
+ghost use Rattle.frames.specs.Steps.{onAllots, onFrees, numberedIn, allotsIn, allotsOut, freesIn, freesOut, Tables};
+ghost use Rattle.frames.specs.Needing.{StandsWith, Makes, GoesBack, tableIn, tableOut};
+ghost use Rattle.dispatch.specs.Dispatched.{GoesOn};
+use frames::needing;
+use frames::needing::Noted;
+use frames::owned;
+use frames::steps::Adds;
+use frames::steps::Stepped;
+use handles::remembered::NeedNumber;
+use scopes::HandleNumber;
+use scopes::Numbers;
+use scopes::Scopes;
+use text::lines::Frame;
+
+// A step with needs: the numbers of the state, and how many handles and needs there are.
+pub struct Advance {
+    pub numbers: Numbers,
+    pub handed: usize,
+    pub needed: usize,
+    pub adds: Adds,
+}
+
+// 0c to 0e.
+pub fn free_step<'a>(
+    halves: &mut [u64; 16],
+    links: &mut [u16; 2178],
+    owner: &mut [u8; 1024],
+    number: &[u32; 64],
+    n: Numbers,
+    handles: &mut [u64; 2048],
+    holders: &[u16; 1024],
+    handed: usize,
+    needs: &'a [u64; 64],
+    remembers: &'a [u16; 64],
+    needed: usize,
+    f: Frame,
+) -> Stepped
+    requires { ⌜ ((s : Scopes) × StandsWith (onFrees s (now halves) (now links) (now owner) (now number) n) (now handles) (now holders) handed (table (now needs) (now remembers) needed)) × (12 ≤ f .opcode) × (f .opcode < 15) ⌝ }
+    ensures { λ r. ⌜ ((g : frame.Frame) → frameOf f ≡ some g → (s : Scopes) → GoesBack g (f .opcode) (freesIn s halves links owner number n) (freesOut s halves links owner number (r .numbers)) handles holders handed (tableIn needs remembers needed) r (tableIn needs remembers needed)) ⌝ }
+{
+    let op = f.opcode;
+    let h = HandleNumber(f.a);
+    if op < 0x0e {
+        let dangles = op == 0x0c;
+        return owned::free_beside(
+            halves,
+            links,
+            owner,
+            number,
+            n,
+            handles,
+            holders,
+            handed,
+            needs,
+            remembers,
+            needed,
+            h,
+            dangles,
+        );
+    }
+    let adds = owned::forget_beside(handles, handed, needs, remembers, needed, h);
+    Stepped {
+        numbers: n,
+        handed,
+        adds,
+    }
+}
+
+// 20 to 22.
+fn note_step<'a>(
+    live: &'a [bool; 64],
+    number: &'a [u32; 64],
+    handles: &[u64; 2048],
+    handed: usize,
+    needs: &mut [u64; 64],
+    remembers: &mut [u16; 64],
+    needed: usize,
+    f: Frame,
+) -> Noted
+    requires { ⌜ Tables (now handles) handed × Table (now needs) (now remembers) needed × (32 ≤ f .opcode) × (f .opcode < 35) ⌝ }
+    ensures { λ r. ⌜ ((g : frame.Frame) → frameOf f ≡ some g → (s : Scopes) (holders : List ℕ) → Makes g (f .opcode) (numberedIn s live number) (now (handles .entry)) holders handed (tableIn needs remembers needed) (r .adds) (tableOut needs remembers (r .needed))) ⌝ }
+{
+    let op = f.opcode;
+    if op == 0x20 {
+        return needing::defer(live, number, needs, remembers, needed, f.a);
+    }
+    if op == 0x21 {
+        return needing::assigned(handles, handed, needs, remembers, needed, HandleNumber(f.a));
+    }
+    needing::ignore(needs, remembers, needed)
+}
+
+// 20 to 25.
+pub fn need_step<'a>(
+    halves: &mut [u64; 16],
+    links: &mut [u16; 2178],
+    owner: &mut [u8; 1024],
+    live: &'a [bool; 64],
+    number: &'a [u32; 64],
+    n: Numbers,
+    handles: &mut [u64; 2048],
+    holders: &mut [u16; 1024],
+    handed: usize,
+    needs: &mut [u64; 64],
+    remembers: &mut [u16; 64],
+    needed: usize,
+    f: Frame,
+) -> Advance
+    requires { ⌜ ((s : Scopes) × StandsWith (onAllots s (now halves) (now links) (now owner) (now live) (now number) n) (now handles) (now holders) handed (table (now needs) (now remembers) needed)) × (32 ≤ f .opcode) ⌝ }
+    ensures { λ r. ⌜ ((g : frame.Frame) → frameOf f ≡ some g → (s : Scopes) → GoesOn g (f .opcode) (allotsIn s halves links owner live number n) (allotsOut s halves links owner live number (r .numbers)) handles holders handed (tableIn needs remembers needed) r (tableOut needs remembers (r .needed))) ⌝ }
+{
+    let op = f.opcode;
+    let k = NeedNumber(f.a);
+    if op < 0x23 {
+        let x = note_step(live, number, handles, handed, needs, remembers, needed, f);
+        let adds = x.adds;
+        return Advance {
+            numbers: n,
+            handed,
+            needed: x.needed,
+            adds,
+        };
+    }
+    if op == 0x23 {
+        let r = owned::allocate(
+            halves,
+            links,
+            owner,
+            live,
+            number,
+            n,
+            handles,
+            holders,
+            handed,
+            needs,
+            remembers,
+            needed,
+            k,
+        );
+        let m = r.numbers;
+        let adds = r.adds;
+        return Advance {
+            numbers: m,
+            handed: r.handed,
+            needed,
+            adds,
+        };
+    }
+    if op == 0x24 {
+        let adds = needing::output(needs, needed, k);
+        return Advance {
+            numbers: n,
+            handed,
+            needed,
+            adds,
+        };
+    }
+    let r = owned::free_need(
+        halves,
+        links,
+        owner,
+        number,
+        n,
+        handles,
+        holders,
+        handed,
+        needs,
+        remembers,
+        needed,
+        k,
+    );
+    let m = r.numbers;
+    let adds = r.adds;
+    Advance {
+        numbers: m,
+        handed: r.handed,
+        needed,
+        adds,
+    }
+}

@@ -1,0 +1,266 @@
+// The frames that don't look at needs, by their opcodes.
+ghost use mathlib.Core.Path.{_≡_};
+ghost use mathlib.Core.Option.{some};
+ghost use mathlib.Core.List.{List};
+ghost use Prim.Native.Nat.{ℕ, _≤_, _<_};
+ghost use lib.ListN.{length};
+ghost use Rattle.rules.specs.Frames as frame;
+ghost use Rattle.text.specs.Lines.{frameOf};
+ghost use Rattle.scopes.specs.Lent.{made, Whole};
+ghost use Rattle.frames.specs.Steps.{onAllots, onNames, onCells, Stands, Leads, Stays};
+ghost use Rattle.dispatch.specs.Dispatched.{isPlain, PlainOn};
+use frames::allots;
+use frames::cells;
+use frames::named;
+use frames::scoped;
+use frames::steps::Adds;
+use frames::steps::Stepped;
+use frames::steps::refused;
+use scopes::HandleNumber;
+use scopes::Numbers;
+use scopes::Scopes;
+use scopes::lent::drain;
+use text::lines::Frame;
+
+// 01 to 05.
+fn scope_step(
+    halves: &mut [u64; 16],
+    links: &mut [u16; 2178],
+    owner: &mut [u8; 1024],
+    live: &mut [bool; 64],
+    dangled: &mut [bool; 64],
+    parent: &mut [u8; 64],
+    number: &mut [u32; 64],
+    bindings: &mut [u64; 256],
+    n: Numbers,
+    handed: usize,
+    f: Frame,
+) -> Stepped
+    requires { ⌜ Whole (made (now halves) (now links) (now owner) (now live) (now dangled) (now parent) (now number) (now bindings) n) × (f .opcode < 6) ⌝ }
+    ensures { λ r. ⌜ ((g : frame.Frame) → frameOf f ≡ some g → (handles holders : List ℕ) → Leads g (f .opcode) (made (now (halves .entry)) (now (links .entry)) (now (owner .entry)) (now (live .entry)) (now (dangled .entry)) (now (parent .entry)) (now (number .entry)) (now (bindings .entry)) n) (made (now (halves .exit)) (now (links .exit)) (now (owner .exit)) (now (live .exit)) (now (dangled .exit)) (now (parent .exit)) (now (number .exit)) (now (bindings .exit)) (r .numbers)) handles holders handed r handles holders) ⌝ }
+{
+    let op = f.opcode;
+    if op == 0x01 {
+        return scoped::child(live, parent, number, n, handed);
+    }
+    if op == 0x02 {
+        return scoped::pop(
+            halves,
+            links,
+            owner,
+            live,
+            dangled,
+            parent,
+            number,
+            bindings,
+            n,
+            handed,
+            f.a,
+        );
+    }
+    if op == 0x03 {
+        return scoped::dangle(live, dangled, parent, number, n, handed, f.a);
+    }
+    if op == 0x04 {
+        return scoped::restore(live, dangled, number, n, handed, f.a);
+    }
+    if op == 0x05 {
+        return scoped::pop_last(
+            halves,
+            links,
+            owner,
+            live,
+            dangled,
+            parent,
+            number,
+            bindings,
+            n,
+            handed,
+        );
+    }
+    refused(n, handed, 1)
+}
+
+// 06 to 08.
+fn allot_step<'a>(
+    halves: &mut [u64; 16],
+    links: &mut [u16; 2178],
+    owner: &mut [u8; 1024],
+    live: &'a [bool; 64],
+    number: &'a [u32; 64],
+    n: Numbers,
+    handles: &mut [u64; 2048],
+    holders: &mut [u16; 1024],
+    handed: usize,
+    f: Frame,
+) -> Stepped
+    requires { ⌜ ((s : Scopes) × Stands (onAllots s (now halves) (now links) (now owner) (now live) (now number) n) (now handles) (now holders) handed) × (6 ≤ f .opcode) × (f .opcode < 9) ⌝ }
+    ensures { λ r. ⌜ ((g : frame.Frame) → frameOf f ≡ some g → (s : Scopes) → Leads g (f .opcode) (onAllots s (now (halves .entry)) (now (links .entry)) (now (owner .entry)) (now (live .entry)) (now (number .entry)) n) (onAllots s (now (halves .exit)) (now (links .exit)) (now (owner .exit)) (now (live .entry)) (now (number .entry)) (r .numbers)) (now (handles .entry)) (now (holders .entry)) handed r (now (handles .exit)) (now (holders .exit))) ⌝ }
+{
+    let op = f.opcode;
+    if op == 0x06 {
+        return allots::alloc(halves, links, owner, n, handles, holders, handed);
+    }
+    if op == 0x07 {
+        return allots::alloc_in(
+            halves,
+            links,
+            owner,
+            live,
+            number,
+            n,
+            handles,
+            holders,
+            handed,
+            f.a,
+        );
+    }
+    allots::linear(halves, links, owner, n, handles, holders, handed, f.a)
+}
+
+// 09 to 0b.
+fn name_step<'a>(
+    live: &'a [bool; 64],
+    parent: &'a [u8; 64],
+    bindings: &mut [u64; 256],
+    n: Numbers,
+    handles: &[u64; 2048],
+    handed: usize,
+    f: Frame,
+) -> Stepped
+    requires { ⌜ ((s : Scopes) × ((holders : List ℕ) × Stands (onNames s (now live) (now parent) (now bindings) n) (now handles) holders handed)) × (9 ≤ f .opcode) × (f .opcode < 12) ⌝ }
+    ensures { λ r. ⌜ ((g : frame.Frame) → frameOf f ≡ some g → (s : Scopes) (holders : List ℕ) → Leads g (f .opcode) (onNames s (now (live .entry)) (now (parent .entry)) (now (bindings .entry)) n) (onNames s (now (live .entry)) (now (parent .entry)) (now (bindings .exit)) (r .numbers)) (now (handles .entry)) holders handed r (now (handles .entry)) holders) ⌝ }
+{
+    let op = f.opcode;
+    if op == 0x09 {
+        return named::define(bindings, n, handles, handed, f.a, HandleNumber(f.b));
+    }
+    if op == 0x0a {
+        let adds = named::get(live, parent, bindings, n, f.a);
+        return Stepped {
+            numbers: n,
+            handed,
+            adds,
+        };
+    }
+    named::take(live, parent, bindings, n, handed, f.a)
+}
+
+// 10 to 12.
+fn cell_step<'a>(
+    halves: &[u64; 16],
+    live: &'a [bool; 64],
+    parent: &'a [u8; 64],
+    bindings: &'a [u64; 256],
+    n: Numbers,
+    handles: &mut [u64; 2048],
+    holders: &[u16; 1024],
+    handed: usize,
+    f: Frame,
+) -> Adds
+    requires { ⌜ ((s : Scopes) × Stands (onCells s (now halves) (now live) (now parent) (now bindings) n) (now handles) (now holders) handed) × (16 ≤ f .opcode) × (f .opcode < 32) ⌝ }
+    ensures { λ r. ⌜ ((g : frame.Frame) → frameOf f ≡ some g → (s : Scopes) → Stays g (f .opcode) (onCells s (now (halves .entry)) (now (live .entry)) (now (parent .entry)) (now (bindings .entry)) n) (now (handles .entry)) (now (holders .entry)) handed r (now (handles .exit))) ⌝ }
+{
+    let op = f.opcode;
+    if op == 0x10 {
+        return cells::write(halves, handles, holders, handed, HandleNumber(f.a), f.b);
+    }
+    if op == 0x11 {
+        return cells::read(halves, handles, holders, handed, HandleNumber(f.a));
+    }
+    if op == 0x12 {
+        return cells::read_name(
+            halves,
+            live,
+            parent,
+            bindings,
+            n,
+            handles,
+            holders,
+            handed,
+            f.a,
+        );
+    }
+    Adds::Refused(1)
+}
+
+// 01 to 0b and 0f to 12: the frames that don't look at needs. `drained` gets the addresses of a drain.
+pub fn plain_step(
+    halves: &mut [u64; 16],
+    links: &mut [u16; 2178],
+    owner: &mut [u8; 1024],
+    live: &mut [bool; 64],
+    dangled: &mut [bool; 64],
+    parent: &mut [u8; 64],
+    number: &mut [u32; 64],
+    bindings: &mut [u64; 256],
+    n: Numbers,
+    handles: &mut [u64; 2048],
+    holders: &mut [u16; 1024],
+    drained: &mut [u16; 1024],
+    handed: usize,
+    f: Frame,
+) -> Stepped
+    requires { ⌜ Stands (made (now halves) (now links) (now owner) (now live) (now dangled) (now parent) (now number) (now bindings) n) (now handles) (now holders) handed ⌝ }
+    requires { ⌜ (length (now drained) ≡ 1024) × isPlain (f .opcode) ⌝ }
+    ensures { λ r. ⌜ ((g : frame.Frame) → frameOf f ≡ some g → PlainOn g (f .opcode) halves links owner live dangled parent number bindings n handles holders drained handed r) ⌝ }
+    ensures { λ _. ⌜ length (now (drained .exit)) ≡ 1024 ⌝ }
+{
+    let op = f.opcode;
+    if op < 0x06 {
+        return scope_step(
+            halves,
+            links,
+            owner,
+            live,
+            dangled,
+            parent,
+            number,
+            bindings,
+            n,
+            handed,
+            f,
+        );
+    }
+    if op < 0x09 {
+        return allot_step(
+            halves,
+            links,
+            owner,
+            live,
+            number,
+            n,
+            handles,
+            holders,
+            handed,
+            f,
+        );
+    }
+    if op < 0x0c {
+        return name_step(live, parent, bindings, n, handles, handed, f);
+    }
+    if op == 0x0f {
+        let count = drain::drain(links, owner, drained);
+        return Stepped {
+            numbers: n,
+            handed,
+            adds: Adds::Drained(count),
+        };
+    }
+    let adds = cell_step(
+        halves,
+        live,
+        parent,
+        bindings,
+        n,
+        handles,
+        holders,
+        handed,
+        f,
+    );
+    Stepped {
+        numbers: n,
+        handed,
+        adds,
+    }
+}
