@@ -22,7 +22,7 @@ use Rattle.answers.proofs.Printed.{prints-as}
 -- the line of a refusal
 pub data Says (text out : List ℕ) (answer : ℕ) (out′ : List ℕ) : Type 0 where
   written : answer ≡ length text → length text ≤ 32768 → out′ ≡ overFront text out → Says text out answer out′
-  refusal : (n i : ℕ) → answer ≡ refusalAnswer n i → 1 ≤ n → n ≤ 20 → i ≤ 2048 → eeText n i ≡ text → out′ ≡ out → Says text out answer out′
+  refusal : (n i : ℕ) → answer ≡ refusalAnswer n i → 1 ≤ n → n < 256 → i ≤ 2048 → eeText n i ≡ text → out′ ≡ out → Says text out answer out′
 
 module _ (text out : List ℕ) (answer : ℕ) (out′ : List ℕ) where
   pub halved : Says text out answer out′ → Halved answer
@@ -42,7 +42,7 @@ module _ (text out : List ℕ) (answer : ℕ) (out′ : List ℕ) where
 translation-says : (o : Outcome) → translation.Comes o → (out : List ℕ) → 32768 ≤ length out → (r : ℕ) (out′ : List ℕ) → translate.Leaves (listLeft o out) r out′
     → Says (outcomeText o) out r out′
 unfolding listLeft outcomeText if_then_else_
-translation-says _ (translation.to-stop n i a b c) out h r out′ l = refusal n i (l .answered) a b c refl (l .list-left)
+translation-says _ (translation.to-stop n i a b c) out h r out′ l = refusal n i (l .answered) a (omega arith) c refl (l .list-left)
 translation-says _ (translation.to-list {ls = ls} {size = size} a) out h r out′ l =
     let e = le-leb (length (listText ls size)) (length out) (omega arith) in
     written (rw (e, if_then_else_) at (l .answered)) (omega arith) (rw (e, if_then_else_) at (l .list-left))
@@ -71,7 +71,7 @@ module _ (script : List ℕ) where
 run-left : (o : RunOutcome) → running.Comes 2048 o → (cells out : List ℕ) → 32768 ≤ length out → (r : ℕ) (cells′ out′ : List ℕ)
     → machine.Leaves (runLeft o cells out) r cells′ out′ → Says (runText o) out r out′
 unfolding runLeft runText if_then_else_
-run-left _ (running.to-stop n i a b c) cells out h r cells′ out′ l = refusal n i (l .answered) a b c refl (l .out-left)
+run-left _ (running.to-stop n i a b c) cells out h r cells′ out′ l = refusal n i (l .answered) a (omega arith) c refl (l .out-left)
 run-left _ (running.to-end {r = x} a) cells out h r cells′ out′ l =
     let e = le-leb (length (loadsText (x .loaded))) (length out) (omega arith) in
     written (rw (e, if_then_else_) at (l .answered)) (omega arith) (rw (e, if_then_else_) at (l .out-left))

@@ -117,10 +117,10 @@ pub together-one : (script cells out : List ℕ) (r r′ : ℕ) (cells′ cells�
 together-one script cells out r r′ cells′ cells″ out′ out″ a b = machine.leaves-one a b
 
 -- the two halves of the answer can't be mistaken for each other
-pub together-answer : (script cells out : List ℕ) → Bytes cells → machine.HalvesOf cells out 2048 (together script cells out)
-unfolding together togetherOn
+pub together-answer : (script cells out : List ℕ) → Bytes cells → machine.HalvesOf cells out 22 2048 (together script cells out)
+unfolding together togetherOn base
 together-answer script cells out bytes = go (translated base (edition1 8) script) refl (come script)
   where
-    go : (o : Outcome) → translated base (edition1 8) script ≡ o → Comes o → machine.HalvesOf cells out 2048 (togetherOn o (means script) cells out)
-    go _ e (to-stop n i a b c) = by-number _ _ _ _ n i (omega arith) a b c (refl, refl)
-    go _ e (to-list {ls = ls} {size = size} a) = subst (machine.HalvesOf cells out 2048) (run-is script ls size e cells out bytes) (machine.run-answer (listText ls size) cells out)
+    go : (o : Outcome) → translated base (edition1 8) script ≡ o → Comes o → machine.HalvesOf cells out 22 2048 (togetherOn o (means script) cells out)
+    go _ e (to-stop n i a b c) = by-number _ _ _ _ _ n i (omega arith) a b c (refl, refl)
+    go _ e (to-list {ls = ls} {size = size} a) = subst (machine.HalvesOf cells out 22 2048) (run-is script ls size e cells out bytes) (machine.run-halves 22 (omega arith) base (omega arith) (listText ls size) cells out)

@@ -63,23 +63,24 @@ comes room cells list = go (listFrom room 0 (split list)) (list-in room (split l
 
 -- ---- the two halves of the answer
 
-abbrev pub HalvesOf : List ℕ → List ℕ → ℕ → Running → Type 0
-HalvesOf cells out most l = Halves (length out) (7 * most) most ((l .cells ≡ cells) × (l .out ≡ out)) (l .answer)
+abbrev pub HalvesOf : List ℕ → List ℕ → ℕ → ℕ → Running → Type 0
+HalvesOf cells out greatest most l = Halves (length out) (7 * most) greatest most ((l .cells ≡ cells) × (l .out ≡ out)) (l .answer)
 
-halves-of : (most : ℕ) → most ≤ 65535 → (cells out : List ℕ) (o : RunOutcome) → Comes most o → HalvesOf cells out most (runLeft o cells out)
+halves-of : (greatest most : ℕ) → 20 ≤ greatest → most ≤ 65535 → (cells out : List ℕ) (o : RunOutcome) → Comes most o → HalvesOf cells out greatest most (runLeft o cells out)
 unfolding runLeft if_then_else_
-halves-of most h cells out _ (to-stop n i a b c) = by-number _ _ _ _ n i (omega arith) a b c (refl, refl)
-halves-of most h cells out _ (to-end {r = r} a) = go (leb (length (loadsText (r .loaded))) (length out)) refl
+halves-of greatest most k h cells out _ (to-stop n i a b c) = by-number _ _ _ _ _ n i (omega arith) a (omega arith) c (refl, refl)
+halves-of greatest most k h cells out _ (to-end {r = r} a) = go (leb (length (loadsText (r .loaded))) (length out)) refl
   where
-    go : (b : Bool) → leb (length (loadsText (r .loaded))) (length out) ≡ b → HalvesOf cells out most (runLeft (ran r) cells out)
-    go true e = rw (e, if_then_else_) (by-count _ _ _ _ _ (omega arith) (leb-true _ _ e) a)
-    go false e = rw (e, if_then_else_) (by-number _ _ _ _ 17 0 (omega arith) (omega arith) (omega arith) (omega arith) (refl, refl))
+    go : (b : Bool) → leb (length (loadsText (r .loaded))) (length out) ≡ b → HalvesOf cells out greatest most (runLeft (ran r) cells out)
+    go true e = rw (e, if_then_else_) (by-count _ _ _ _ _ _ (omega arith) (leb-true _ _ e) a)
+    go false e = rw (e, if_then_else_) (by-number _ _ _ _ _ 17 0 (omega arith) (omega arith) (omega arith) (omega arith) (refl, refl))
 
-pub run-halves : (room : Room) → room .lines ≤ 65535 → (list cells out : List ℕ) → HalvesOf cells out (room .lines) (runEntry room list cells out)
+-- a number is at most 20
+pub run-halves : (greatest : ℕ) → 20 ≤ greatest → (room : Room) → room .lines ≤ 65535 → (list cells out : List ℕ) → HalvesOf cells out greatest (room .lines) (runEntry room list cells out)
 unfolding runEntry
-run-halves room h list cells out = halves-of (room .lines) h cells out _ (comes room (cellsOf cells) list)
+run-halves greatest k room h list cells out = halves-of greatest (room .lines) k h cells out _ (comes room (cellsOf cells) list)
 
 -- as `run` promises it
-pub run-answer : (list cells out : List ℕ) → HalvesOf cells out 2048 (runEntry base list cells out)
+pub run-answer : (list cells out : List ℕ) → HalvesOf cells out 20 2048 (runEntry base list cells out)
 unfolding base
-run-answer list cells out = run-halves base (omega arith) list cells out
+run-answer list cells out = run-halves 20 (omega arith) base (omega arith) list cells out

@@ -41,8 +41,11 @@ use Rattle.text.proofs.Splits.{split-end}
 use Rattle.text.proofs.Rows.{frame-code}
 use Rattle.text.proofs.Bounds.{ScriptIn, script-in}
 use Rattle.text.proofs.Over.{over-nothing, next}
-use Rattle.handles.specs.Handles.{stateOf}
-use Rattle.frames.specs.Steps.{stepped, Few, Stands, Works, Reached}
+use Rattle.handles.specs.Handles.{handleAt}
+use Rattle.handles.specs.NeedTable.{rememberedAt, Needing, table, stateWith}
+use Rattle.frames.specs.Steps.{stepped, Few, Reached}
+use Rattle.frames.specs.Needing.{StandsWith, WorksWith}
+use Rattle.frames.proofs.Beside.{stands-sound, sound-stands}
 use Rattle.translate.specs.Whole.{frameIn, linesOf, linesText, onwardOf, Read, Ends, listed, refused as told}
 use Rattle.frames.specs.declared.steps.Adds.{Adds}
 use Rattle.frames.specs.declared.steps.Adds.the-variants.{Nothing, One, Store, Load, Drained, Refused}
@@ -112,15 +115,15 @@ place = edition1 (base .segments)
 pub fair : Fair base place (SlotsSound (base .segments))
 fair = edition1-fair-sound base (base-wide .segments)
 
-pub record Going (script page₀ : List ℕ) (s : Scopes) (handles holders drained : List ℕ) (handed p i w : ℕ) (page : List ℕ) : Type 0 where
+pub record Going (script page₀ : List ℕ) (s : Scopes) (handles holders drained : List ℕ) (handed : ℕ) (nd : Needing) (p i w : ℕ) (page : List ℕ) : Type 0 where
   pub within : p ≤ length script
-  pub stands : Stands s handles holders handed
-  pub small : Small i (stateOf (view s) handles holders handed)
+  pub stands : StandsWith s handles holders handed nd
+  pub small : Small i (stateWith (view s) handles holders handed nd)
   pub left : List Frame
   pub reads : scriptFrom base i (split (drop p script)) ≡ frames left
   pub early : i + length left ≤ 2048
   pub done : List Line
-  pub comes : translated base place script ≡ before done (steps base place i (stateOf (view s) handles holders handed) left)
+  pub comes : translated base place script ≡ before done (steps base place i (stateWith (view s) handles holders handed nd) left)
   pub at : w ≡ length (linesText done)
   pub written : page ≡ over page₀ 0 (linesText done)
   pub owed : w + 4 * owing base (view s) ≤ 11 * i + 4 * handed
@@ -135,9 +138,16 @@ zeros zero (suc h) = refl
 zeros (suc n) zero = refl
 zeros (suc n) (suc h) = zeros n h
 
-starts : (c : rule.Scopes) (m n : ℕ) → c ≡ rule.freshScopes → stateOf c (replicate m 0) (replicate n 0) 0 ≡ start
+-- no needs yet
+abbrev none-yet : Needing
+none-yet = table (replicate 64 0) (replicate 64 0) 0
+
+starts : (c : rule.Scopes) (m n : ℕ) → c ≡ rule.freshScopes → stateWith c (replicate m 0) (replicate n 0) 0 none-yet ≡ start
 unfolding start rule.freshScopes freshSlots
-starts c m n e = rw e (ap (λ (f : ℕ → _). record { scopes = rule.freshScopes; handles = f; handed = 0 }) (fun-ext (λ h. rw (zeros m h))))
+starts c m n e =
+    let f : handleAt (λ a. false) (replicate m 0) (replicate n 0) ≡ start .handles = fun-ext (λ h. rw (zeros m h)) in
+    let g : rememberedAt (none-yet .needs) (none-yet .remembers) ≡ start .needs = fun-ext (λ k. rw (zeros 64 k)) in
+    rw e (λ t. record { scopes = rule.freshScopes; handles = f t; handed = 0; needs = g t; needed = 0 })
 
 pub owes-none : owing base (start .scopes) ≡ 0
 unfolding owing start rule.freshScopes base sumBelow
@@ -151,7 +161,7 @@ few-frames : (fs : List Frame) (r : Script) → ScriptIn base 0 r → r ≡ fram
 unfolding base
 few-frames fs r h e = subst (ScriptIn base 0) e h
 
-going-start : (script page : List ℕ) (s : Scopes) → Read script → view s ≡ rule.freshScopes → Whole s → Going script page s (replicate 2048 0) (replicate 1024 0) (replicate 1024 0) 0 0 0 0 page
+going-start : (script page : List ℕ) (s : Scopes) → Read script → view s ≡ rule.freshScopes → Whole s → Going script page s (replicate 2048 0) (replicate 1024 0) (replicate 1024 0) 0 none-yet 0 0 0 page
 unfolding linesText
 going-start script page s r v h =
     let e = starts (view s) 2048 1024 v in
@@ -159,19 +169,14 @@ going-start script page s r v h =
     let k : s .counter ≡ start .scopes .counter = ap (λ (t : State). t .scopes .counter) e in
     record {
       within = omega arith;
-      stands = record {
-        whole = h;
-        state = subst (StateSound base) (sym e) (start-sound base (base-wide .segments) (base-wide .scopes));
-        counted = omega (arith, k, small-start .count);
-        handles-length = length-replicate {A = ℕ} 2048 0;
-        holders-length = length-replicate {A = ℕ} 1024 0;
-      };
+      stands = sound-stands s (replicate 2048 0) (replicate 1024 0) 0 none-yet (subst (StateSound base) (sym e) (start-sound base (base-wide .segments) (base-wide .scopes))) h
+          (omega (arith, k, small-start .count)) (length-replicate {A = ℕ} 2048 0) (length-replicate {A = ℕ} 1024 0) (length-replicate {A = ℕ} 64 0) (length-replicate {A = ℕ} 64 0);
       small = subst (Small 0) (sym e) small-start;
       left = r .all;
       reads = r .reads;
       early = few-frames (r .all) (scriptFrom base 0 (split script)) (script-in base (split script) 0 (omega arith)) (r .reads);
       done = [];
-      comes = read-whole script (r .all) (r .reads) ∙ ap (λ (t : State). steps base place 0 t (r .all)) (sym e) ∙ before-none (steps base place 0 (stateOf (view s) (replicate 2048 0) (replicate 1024 0) 0) (r .all));
+      comes = read-whole script (r .all) (r .reads) ∙ ap (λ (t : State). steps base place 0 t (r .all)) (sym e) ∙ before-none (steps base place 0 (stateWith (view s) (replicate 2048 0) (replicate 1024 0) 0 none-yet) (r .all));
       at = refl;
       written = over-nothing page 0;
       owed = omega (arith, o);
@@ -181,32 +186,35 @@ going-start script page s r v h =
 
 -- the same state, made of its parts
 pub going-fresh : (script page : List ℕ) (s : Scopes) → Read script → view s ≡ rule.freshScopes → Whole s → (n : Numbers) → n ≡ numbersOf s
-    → Going script page (made (s .halves) (s .links) (s .owner) (s .live) (s .dangled) (s .parent) (s .number) (s .bindings) n) (replicate 2048 0) (replicate 1024 0) (replicate 1024 0) 0 0 0 0 page
+    → Going script page (made (s .halves) (s .links) (s .owner) (s .live) (s .dangled) (s .parent) (s .number) (s .bindings) n) (replicate 2048 0) (replicate 1024 0) (replicate 1024 0) 0 none-yet 0 0 0 page
 going-fresh script page s r v h n e =
-    subst (λ (m : Numbers). Going script page (made (s .halves) (s .links) (s .owner) (s .live) (s .dangled) (s .parent) (s .number) (s .bindings) m) (replicate 2048 0) (replicate 1024 0) (replicate 1024 0) 0 0 0 0 page)
+    subst (λ (m : Numbers). Going script page (made (s .halves) (s .links) (s .owner) (s .live) (s .dangled) (s .parent) (s .number) (s .bindings) m) (replicate 2048 0) (replicate 1024 0) (replicate 1024 0) 0 none-yet 0 0 0 page)
     (sym e) (going-start script page s r v h)
 
 -- ---- one frame
 
-module _ (script page₀ : List ℕ) (s : Scopes) (handles holders drained : List ℕ) (handed p i w : ℕ) (page : List ℕ)
-    (g : Going script page₀ s handles holders drained handed p i w page) where
+module _ (script page₀ : List ℕ) (s : Scopes) (handles holders drained : List ℕ) (handed : ℕ) (nd : Needing) (p i w : ℕ) (page : List ℕ)
+    (g : Going script page₀ s handles holders drained handed nd p i w page) where
   abbrev here : State
-  here = stateOf (view s) handles holders handed
+  here = stateWith (view s) handles holders handed nd
+
+  here-sound : StateSound base here
+  here-sound = stands-sound s handles holders handed nd (g .stands)
 
   module _ (t : Taken) (k : Took frameReading script p t) (f : code.Frame) (ef : f ≡ frameIn (t .reading))
-      (r : Reached) (handles′ holders′ drained′ : List ℕ)
-      (works : (x : Frame) → frameOf f ≡ some x → Works x (f .opcode) s handles holders handed r handles′ holders′ drained′) where
+      (r : Reached) (handles′ holders′ drained′ : List ℕ) (nd′ : Needing)
+      (works : (x : Frame) → frameOf f ≡ some x → WorksWith x (f .opcode) s handles holders handed nd r handles′ holders′ nd′ drained′) where
     taken : Taking base i (frameReading (k .line)) (split (drop (t .next) script)) (g .left)
     taken = taking base i (k .line) (split (drop (t .next) script)) (g .left) (sym (ap (scriptFrom base i) (k .here)) ∙ g .reads)
 
     is-frame : frameOf f ≡ some (taken .frame)
     is-frame = ap frameOf ef ∙ ap (λ (x : Reading). frameOf (frameIn x)) (k .as-read ∙ taken .as-read) ∙ frame-code (taken .frame)
 
-    work : Works (taken .frame) (f .opcode) s handles holders handed r handles′ holders′ drained′
+    work : WorksWith (taken .frame) (f .opcode) s handles holders handed nd r handles′ holders′ nd′ drained′
     work = works (taken .frame) is-frame
 
     abbrev there : State
-    there = stateOf (view (r .state)) handles′ holders′ (r .handed)
+    there = stateWith (view (r .state)) handles′ holders′ (r .handed) nd′
 
     comes-on : translated base place script ≡ before (g .done) (onward i (step base place here (taken .frame)) (λ x. steps base place (suc i) x (taken .more)))
     comes-on = g .comes ∙ ap (before (g .done)) (ap (steps base place i here) (taken .is) ∙ next-frame base place i here (taken .frame) (taken .more))
@@ -229,13 +237,13 @@ module _ (script page₀ : List ℕ) (s : Scopes) (handles holders drained : Lis
       going-few = work .few
 
       sound : StateSound base there
-      sound = keeps-step base here (g .stands .state) (base-wide .slots) place fair (taken .frame) .at (lines, there) gives
+      sound = keeps-step base here here-sound (base-wide .slots) place fair (taken .frame) .at (lines, there) gives
 
       enough : suc i + length (taken .more) ≤ 2048
       enough = omega (arith, g .early, ap length (taken .is))
 
       paid : w + length (linesText lines) + 4 * owing base (view (r .state)) ≤ 11 * suc i + 4 * r .handed
-      paid = omega (arith, g .owed, pays base place here (g .stands .state) (taken .frame) .at (lines, there) gives .covers, lines-length lines)
+      paid = omega (arith, g .owed, pays base place here here-sound (taken .frame) .at (lines, there) gives .covers, lines-length lines)
 
       handed-few : r .handed ≤ 2048
       unfolding base
@@ -245,20 +253,14 @@ module _ (script page₀ : List ℕ) (s : Scopes) (handles holders drained : Lis
       going-room h = omega (arith, paid, handed-few, enough, g .page-length)
 
       small-on : Small (suc i) there
-      small-on = small-step base place fair (omega (arith, base-wide .slots, base-wide .size)) i here (g .stands .state .scopes .slots) (g .small) (taken .frame) .at (lines, there) gives
+      small-on = small-step base place fair (omega (arith, base-wide .slots, base-wide .size)) i here (here-sound .scopes .slots) (g .small) (taken .frame) .at (lines, there) gives
 
       going-suc : (w′ : ℕ) (page′ : List ℕ) → length page′ ≡ length page → Put (f .opcode) (r .adds) drained′ page w w′ page′
-          → Going script page₀ (r .state) handles′ holders′ drained′ (r .handed) (t .next) (suc i) w′ page′
+          → Going script page₀ (r .state) handles′ holders′ drained′ (r .handed) nd′ (t .next) (suc i) w′ page′
       unfolding onward
       going-suc w′ page′ l q = record {
         within = k .within;
-        stands = record {
-          whole = work .whole;
-          state = sound;
-          counted = omega (arith, small-on .count, enough);
-          handles-length = work .handles-length;
-          holders-length = work .holders-length;
-        };
+        stands = sound-stands (r .state) handles′ holders′ (r .handed) nd′ sound (work .whole) (omega (arith, small-on .count, enough)) (work .handles-length) (work .holders-length) (work .needs-length) (work .remembers-length);
         small = small-on;
         left = taken .more;
         reads = taken .on;
@@ -273,18 +275,18 @@ module _ (script page₀ : List ℕ) (s : Scopes) (handles holders drained : Lis
       }
 
       pub going-on : (w′ : ℕ) (page′ : List ℕ) → length page′ ≡ length page → Put (f .opcode) (r .adds) drained′ page w w′ page′
-          → Going script page₀ (r .state) handles′ holders′ drained′ (r .handed) (t .next) (i + 1) w′ page′
+          → Going script page₀ (r .state) handles′ holders′ drained′ (r .handed) nd′ (t .next) (i + 1) w′ page′
       going-on w′ page′ l q =
-          subst (λ (m : ℕ). Going script page₀ (r .state) handles′ holders′ drained′ (r .handed) (t .next) m w′ page′) (sym (add-one i)) (going-suc w′ page′ l q)
+          subst (λ (m : ℕ). Going script page₀ (r .state) handles′ holders′ drained′ (r .handed) nd′ (t .next) m w′ page′) (sym (add-one i)) (going-suc w′ page′ l q)
 
   -- ---- after the last frame
 
   pub going-size : s .size < 65536
-  going-size = omega (arith, g .stands .state .scopes .size .fits, base-wide .size)
+  going-size = omega (arith, here-sound .scopes .size .fits, base-wide .size)
 
   pub going-last : length page₀ ≡ 32768 → w + 7 ≤ length page
   unfolding base
-  going-last h = omega (arith, g .owed, g .stands .state .handles .few, g .early, g .page-length)
+  going-last h = omega (arith, g .owed, here-sound .handles .few, g .early, g .page-length)
 
   module _ (over-all : length script ≤ p) where
     no-more : g .left ≡ []

@@ -1,4 +1,4 @@
--- What a translation comes to: a refusal has a number from 1 to 20 and the line of a frame, and a list is at most 30,727 bytes. So the two
+-- What a translation comes to: a refusal has a number from 1 to 22 and the line of a frame, and a list is at most 30,727 bytes. So the two
 -- halves of the answer can't be mistaken for each other. Assumes nothing.
 use mathlib.Core.Path.{_≡_, refl}
 use mathlib.Core.Bool.{Bool, true, false}
@@ -31,7 +31,7 @@ place₁ = edition1 (base .segments)
 
 pub data Comes : Outcome → Type 0 where
   to-list : {ls : List Line} {size : ℕ} → length (listText ls size) ≤ 30727 → Comes (accepted ls size)
-  to-stop : (n i : ℕ) → 1 ≤ n → n ≤ 20 → i ≤ 2048 → Comes (refusedAt n i)
+  to-stop : (n i : ℕ) → 1 ≤ n → n ≤ 22 → i ≤ 2048 → Comes (refusedAt n i)
 
 pub comes : (script : List ℕ) → Comes (translated base place₁ script)
 unfolding translated outcome base
@@ -53,16 +53,16 @@ comes script = go (scriptFrom base 0 (split script)) (script-in base (split scri
 
 -- `number`: the list is the one that came in
 abbrev pub Halves : List ℕ → Translation → Type 0
-Halves list l = Both (length list) 30727 2048 (l .list ≡ list) (l .answer)
+Halves list l = Both (length list) 30727 22 2048 (l .list ≡ list) (l .answer)
 
 halves-of : (list : List ℕ) (o : Outcome) → Comes o → Halves list (listLeft o list)
 unfolding listLeft if_then_else_
-halves-of list _ (to-stop n i a b c) = by-number _ _ _ _ n i (omega arith) a b c refl
+halves-of list _ (to-stop n i a b c) = by-number _ _ _ _ _ n i (omega arith) a b c refl
 halves-of list _ (to-list {ls = ls} {size = size} a) = go (leb (length (listText ls size)) (length list)) refl
   where
     go : (b : Bool) → leb (length (listText ls size)) (length list) ≡ b → Halves list (listLeft (accepted ls size) list)
-    go true e = rw (e, if_then_else_) (by-count _ _ _ _ _ (omega arith) (leb-true _ _ e) a)
-    go false e = rw (e, if_then_else_) (by-number _ _ _ _ 17 0 (omega arith) (omega arith) (omega arith) (omega arith) refl)
+    go true e = rw (e, if_then_else_) (by-count _ _ _ _ _ _ (omega arith) (leb-true _ _ e) a)
+    go false e = rw (e, if_then_else_) (by-number _ _ _ _ _ 17 0 (omega arith) (omega arith) (omega arith) (omega arith) refl)
 
 pub translate-halves : (script list : List ℕ) → Halves list (translateEntry base (edition1 8) script list)
 unfolding translateEntry base

@@ -79,6 +79,8 @@ pub fn steps(script: &[u8], page: &mut [u8]) -> Ended
     let mut handles = [0u64; 2048];
     let mut holders = [0u16; 1024];
     let mut drained = [0u16; 1024];
+    let mut needs = [0u64; 64];
+    let mut remembers = [0u16; 64];
     let s = scopes::fresh();
     let mut halves = s.halves;
     let mut links = s.links;
@@ -90,6 +92,7 @@ pub fn steps(script: &[u8], page: &mut [u8]) -> Ended
     let mut bindings = s.bindings;
     let mut n = scopes::numbers_of(s);
     let mut handed: usize = 0;
+    let mut needed: usize = 0;
     let mut p: usize = 0;
     let mut i: usize = 0;
     let mut w: usize = 0;
@@ -111,6 +114,9 @@ pub fn steps(script: &[u8], page: &mut [u8]) -> Ended
             &mut holders,
             &mut drained,
             handed,
+            &mut needs,
+            &mut remembers,
+            needed,
             f,
         );
         let adds = r.adds;
@@ -121,6 +127,7 @@ pub fn steps(script: &[u8], page: &mut [u8]) -> Ended
                 let m = r.numbers;
                 n = m;
                 handed = r.handed;
+                needed = r.needed;
                 p = t.next;
                 i += 1;
             }

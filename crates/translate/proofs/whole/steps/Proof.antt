@@ -6,17 +6,18 @@ use lib.ListN.{length}
 use borrow.Author.Needs.{needs}
 use Rattle.rules.specs.Sizes.{base}
 use Rattle.scopes.specs.Lent.{made}
+use Rattle.handles.specs.NeedTable.{table}
 use Rattle.frames.specs.Steps.{Reached}
 use Rattle.translate.proofs.Going.{Going, going-fresh, going-stop, going-few, going-room, going-on, going-size, going-last, going-end}
 use Rattle.translate.proofs.whole.steps.Statement.{statement}
 use Rattle.translate.proofs.whole.steps.Tie as tie
 
 abbrev Inv-loop : tie.InvT-loop
-Inv-loop script page₀ handles₀ holders₀ drained₀ halves₀ links₀ owner₀ live₀ dangled₀ parent₀ number₀ bindings₀ n₀ handed₀ p₀ i₀ w₀ page handles holders drained halves links owner live dangled parent number bindings n handed p i w =
-    Going script page₀ (made halves links owner live dangled parent number bindings n) handles holders drained handed p i w page
+Inv-loop script page₀ handles₀ holders₀ drained₀ needs₀ remembers₀ halves₀ links₀ owner₀ live₀ dangled₀ parent₀ number₀ bindings₀ n₀ handed₀ needed₀ p₀ i₀ w₀ page handles holders drained needs remembers halves links owner live dangled parent number bindings n handed needed p i w =
+    Going script page₀ (made halves links owner live dangled parent number bindings n) handles holders drained handed (table needs remembers needed) p i w page
 
 abbrev μ-loop : tie.MeasureT-loop
-μ-loop script page₀ handles₀ holders₀ drained₀ halves₀ links₀ owner₀ live₀ dangled₀ parent₀ number₀ bindings₀ n₀ handed₀ p₀ i₀ w₀ page handles holders drained halves links owner live dangled parent number bindings n handed p i w =
+μ-loop script page₀ handles₀ holders₀ drained₀ needs₀ remembers₀ halves₀ links₀ owner₀ live₀ dangled₀ parent₀ number₀ bindings₀ n₀ handed₀ needed₀ p₀ i₀ w₀ page handles holders drained needs remembers halves links owner live dangled parent number bindings n handed needed p i w =
     length script - p
 
 -- where the step leads
@@ -42,7 +43,7 @@ numbers-of-requires c κs = tt
 loop-holds : tie.Need-loop-holds Inv-loop μ-loop
 loop-holds c =
     let f = c .before .before .before .before .before .before .before .before .before in
-    let a = f .before .before .before in
+    let a = c .before .before .before .before .before .before .before .before .before .before .before .before in
     going-fresh (a .args .script .now) (a .args .page .now) (f .fresh .result) (a .pre .0) (f .fresh .ensures .0)
     (record { sound = f .fresh .ensures .1; sized = record { halves = search needs; links = search needs; owner = search needs; live = search needs; dangled = search needs; parent = parent-length (c .before .before .before); number = number-length (c .before .before); bindings = bindings-length (c .before) } })
     (c .numbers-of .result) (c .numbers-of .ensures)
@@ -54,7 +55,7 @@ frame-in-requires : tie.Need-frame-in-requires Inv-loop μ-loop
 frame-in-requires c κs = tt
 
 step-requires : tie.Need-step-requires Inv-loop μ-loop
-step-requires c κs = let l = c .before .before .before .before .before .before .before .before .before .before .before .before .before .before in (l .loop .inv .stands, l .loop .inv .drained-length)
+step-requires c κs = let l = c .before .before .before .before .before .before .before .before .before .before .before .before .before .before .before .before in (l .loop .inv .stands, l .loop .inv .drained-length)
 
 onward-of-requires : tie.Need-onward-of-requires Inv-loop μ-loop
 onward-of-requires c κs = tt
@@ -63,16 +64,12 @@ enum-known-m : tie.Need-enum-known-m Inv-loop μ-loop
 enum-known-m c = search needs
 
 same-length : tie.Need-same-length Inv-loop μ-loop
-same-length c = c .before .before .before .before .before .before .before .before .before .before .before .before .before .before .before .before .before .before .before .loop .inv .page-length
+same-length c = c .before .before .before .before .before .before .before .before .before .before .before .before .before .before .before .before .before .before .before .before .before .loop .inv .page-length
 
 returns : tie.Need-returns Inv-loop μ-loop
 unfolding base
 returns c =
-    let st = c .before .before .before .before in
-    let fi = st .before .before .before .before .before .before .before .before .before .before .before .before in
-    let fa = fi .before in
-    let l = fa .before .before in
-    going-stop _ _ _ _ _ _ _ _ _ _ _ (l .loop .inv) (fa .frame-at .result) (fa .frame-at .ensures) (fi .frame-in .result) (fi .frame-in .ensures) (reached st) _ _ _ (st .step .ensures .0) _ (sym (c .before .before .before .onward-of .ensures) ∙ c .before .m .given .1)
+    going-stop _ _ _ _ _ _ _ _ _ _ _ _ (c .before .before .before .before .before .before .before .before .before .before .before .before .before .before .before .before .before .before .before .before .before .loop .inv) (c .before .before .before .before .before .before .before .before .before .before .before .before .before .before .before .before .before .before .before .frame-at .result) (c .before .before .before .before .before .before .before .before .before .before .before .before .before .before .before .before .before .before .before .frame-at .ensures) (c .before .before .before .before .before .before .before .before .before .before .before .before .before .before .before .before .before .before .frame-in .result) (c .before .before .before .before .before .before .before .before .before .before .before .before .before .before .before .before .before .before .frame-in .ensures) (reached (c .before .before .before .before)) _ _ _ _ (c .before .before .before .before .step .ensures .0) _ (sym (c .before .before .before .onward-of .ensures) ∙ c .before .m .given .1)
 
 enum-told : tie.Need-enum-told Inv-loop μ-loop
 enum-told c = search needs
@@ -82,37 +79,28 @@ slice-aggregate-put-adds c = sym (c .before .before .before .before .before .ste
 
 put-adds-requires : tie.Need-put-adds-requires Inv-loop μ-loop
 put-adds-requires c κs =
-    let st = c .before .before .before .before .before in
-    let fi = st .before .before .before .before .before .before .before .before .before .before .before .before in
-    let fa = fi .before in
-    let l = fa .before .before in
-    let a = l .before .before .before .before .before .before .before .before .before .before .before .before .before in
     let go = sym (c .before .before .before .before .onward-of .ensures) ∙ c .before .before .enum-told .given .1 in (
-      going-few _ _ _ _ _ _ _ _ _ _ _ (l .loop .inv) (fa .frame-at .result) (fa .frame-at .ensures) (fi .frame-in .result) (fi .frame-in .ensures) (reached st) _ _ _ (st .step .ensures .0) (st .step .ensures .1) go,
-      st .step .ensures .1,
-      going-room _ _ _ _ _ _ _ _ _ _ _ (l .loop .inv) (fa .frame-at .result) (fa .frame-at .ensures) (fi .frame-in .result) (fi .frame-in .ensures) (reached st) _ _ _ (st .step .ensures .0) (st .step .ensures .1) go (a .pre .1),
+      going-few _ _ _ _ _ _ _ _ _ _ _ _ (c .before .before .before .before .before .before .before .before .before .before .before .before .before .before .before .before .before .before .before .before .before .before .loop .inv) (c .before .before .before .before .before .before .before .before .before .before .before .before .before .before .before .before .before .before .before .before .frame-at .result) (c .before .before .before .before .before .before .before .before .before .before .before .before .before .before .before .before .before .before .before .before .frame-at .ensures) (c .before .before .before .before .before .before .before .before .before .before .before .before .before .before .before .before .before .before .before .frame-in .result) (c .before .before .before .before .before .before .before .before .before .before .before .before .before .before .before .before .before .before .before .frame-in .ensures) (reached (c .before .before .before .before .before)) _ _ _ _ (c .before .before .before .before .before .step .ensures .0) (c .before .before .before .before .before .step .ensures .1) go,
+      c .before .before .before .before .before .step .ensures .1,
+      going-room _ _ _ _ _ _ _ _ _ _ _ _ (c .before .before .before .before .before .before .before .before .before .before .before .before .before .before .before .before .before .before .before .before .before .before .loop .inv) (c .before .before .before .before .before .before .before .before .before .before .before .before .before .before .before .before .before .before .before .before .frame-at .result) (c .before .before .before .before .before .before .before .before .before .before .before .before .before .before .before .before .before .before .before .before .frame-at .ensures) (c .before .before .before .before .before .before .before .before .before .before .before .before .before .before .before .before .before .before .before .frame-in .result) (c .before .before .before .before .before .before .before .before .before .before .before .before .before .before .before .before .before .before .before .frame-in .ensures) (reached (c .before .before .before .before .before)) _ _ _ _ (c .before .before .before .before .before .step .ensures .0) (c .before .before .before .before .before .step .ensures .1) go (c .before .before .before .before .before .before .before .before .before .before .before .before .before .before .before .before .before .before .before .before .before .before .before .before .before .before .before .before .before .before .before .before .before .before .before .pre .1),
     )
 
 add-i : tie.Need-add-i Inv-loop μ-loop
-add-i c = omega (arith, c .before .before .before .before .before .before .before .before .before .before .before .before .before .before .before .before .before .before .before .before .before .before .before .before .loop .inv .early)
+add-i c = omega (arith, c .before .before .before .before .before .before .before .before .before .before .before .before .before .before .before .before .before .before .before .before .before .before .before .before .before .before .loop .inv .early)
 
 loop-less : tie.Need-loop-less Inv-loop μ-loop
-loop-less c = let fa = c .before .before .before .before .before .before .before .before .before .before .before .before .before .before .before .before .before .before .before .before .before .before in omega (arith, fa .frame-at .ensures .forward, fa .frame-at .ensures .within, fa .before .loop-test .taken)
+loop-less c = let fa = c .before .before .before .before .before .before .before .before .before .before .before .before .before .before .before .before .before .before .before .before .before .before .before .before in omega (arith, fa .frame-at .ensures .forward, fa .frame-at .ensures .within, fa .before .loop-test .taken)
 
 loop-again : tie.Need-loop-again Inv-loop μ-loop
 loop-again c =
-    let st = c .before .before .before .before .before .before .before .before .before in
-    let fi = st .before .before .before .before .before .before .before .before .before .before .before .before in
-    let fa = fi .before in
-    let l = fa .before .before in
     let v = c .before .before .before in
-    going-on _ _ _ _ _ _ _ _ _ _ _ (l .loop .inv) (fa .frame-at .result) (fa .frame-at .ensures) (fi .frame-in .result) (fi .frame-in .ensures) (reached st) _ _ _ (st .step .ensures .0) (st .step .ensures .1) (sym (c .before .before .before .before .before .before .before .before .onward-of .ensures) ∙ c .before .before .before .before .before .before .enum-told .given .1) _ _ (v .put-adds .kept .0) (v .put-adds .ensures)
+    going-on _ _ _ _ _ _ _ _ _ _ _ _ (c .before .before .before .before .before .before .before .before .before .before .before .before .before .before .before .before .before .before .before .before .before .before .before .before .before .before .loop .inv) (c .before .before .before .before .before .before .before .before .before .before .before .before .before .before .before .before .before .before .before .before .before .before .before .before .frame-at .result) (c .before .before .before .before .before .before .before .before .before .before .before .before .before .before .before .before .before .before .before .before .before .before .before .before .frame-at .ensures) (c .before .before .before .before .before .before .before .before .before .before .before .before .before .before .before .before .before .before .before .before .before .before .before .frame-in .result) (c .before .before .before .before .before .before .before .before .before .before .before .before .before .before .before .before .before .before .before .before .before .before .before .frame-in .ensures) (reached (c .before .before .before .before .before .before .before .before .before)) _ _ _ _ (c .before .before .before .before .before .before .before .before .before .step .ensures .0) (c .before .before .before .before .before .before .before .before .before .step .ensures .1) (sym (c .before .before .before .before .before .before .before .before .onward-of .ensures) ∙ c .before .before .before .before .before .before .enum-told .given .1) _ _ (v .put-adds .kept .0) (v .put-adds .ensures)
 
 cast-size : tie.Need-cast-size Inv-loop μ-loop
-cast-size c = let l = c .before .before in omega (arith, going-size _ _ _ _ _ _ _ _ _ _ _ (l .loop .inv))
+cast-size c = omega (arith, going-size _ _ _ _ _ _ _ _ _ _ _ _ (c .before .before .loop .inv))
 
 put-size-requires : tie.Need-put-size-requires Inv-loop μ-loop
-put-size-requires c κs = let l = c .before .before .before in let a = l .before .before .before .before .before .before .before .before .before .before .before .before .before in going-last _ _ _ _ _ _ _ _ _ _ _ (l .loop .inv) (a .pre .1)
+put-size-requires c κs = going-last _ _ _ _ _ _ _ _ _ _ _ _ (c .before .before .before .loop .inv) (c .before .before .before .before .before .before .before .before .before .before .before .before .before .before .before .before .pre .1)
 
 same-length-2 : tie.Need-same-length-2 Inv-loop μ-loop
 same-length-2 c = c .before .before .put-size .kept .0 ∙ c .before .before .before .before .before .before .loop .inv .page-length
@@ -120,10 +108,8 @@ same-length-2 c = c .before .before .put-size .kept .0 ∙ c .before .before .be
 returns-2 : tie.Need-returns-2 Inv-loop μ-loop
 unfolding base
 returns-2 c =
-    let l = c .before .before .before .before .before .before in
-    let a = l .before .before .before .before .before .before .before .before .before .before .before .before .before in
     let v = c .before .before in
-    going-end _ _ _ _ _ _ _ _ _ _ _ (l .loop .inv) (c .before .before .before .before .before .loop-test .left) (a .pre .1) _ _ (v .put-size .ensures .0) (v .put-size .kept .0) (v .put-size .ensures .1)
+    going-end _ _ _ _ _ _ _ _ _ _ _ _ (c .before .before .before .before .before .before .loop .inv) (c .before .before .before .before .before .loop-test .left) (c .before .before .before .before .before .before .before .before .before .before .before .before .before .before .before .before .before .before .before .pre .1) _ _ (v .put-size .ensures .0) (v .put-size .kept .0) (v .put-size .ensures .1)
 
 pub steps-spec : {M : Type 1} → statement M
 steps-spec =
