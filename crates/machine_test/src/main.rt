@@ -97,6 +97,19 @@ fn shown() {
     case(b"A21- ", b"0f0002ffff\n900000\n", 6, 14);
 }
 
+// The lines of needs (W-201), which are passed over too, and what isn't one.
+fn needs() {
+    case(
+        b"20.. ",
+        b"200000\n220001\n230000\n23ffff\n240000\n210002\n1000000007\n110000\n25\n900001\n",
+        6,
+        14,
+    );
+    case(b"25+  ", b"250000\n900000\n", 6, 14);
+    case(b"23-  ", b"23\n900000\n", 6, 14);
+    case(b"26   ", b"26\n900000\n", 6, 14);
+}
+
 // Line 2,048, as a size line or not.
 fn late() {
     long(b"A15  ", 2048, b"");
@@ -137,6 +150,7 @@ fn main() {
     malformed();
     sized();
     shown();
+    needs();
     late();
     last();
     obeyed();

@@ -1,4 +1,4 @@
-// Document 01's sessions A to K and its five to run, and scripts of ours: for each its label, what `translate` makes of it, the list or the `ee`
+// Document 01's sessions A to K and its five to run, and scripts of ours, with needs and without: for each its label, what `translate` makes of it, the list or the `ee`
 // line, and behind > what `translate_and_run` prints on a frame of so many cells. LF is shown as /, nothing as -. Of a long list the last two
 // lines are shown.
 use cases::put;
@@ -157,6 +157,81 @@ fn head_above_read() {
     );
 }
 
+// Needs (W-201): the three kinds, and a need's handle written, read and named.
+fn needs() {
+    case(
+        b"N1   ",
+        b"01\n200001\n22\n06\n210000\n230000\n240000\n1000010009\n110001\n0900070001\n120007\n230001\n240001\n230002\n240002\n250000\n250001\n250002\n0f\n",
+        1024,
+        2,
+    );
+    // A second 23 takes no handle: with another one, handle 1 would be the need's, and 0c of it refused.
+    case(b"N2   ", b"200000\n230000\n230000\n06\n0c0001\n", 1024, 2);
+    // A need of root, allocated while a child is the top. If the child owned it, handle 2 would lie over it, and it would print 33.
+    case(
+        b"N3   ",
+        b"200000\n01\n230000\n1000000011\n06\n020001\n06\n1000020033\n110000\n110002\n",
+        1024,
+        2,
+    );
+    // 25 away from its scope keeps the slot. If it went back, handle 1 would lie over it, and it would print 6.
+    case(
+        b"N4   ",
+        b"200000\n230000\n1000000005\n01\n250000\n06\n1000010006\n110000\n",
+        1024,
+        2,
+    );
+    // 25 in its scope gives the slot back.
+    case(
+        b"N5   ",
+        b"200000\n230000\n1000000005\n250000\n0f\n06\n1000010006\n110001\n",
+        1024,
+        1,
+    );
+}
+
+// 13 of a need's handle; 4 of a closed scope, whose index was used again; 18, 21.
+fn needs_refused() {
+    case(b"N13  ", b"200000\n230000\n0c0000\n", 1024, 1);
+    case(b"N4,4 ", b"01\n200001\n020001\n01\n230000\n", 1024, 0);
+    case(b"N18  ", b"200000\n240000\n", 1024, 0);
+    case(b"N21  ", b"22\n250000\n230000\n", 1024, 0);
+}
+
+// On 23 of a deferred need 4, 16, 7: no slot left; no handle left; and neither, in a scope that has closed.
+fn needs_full() {
+    case(b"N7   ", b"080400\n200000\n230000\n", 1024, 1024);
+    case(
+        b"N16  ",
+        b"01\n080400\n020001\n01\n080400\n020002\n200000\n230000\n",
+        1024,
+        1024,
+    );
+    case(
+        b"N16+ ",
+        b"01\n200001\n020001\n01\n080400\n020002\n080400\n230000\n",
+        1024,
+        1024,
+    );
+}
+
+// n needs, and what follows them.
+fn many_needs(label: &[u8], n: usize, tail: &[u8]) {
+    let mut script = [0u8; 256];
+    let w = put_lines(&mut script, 0, b"22\n", n);
+    let end = put(&mut script, w, tail);
+    part(label, &script, end, 0);
+}
+
+// A 65th need, after 4 or 13; freed needs count.
+fn needs_many() {
+    many_needs(b"N64  ", 63, b"22\n230000\n");
+    many_needs(b"N22  ", 64, b"22\n");
+    many_needs(b"N22+ ", 64, b"200001\n");
+    many_needs(b"N22h ", 64, b"210000\n");
+    many_needs(b"N22- ", 64, b"250000\n22\n");
+}
+
 fn main() {
     a_to_f();
     g_to_k();
@@ -165,6 +240,10 @@ fn main() {
     slots();
     names();
     head_above_read();
+    needs();
+    needs_refused();
+    needs_full();
+    needs_many();
     // one cell less than its size
     whole_session(b"C-   ", 2);
 }
