@@ -1,7 +1,7 @@
 //! Faults that can be planted in the model, to see that a comparison finds them.
 
-/// Each is a mistake that a reader of 01 may make; the first four are its "tempting and wrong". `ClearLeavesHead` is 01's own first
-/// wording of `remove`, which W-202 amends: no script shows it, only bare slots do.
+/// Each is a mistake that a reader of 01 or 02 may make; the first four are 01's "tempting and wrong". `ClearLeavesHead` is 01's own
+/// first wording of `remove`, which W-202 amends: no script shows it, only bare slots do. From `NeedHandleFreed` on they are of needs.
 #[derive(Clone, Copy, Debug, PartialEq, Eq)]
 pub enum Fault {
     SearchFromZero,
@@ -22,13 +22,33 @@ pub enum Fault {
     ListOrder,
     TornLineNext,
     UpperCase,
+    /// 0c, 0d and 0e take a need's handle
+    NeedHandleFreed,
+    /// 22 is given before 4 and 13
+    NeedRoomFirst,
+    /// a need that is freed counts no more towards 64
+    FreedNeedMakesRoom,
+    /// a deferred need knows its scope by the index alone
+    NeedScopeByIndex,
+    /// a second 23 takes another slot and another handle
+    NeedAllocatesAgain,
+    /// 23 of an allocated need asks for its scope
+    NeedKeepsScope,
+    /// 24 of an ignored need is refused by 18
+    IgnoreHasNoOutput,
+    /// 25 gives the slot back and leaves the handle's kind
+    NeedLeavesHandle,
+    /// 25 gives the slot back without dangling
+    NeedFreesQuietly,
+    /// 25 of an assigned need frees the handle
+    AssignedFrees,
 }
 
 /// At most one fault.
 pub type Plant = Option<Fault>;
 
 /// All faults by the name that `--plant` takes.
-pub const FAULTS: [(&str, Fault); 18] = [
+pub const FAULTS: [(&str, Fault); 28] = [
     ("search-from-zero", Fault::SearchFromZero),
     ("run-in-gap", Fault::RunInGap),
     ("low-half", Fault::LowHalf),
@@ -47,6 +67,16 @@ pub const FAULTS: [(&str, Fault); 18] = [
     ("list-order", Fault::ListOrder),
     ("torn-line-next", Fault::TornLineNext),
     ("upper-case", Fault::UpperCase),
+    ("need-handle-freed", Fault::NeedHandleFreed),
+    ("need-room-first", Fault::NeedRoomFirst),
+    ("freed-need-makes-room", Fault::FreedNeedMakesRoom),
+    ("need-scope-by-index", Fault::NeedScopeByIndex),
+    ("need-allocates-again", Fault::NeedAllocatesAgain),
+    ("need-keeps-scope", Fault::NeedKeepsScope),
+    ("ignore-has-no-output", Fault::IgnoreHasNoOutput),
+    ("need-leaves-handle", Fault::NeedLeavesHandle),
+    ("need-frees-quietly", Fault::NeedFreesQuietly),
+    ("assigned-frees", Fault::AssignedFrees),
 ];
 
 impl Fault {

@@ -1,6 +1,8 @@
-//! Document 01, "Script frames": a frame, and its text.
+//! Document 01, "Script frames", and W-201 of document 02: a frame, and its text.
 
-/// In the order of the opcodes 01 to 12.
+use crate::NeedNumber;
+
+/// In the order of the opcodes 01 to 12, then 20 to 25.
 #[derive(Clone, Copy, Debug, PartialEq, Eq)]
 pub enum Frame {
     Child,
@@ -21,6 +23,12 @@ pub enum Frame {
     Write { handle: u16, value: u16 },
     Read(u16),
     ReadName(u16),
+    Defer(u16),
+    Assigned(u16),
+    Ignore,
+    AllocNeed(NeedNumber),
+    Output(NeedNumber),
+    FreeNeed(NeedNumber),
 }
 
 impl Frame {
@@ -44,6 +52,12 @@ impl Frame {
             Frame::Write { .. } => 0x10,
             Frame::Read(_) => 0x11,
             Frame::ReadName(_) => 0x12,
+            Frame::Defer(_) => 0x20,
+            Frame::Assigned(_) => 0x21,
+            Frame::Ignore => 0x22,
+            Frame::AllocNeed(_) => 0x23,
+            Frame::Output(_) => 0x24,
+            Frame::FreeNeed(_) => 0x25,
         }
     }
 
@@ -74,17 +88,30 @@ impl Frame {
             },
             (0x11, [h]) => Frame::Read(*h),
             (0x12, [name]) => Frame::ReadName(*name),
+            _ => return Frame::of_needs(opcode, operands),
+        })
+    }
+
+    fn of_needs(opcode: u8, operands: &[u16]) -> Option<Frame> {
+        Some(match (opcode, operands) {
+            (0x20, [s]) => Frame::Defer(*s),
+            (0x21, [h]) => Frame::Assigned(*h),
+            (0x22, []) => Frame::Ignore,
+            (0x23, [n]) => Frame::AllocNeed(NeedNumber(*n)),
+            (0x24, [n]) => Frame::Output(NeedNumber(*n)),
+            (0x25, [n]) => Frame::FreeNeed(NeedNumber(*n)),
             _ => return None,
         })
     }
 
     fn operands(&self) -> Vec<u16> {
         match *self {
-            Frame::Child | Frame::PopLast | Frame::Alloc | Frame::Drain => vec![],
+            Frame::Child | Frame::PopLast | Frame::Alloc | Frame::Drain | Frame::Ignore => vec![],
             Frame::Pop(x) | Frame::Dangle(x) | Frame::Restore(x) | Frame::AllocIn(x) => vec![x],
             Frame::Linear(x) | Frame::Get(x) | Frame::Take(x) | Frame::Free(x) => vec![x],
             Frame::FreeQuietly(x) | Frame::Forget(x) | Frame::Read(x) => vec![x],
-            Frame::ReadName(x) => vec![x],
+            Frame::ReadName(x) | Frame::Defer(x) | Frame::Assigned(x) => vec![x],
+            Frame::AllocNeed(n) | Frame::Output(n) | Frame::FreeNeed(n) => vec![n.0],
             Frame::Define { name, handle } => vec![name, handle],
             Frame::Write { handle, value } => vec![handle, value],
         }

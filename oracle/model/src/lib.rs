@@ -1,4 +1,4 @@
-//! A plain reading of document 01: no thought of speed or of proof, only of its words. It is a witness of its own in
+//! A plain reading of document 01, and of what landed of document 02: no thought of speed or of proof, only of its words. It is a witness of its own in
 //! comparisons, and it knows the refusals that the original doesn't (handles, held and written marks, room limits).
 
 mod address_set;
@@ -16,7 +16,9 @@ pub use frame::Frame;
 pub use list::{print_refusal, write_list, Line};
 pub use machine::{read_list, run, runner};
 pub use scopes::{Id, Scopes};
-pub use session::{play, translate, translate_with, translator, translator_with, Session};
+pub use session::{
+    play, translate, translate_with, translator, translator_with, NeedNumber, Session,
+};
 pub use slots::{Slots, SEGMENT, SEGMENTS, SLOTS};
 pub use text::read_script;
 
@@ -24,6 +26,8 @@ pub use text::read_script;
 pub const LINES: usize = 2048;
 /// See [`LINES`].
 pub const HANDLES: usize = 2048;
+/// "Needs are numbered from 0, at most 64 in a script." (W-201)
+pub const NEEDS: usize = 64;
 /// "Text buffers: 32,768 bytes; a program refuses longer input by 17."
 pub const BUFFER: usize = 32768;
 

@@ -12,12 +12,14 @@ fn size_line(line: &RawLine<'_>) -> Option<u16> {
 }
 
 /// "01 adds its number; 06, 07, 0a, 0b add the address; 08 the first address or `ffff`; 0f a count and the addresses;
-/// 10 is address and value; 11 and 12 the address; others the opcode only."
+/// 10 is address and value; 11 and 12 the address; others the opcode only." W-201: "20 to 22 answer the need's number; 23
+/// and 24 the address, or `ffff` for none or discard."
 fn list_line(line: &RawLine<'_>) -> Option<Line> {
     let (opcode, operands) = parts(line, None)?;
     let right = match opcode {
         0x01 | 0x06 | 0x07 | 0x08 | 0x0a | 0x0b | 0x11 | 0x12 => operands.len() == 1,
-        0x02..=0x05 | 0x09 | 0x0c | 0x0d | 0x0e => operands.is_empty(),
+        0x20..=0x24 => operands.len() == 1,
+        0x02..=0x05 | 0x09 | 0x0c | 0x0d | 0x0e | 0x25 => operands.is_empty(),
         0x0f => operands.first().map(|n| usize::from(*n) + 1) == Some(operands.len()),
         0x10 => operands.len() == 2,
         _ => false,

@@ -97,6 +97,11 @@ impl Scopes {
             .ok_or(4)
     }
 
+    /// The id of the live scope at an index.
+    pub fn id_at(&self, index: usize) -> Option<Id> {
+        self.live.get(index)?.as_ref().map(|scope| scope.id)
+    }
+
     fn at(&self, index: usize) -> &Scope {
         self.live[index].as_ref().expect("a live scope")
     }

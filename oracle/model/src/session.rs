@@ -1,5 +1,11 @@
 //! Document 01, "Script frames": handles, one step of a script, and translate.
 
+mod needs;
+
+pub use needs::NeedNumber;
+
+use needs::Need;
+
 use crate::fault::{Fault, Plant};
 use crate::scopes::Binding;
 use crate::{
@@ -31,6 +37,8 @@ struct Handle {
 pub struct Session {
     pub scopes: Scopes,
     handles: Vec<Handle>,
+    /// by number
+    needs: Vec<Need>,
     /// a root Scope handle was freed after 05
     pub root_freed_late: bool,
     plant: Plant,
@@ -43,6 +51,7 @@ impl Session {
         Session {
             scopes: Scopes::new(plant),
             handles: Vec::new(),
+            needs: Vec::new(),
             root_freed_late: false,
             plant,
         }
@@ -86,6 +95,12 @@ impl Session {
             Frame::Write { handle, value } => self.write(handle.into(), value),
             Frame::Read(h) => self.read(h.into()),
             Frame::ReadName(name) => self.read_name(name),
+            Frame::Defer(s) => self.defer(s),
+            Frame::Assigned(h) => self.assigned(h.into()),
+            Frame::Ignore => self.ignore(),
+            Frame::AllocNeed(n) => self.alloc_need(n),
+            Frame::Output(n) => self.output(n),
+            Frame::FreeNeed(n) => self.free_need(n),
         };
         operands.map(|operands| Line { opcode, operands })
     }
@@ -129,10 +144,15 @@ impl Session {
     /// 4, 16, 7
     fn alloc_in(&mut self, number: u16) -> Step {
         let owner = self.scopes.numbered(number)?;
+        Ok(vec![self.alloc_for(owner)? as u16])
+    }
+
+    /// A slot for a live scope, and its handle: 16, 7
+    fn alloc_for(&mut self, owner: Id) -> Result<usize, u8> {
         self.room_for(1)?;
         let address = self.scopes.alloc(owner)?;
         self.hand_out(address, owner, Kind::Scope(owner));
-        Ok(vec![address as u16])
+        Ok(address)
     }
 
     /// 3, 16, 7
@@ -205,7 +225,14 @@ impl Session {
 
     /// "free 13, then where a slot goes back 14, 12"
     fn free(&mut self, handle: usize, dangling: bool) -> Step {
-        let Handle { address, kind, .. } = self.unspent(handle)?;
+        self.unowned(handle)?;
+        self.free_handle(handle, dangling)?;
+        Ok(vec![])
+    }
+
+    /// Where a slot goes back 14, 12
+    fn free_handle(&mut self, handle: usize, dangling: bool) -> Result<(), u8> {
+        let Handle { address, kind, .. } = self.known(handle)?;
         if self.goes_back(kind) {
             if self.plant != Some(Fault::FreeByAddress) {
                 self.held(handle)?;
@@ -216,12 +243,12 @@ impl Session {
         let of_root = matches!(kind, Kind::Scope(id) if id.index == 0);
         self.root_freed_late |= of_root && self.scopes.top().is_err();
         self.handles[handle].kind = Kind::Freed;
-        Ok(vec![])
+        Ok(())
     }
 
     /// "forget makes the kind Freed and keeps the slot"; 13
     fn forget(&mut self, handle: usize) -> Step {
-        self.unspent(handle)?;
+        self.unowned(handle)?;
         self.handles[handle].kind = Kind::Freed;
         Ok(vec![])
     }
