@@ -44,6 +44,10 @@ impl Output {
     pub(crate) fn discard() -> Self {
         Output(None)
     }
+
+    pub(crate) fn as_addr(&self) -> Option<InstAddress> {
+        self.0.map(InstAddress)
+    }
 }
 
 impl fmt::Debug for Output {

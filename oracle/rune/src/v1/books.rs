@@ -61,6 +61,9 @@ pub(super) trait Beside {
 
     /// The number of a scope, of which so many were opened before.
     fn number(&self, id: ScopeId, before: usize) -> usize;
+
+    /// Two ways to ask the original one thing agree.
+    fn agree(&self, told: impl FnOnce() -> bool);
 }
 
 /// Nobody is told: the original by itself, for measurements.
@@ -82,6 +85,8 @@ impl Beside for Nobody {
     fn number(&self, _: ScopeId, before: usize) -> usize {
         before
     }
+
+    fn agree(&self, _: impl FnOnce() -> bool) {}
 }
 
 impl Books {
@@ -164,5 +169,9 @@ impl Beside for Books {
         let shown = id.to_string();
         let number = shown.split(':').nth(1).and_then(|n| n.parse().ok());
         number.expect("the number of an id")
+    }
+
+    fn agree(&self, told: impl FnOnce() -> bool) {
+        assert!(told(), "the original contradicts itself");
     }
 }

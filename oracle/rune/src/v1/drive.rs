@@ -1,6 +1,9 @@
 //! Drives the original through the frames of a script, step by step, and writes its list.
 
+mod needs;
+
 use model::Frame;
+use needs::Need;
 
 use super::books::{Beside, Books, Held, Shared};
 use super::{Address, Any, DanglingScope, ScopeHandle, ScopeId, Scopes};
@@ -11,6 +14,7 @@ use crate::hir::Variable;
 use crate::query::Query;
 use crate::runtime::InstAddress;
 use crate::SourceId;
+use std::mem::replace;
 
 /// Why the original went no further.
 #[derive(Clone, Debug, PartialEq, Eq)]
@@ -37,12 +41,20 @@ pub struct Driven {
     pub held: Vec<Held>,
 }
 
+/// Where the address of a handle is.
+enum Place<'a> {
+    Here(Address<'a, 'static>),
+    /// in the need of this number, which has it for its own
+    Need(usize),
+    /// it was freed or forgotten: the original takes it by value
+    Gone,
+}
+
 struct Handle<'a> {
     slot: usize,
     /// the scope of an address of kind Scope
     scope: Option<ScopeId>,
-    /// none once it was freed or forgotten: the original takes it by value
-    address: Option<Address<'a, 'static>>,
+    place: Place<'a>,
 }
 
 pub(super) struct Driver<'a, B> {
@@ -51,6 +63,8 @@ pub(super) struct Driver<'a, B> {
     /// by number
     ids: Vec<ScopeId>,
     handles: Vec<Handle<'a>>,
+    /// by number
+    needs: Vec<Need<'a>>,
     books: B,
     root_closed: bool,
     root_freed_late: Option<usize>,
@@ -82,6 +96,7 @@ impl<'a, B: Beside> Driver<'a, B> {
             query: Query::default(),
             ids: vec![scopes.top_id()],
             handles: Vec::new(),
+            needs: Vec::new(),
             books,
             root_closed: false,
             root_freed_late: None,
@@ -117,6 +132,12 @@ impl<'a, B: Beside> Driver<'a, B> {
             Frame::Drain => self.drain(),
             Frame::Write { handle, value } => self.write(handle, value),
             Frame::Read(h) => Ok(Shown::One(self.handle(h)?.slot)),
+            Frame::Defer(s) => self.defer(s),
+            Frame::Assigned(h) => self.assigned(h),
+            Frame::Ignore => self.ignore(),
+            Frame::AllocNeed(n) => self.alloc_need(n),
+            Frame::Output(n) => self.output(n),
+            Frame::FreeNeed(n) => self.free_need(n),
         }
     }
 
@@ -133,9 +154,10 @@ impl<'a, B: Beside> Driver<'a, B> {
     /// The address goes to the original, and is gone.
     fn spend(&mut self, handle: u16) -> Result<(Option<ScopeId>, Address<'a, 'static>), Stop> {
         let found = self.handle(handle)?;
-        match found.address.take() {
-            Some(address) => Ok((found.scope, address)),
-            None => Err(Stop::Untold("the address was freed or forgotten")),
+        match replace(&mut found.place, Place::Gone) {
+            Place::Here(address) => Ok((found.scope, address)),
+            Place::Need(_) => Err(Stop::Untold("the address is inside a need")),
+            Place::Gone => Err(Stop::Untold("the address was freed or forgotten")),
         }
     }
 
@@ -172,15 +194,10 @@ impl<'a, B: Beside> Driver<'a, B> {
         Ok(Shown::Nothing)
     }
 
-    fn hand_out(&mut self, owner: ScopeId, scope: Option<ScopeId>, address: Address<'a, 'static>) {
-        let slot = address.addr().offset();
+    fn hand_out(&mut self, owner: ScopeId, slot: usize, scope: Option<ScopeId>, place: Place<'a>) {
         let handle = self.handles.len();
         self.books.gain(self.line, owner, slot, handle);
-        self.handles.push(Handle {
-            slot,
-            scope,
-            address: Some(address),
-        });
+        self.handles.push(Handle { slot, scope, place });
     }
 
     /// The second `Slots` gave the same.
@@ -195,7 +212,7 @@ impl<'a, B: Beside> Driver<'a, B> {
         let address = self.scopes.alloc(&SPAN)?;
         let slot = address.addr().offset();
         self.inserted(slot);
-        self.hand_out(owner, None, address);
+        self.hand_out(owner, slot, None, Place::Here(address));
         Ok(Shown::One(slot))
     }
 
@@ -207,7 +224,7 @@ impl<'a, B: Beside> Driver<'a, B> {
         let address = need.into_addr()?;
         let slot = address.addr().offset();
         self.inserted(slot);
-        self.hand_out(id, Some(id), address);
+        self.hand_out(id, slot, Some(id), Place::Here(address));
         Ok(Shown::One(slot))
     }
 
@@ -221,30 +238,34 @@ impl<'a, B: Beside> Driver<'a, B> {
             _ => self.books.push(first, n),
         }
         for address in run {
-            self.hand_out(owner, None, address);
+            let slot = address.addr().offset();
+            self.hand_out(owner, slot, None, Place::Here(address));
         }
         Ok(Shown::One(first))
     }
 
     /// Where there is no address to hand over, another one asks whether there is a top at all.
     fn define(&mut self, name: u16, handle: u16) -> Step {
-        let scopes = self.scopes;
-        let found = self.handle(handle).map(|h| h.address.as_ref());
-        if let Ok(Some(address)) = found {
-            scopes.define(&SPAN, Variable(name), address)?;
+        if let Some(address) = self.address(handle) {
+            self.scopes.define(&SPAN, Variable(name), address)?;
             return Ok(Shown::Nothing);
         }
-        let other = Address::assigned(&SPAN, scopes, InstAddress::new(0));
-        scopes.define(&SPAN, Variable(name), &other)?;
+        let other = Address::assigned(&SPAN, self.scopes, InstAddress::new(0));
+        self.scopes.define(&SPAN, Variable(name), &other)?;
         Err(Stop::Untold("the address is unknown, freed or forgotten"))
+    }
+
+    fn address(&self, handle: u16) -> Option<&Address<'a, 'static>> {
+        match &self.handles.get(usize::from(handle))?.place {
+            Place::Here(address) => Some(address),
+            Place::Need(n) => self.needs[*n].address(),
+            Place::Gone => None,
+        }
     }
 
     fn free(&mut self, handle: u16, dangling: bool) -> Step {
         let (scope, address) = self.spend(handle)?;
-        if self.root_closed && scope == Some(self.ids[0]) {
-            self.root_freed_late.get_or_insert(self.line);
-        }
-        let goes_back = scope.is_none_or(|scope| scope == self.scopes.top_id());
+        let goes_back = self.goes_back(scope);
         match dangling {
             true => address.free()?,
             false => address.free_non_dangling()?,
@@ -255,6 +276,14 @@ impl<'a, B: Beside> Driver<'a, B> {
         Ok(Shown::Nothing)
     }
 
+    /// Does the original give the slot of such an address back?
+    fn goes_back(&mut self, scope: Option<ScopeId>) -> bool {
+        if self.root_closed && scope == Some(self.ids[0]) {
+            self.root_freed_late.get_or_insert(self.line);
+        }
+        scope.is_none_or(|scope| scope == self.scopes.top_id())
+    }
+
     fn drain(&mut self) -> Step {
         let mut drained = List::new();
         self.scopes
@@ -263,12 +292,19 @@ impl<'a, B: Beside> Driver<'a, B> {
         Ok(Shown::Drained(drained))
     }
 
+    /// A write makes a Dangling address Local, as allocating it does.
     fn write(&mut self, handle: u16, value: u16) -> Step {
-        let found = self.handle(handle)?;
-        if let Some(address) = &mut found.address {
-            address.alloc_addr()?;
+        let slot = self.handle(handle)?.slot;
+        match &mut self.handles[usize::from(handle)].place {
+            Place::Here(address) => {
+                address.alloc_addr()?;
+            }
+            Place::Need(n) => {
+                self.needs[*n].allocate()?;
+            }
+            Place::Gone => {}
         }
-        Ok(Shown::Two(found.slot, value.into()))
+        Ok(Shown::Two(slot, value.into()))
     }
 }
 
