@@ -53,7 +53,7 @@ fn at_the_limits(rng: &mut Rng) -> Vec<u8> {
 pub fn text(rng: &mut Rng) -> Vec<u8> {
     let mut text = match rng.below(20) {
         0 => at_the_limits(rng),
-        _ => Frame::script(&random::script(rng).frames),
+        _ => Frame::script(&random::any(rng).frames),
     };
     for _ in 0..rng.below(4) {
         damage_once(rng, &mut text);

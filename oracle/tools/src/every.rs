@@ -1,9 +1,9 @@
 //! Every script of up to so many frames over a small alphabet. A script that goes on after a refused frame says nothing
 //! new (its answer is fixed by then, and after a refusal nothing is compared), so it isn't made.
 
-use model::{Frame, Session};
+use model::{Frame, NeedNumber, Session};
 
-/// All eighteen frames, 37 of them: two scopes besides root, two names, three handles, runs of 0 to 2.
+/// All eighteen frames of 01, 37 of them: two scopes besides root, two names, three handles, runs of 0 to 2.
 pub fn alphabet() -> Vec<Frame> {
     let mut all = vec![Frame::Child, Frame::PopLast, Frame::Alloc, Frame::Drain];
     for s in 0..3 {
@@ -32,6 +32,28 @@ pub fn wide_alphabet() -> Vec<Frame> {
     all.extend([Frame::Pop(1), Frame::Pop(2), Frame::Dangle(1)]);
     all.extend([0, 1, 126, 127, 128, 256].map(Frame::Free));
     all.extend([Frame::Drain, Frame::PopLast]);
+    all
+}
+
+/// The frames of needs, and those of 01 that meet a need's handle, its scope or its slot: 31.
+pub fn needs_alphabet() -> Vec<Frame> {
+    let mut all = vec![Frame::Child, Frame::PopLast, Frame::Alloc, Frame::Drain];
+    all.extend([Frame::Pop(1), Frame::Pop(2), Frame::AllocIn(1)]);
+    all.extend([Frame::Dangle(1), Frame::Restore(1), Frame::Ignore]);
+    for n in 0..2 {
+        all.extend([Frame::Defer(n), Frame::Assigned(n)]);
+        let need = NeedNumber(n);
+        all.extend([Frame::AllocNeed(need), Frame::Output(need)]);
+        all.push(Frame::FreeNeed(need));
+        all.extend([Frame::Free(n), Frame::Read(n)]);
+        all.push(Frame::Write {
+            handle: n,
+            value: 255,
+        });
+    }
+    all.extend([Frame::FreeQuietly(0), Frame::Forget(0)]);
+    all.push(Frame::Define { name: 7, handle: 0 });
+    all.extend([Frame::Get(7), Frame::ReadName(7)]);
     all
 }
 

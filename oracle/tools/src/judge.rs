@@ -168,12 +168,15 @@ fn accepted(frames: &[Frame], list: &[u8], plant: Option<OriginalFault>) -> Verd
 }
 
 /// "A step refused by 10, 11 or 12, by 3 (but not child) or by 4 for a closed scope on pop, dangle or alloc in is refused
-/// there too."
+/// there too." So is 23 by 4, which is an alloc in, and 24 by 18.
 fn refused_there_too(number: u8, frame: Frame) -> bool {
     match number {
-        10..=12 => true,
+        10..=12 | 18 => true,
         3 => frame != Frame::Child,
-        4 => matches!(frame, Frame::Pop(_) | Frame::Dangle(_) | Frame::AllocIn(_)),
+        4 => matches!(
+            frame,
+            Frame::Pop(_) | Frame::Dangle(_) | Frame::AllocIn(_) | Frame::AllocNeed(_)
+        ),
         _ => false,
     }
 }

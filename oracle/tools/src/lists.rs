@@ -10,12 +10,14 @@ fn line(rng: &mut Rng, size: usize) -> String {
         0 => size + rng.below(2),
         _ => rng.below(size),
     };
-    match rng.below(6) {
+    match rng.below(8) {
         0 | 1 => format!("10{address:04x}{:04x}\n", rng.below(65536)),
         2 => format!("11{address:04x}\n"),
         3 => format!("12{address:04x}\n"),
         4 => format!("0f0001{:04x}\n", rng.below(65536)),
-        _ => format!("06{:04x}\n", rng.below(65536)),
+        5 => format!("06{:04x}\n", rng.below(65536)),
+        6 => "25\n".into(),
+        _ => format!("2{}{:04x}\n", rng.below(5), rng.below(65536)),
     }
 }
 
@@ -38,7 +40,7 @@ fn by_chance(rng: &mut Rng) -> Vec<u8> {
 
 pub fn list(rng: &mut Rng) -> Vec<u8> {
     let mut list = match rng.below(3) {
-        0 => model::translator(&Frame::script(&random::script(rng).frames)),
+        0 => model::translator(&Frame::script(&random::any(rng).frames)),
         _ => by_chance(rng),
     };
     if rng.once_in(3) {

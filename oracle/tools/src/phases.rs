@@ -4,7 +4,7 @@ use crate::bare::{self, BareTally, Call, End, Player};
 use crate::comparison::Comparison;
 use crate::ours::Ours;
 use crate::rng::Rng;
-use crate::{bare_calls, damage, every, lists, random};
+use crate::{bare_calls, damage, every, lists, random, sessions};
 use model::Frame;
 use std::collections::BTreeMap;
 
@@ -20,13 +20,14 @@ pub fn every_script(comparison: &mut Comparison, alphabet: &[Frame], longest: us
 /// Says how many scripts each profile gave.
 pub fn random_scripts(
     comparison: &mut Comparison,
+    source: random::Source,
     count: u64,
     seed: u64,
 ) -> BTreeMap<&'static str, u64> {
     let mut rng = Rng::new(seed);
     let mut profiles = BTreeMap::new();
     for _ in 0..count {
-        let mut made = random::script(&mut rng);
+        let mut made = source(&mut rng);
         *profiles.entry(made.profile).or_default() += 1;
         let mut more = comparison.offer(Frame::script(&made.frames));
         if made.refused {
@@ -39,6 +40,15 @@ pub fn random_scripts(
     }
     comparison.settle();
     profiles
+}
+
+/// 01's sessions and those of needs.
+pub fn fixed_scripts(comparison: &mut Comparison) {
+    let all = sessions::sessions().into_iter().chain(sessions::needs());
+    for script in all {
+        comparison.offer(script);
+    }
+    comparison.settle();
 }
 
 /// Damaged texts: by the model only, since the original reads none.

@@ -1,8 +1,8 @@
 //! Scripts made by chance. A session of the model goes along, so that most frames are accepted and scripts get long.
 
-use crate::profile::{length, Profile, PROFILES};
+use crate::profile::{length, opcode, Profile, PROFILES, WITH_NEEDS};
 use crate::rng::Rng;
-use model::{Frame, Session};
+use model::{Frame, NeedNumber, Session};
 
 pub struct Made {
     pub profile: &'static str,
@@ -22,9 +22,29 @@ struct Maker<'a> {
     inside: bool,
 }
 
-/// One script; nine of ten stay where the Rust is the oracle.
+/// How a script by chance is made.
+pub type Source = fn(&mut Rng) -> Made;
+
+/// One script of 01's frames; nine of ten stay where the Rust is the oracle.
 pub fn script(rng: &mut Rng) -> Made {
-    let profile = &PROFILES[rng.below(PROFILES.len())];
+    by_profile(rng, &PROFILES)
+}
+
+/// The same with needs.
+pub fn with_needs(rng: &mut Rng) -> Made {
+    by_profile(rng, &WITH_NEEDS)
+}
+
+/// One or the other.
+pub fn any(rng: &mut Rng) -> Made {
+    match rng.once_in(3) {
+        true => with_needs(rng),
+        false => script(rng),
+    }
+}
+
+fn by_profile(rng: &mut Rng, profiles: &'static [Profile]) -> Made {
+    let profile = &profiles[rng.below(profiles.len())];
     let frames = length(rng);
     let inside = !rng.once_in(10);
     let mut maker = Maker {
@@ -75,7 +95,10 @@ impl Maker<'_> {
     /// Would this frame leave the domain?
     fn leaves(&self, frame: Frame) -> bool {
         let slots = &self.session.scopes.slots;
-        let inserts = matches!(frame, Frame::Alloc | Frame::AllocIn(_) | Frame::Linear(1));
+        let inserts = matches!(
+            frame,
+            Frame::Alloc | Frame::AllocIn(_) | Frame::Linear(1) | Frame::AllocNeed(_)
+        );
         self.inside && inserts && slots.head() > slots.length()
     }
 
@@ -103,7 +126,7 @@ impl Maker<'_> {
     }
 
     fn frame(&mut self) -> Frame {
-        match self.rng.weighted(&self.profile.weights) + 1 {
+        match opcode(self.rng.weighted(&self.profile.weights)) {
             0x01 => Frame::Child,
             0x02 => Frame::Pop(self.scope()),
             0x03 => Frame::Dangle(self.scope()),
@@ -127,7 +150,13 @@ impl Maker<'_> {
                 value: self.rng.draw() as u16,
             },
             0x11 => Frame::Read(self.handle()),
-            _ => Frame::ReadName(self.name()),
+            0x12 => Frame::ReadName(self.name()),
+            0x20 => Frame::Defer(self.scope()),
+            0x21 => Frame::Assigned(self.handle()),
+            0x22 => Frame::Ignore,
+            0x23 => Frame::AllocNeed(self.need()),
+            0x24 => Frame::Output(self.need()),
+            _ => Frame::FreeNeed(self.need()),
         }
     }
 
@@ -141,26 +170,32 @@ impl Maker<'_> {
         n as u16
     }
 
-    /// Mostly a live one.
-    fn scope(&mut self) -> u16 {
-        let mut s = self.of(self.scopes);
+    /// Mostly a good one.
+    fn mostly(&mut self, count: usize, good: fn(&Session, u16) -> bool) -> u16 {
+        let mut n = self.of(count);
         for _ in 0..self.rng.below(12) {
-            if self.session.scopes.numbered(s).is_err() {
-                s = self.of(self.scopes);
+            if !good(&self.session, n) {
+                n = self.of(count);
             }
         }
-        s
+        n
+    }
+
+    /// Mostly a live one.
+    fn scope(&mut self) -> u16 {
+        self.mostly(self.scopes, |session, s| session.scopes.numbered(s).is_ok())
     }
 
     /// Mostly one that is held.
     fn handle(&mut self) -> u16 {
-        let mut h = self.of(self.session.handed());
-        for _ in 0..self.rng.below(12) {
-            if !self.session.usable(h.into()) {
-                h = self.of(self.session.handed());
-            }
-        }
-        h
+        let handed = self.session.handed();
+        self.mostly(handed, |session, h| session.usable(h.into()))
+    }
+
+    /// Mostly one that isn't freed.
+    fn need(&mut self) -> NeedNumber {
+        let needed = self.session.needed();
+        NeedNumber(self.mostly(needed, |session, n| session.has_need(NeedNumber(n))))
     }
 
     fn name(&mut self) -> u16 {

@@ -1,6 +1,6 @@
 //! Makes a script that shows a difference small.
 
-use model::Frame;
+use model::{Frame, NeedNumber};
 
 type Shows<'a> = &'a mut dyn FnMut(&[u8]) -> bool;
 
@@ -56,14 +56,11 @@ fn fewer_frames(mut frames: Vec<Frame>, shows: Shows<'_>) -> Vec<Frame> {
     frames
 }
 
-/// Without some frames: later handles and scopes are renumbered, or left as they are.
+/// Without some frames: later handles, scopes and needs are renumbered, or left as they are.
 fn without(frames: &[Frame], at: usize, size: usize, shows: Shows<'_>) -> Option<Vec<Frame>> {
     let end = (at + size).min(frames.len());
-    let (handles_before, scopes_before) = handed(&frames[..at]);
-    let (handles, scopes) = handed(&frames[at..end]);
-    let renumbered = frames[end..]
-        .iter()
-        .map(|f| renumber(*f, (handles_before, handles), (scopes_before + 1, scopes)));
+    let gone = Handed::by(&frames[..at]).gone(&Handed::by(&frames[..end]));
+    let renumbered = frames[end..].iter().map(|f| renumber(*f, &gone));
     let renumbered: Vec<Frame> = frames[..at].iter().copied().chain(renumbered).collect();
     let plain: Vec<Frame> = [&frames[..at], &frames[end..]].concat();
     [renumbered, plain]
@@ -71,43 +68,89 @@ fn without(frames: &[Frame], at: usize, size: usize, shows: Shows<'_>) -> Option
         .find(|fewer| shows(&Frame::script(fewer)))
 }
 
-/// How many handles and scopes the frames hand out.
-fn handed(frames: &[Frame]) -> (u16, u16) {
-    let (mut handles, mut scopes) = (0u16, 0u16);
-    for frame in frames {
+/// How many handles, scopes and needs some frames hand out; of each need, whether it is deferred still.
+#[derive(Default)]
+struct Handed {
+    handles: u16,
+    scopes: u16,
+    deferred: Vec<bool>,
+}
+
+impl Handed {
+    fn by(frames: &[Frame]) -> Handed {
+        let mut handed = Handed::default();
+        for frame in frames {
+            handed.after(*frame);
+        }
+        handed
+    }
+
+    fn after(&mut self, frame: Frame) {
         match frame {
-            Frame::Alloc | Frame::AllocIn(_) => handles = handles.saturating_add(1),
-            Frame::Linear(n) => handles = handles.saturating_add(*n),
-            Frame::Child => scopes += 1,
+            Frame::Alloc | Frame::AllocIn(_) => self.handles = self.handles.saturating_add(1),
+            Frame::Linear(n) => self.handles = self.handles.saturating_add(n),
+            Frame::Child => self.scopes += 1,
+            Frame::Defer(_) => self.deferred.push(true),
+            Frame::Assigned(_) | Frame::Ignore => self.deferred.push(false),
+            Frame::AllocNeed(NeedNumber(n)) => {
+                let first = self.deferred.get_mut(usize::from(n)).map(std::mem::take);
+                let more = u16::from(first == Some(true));
+                self.handles = self.handles.saturating_add(more);
+            }
             _ => {}
         }
     }
-    (handles, scopes)
+
+    /// What is handed out from here until there.
+    fn gone(&self, until: &Handed) -> Gone {
+        let needs = |handed: &Handed| handed.deferred.len() as u16;
+        Gone {
+            handles: (self.handles, until.handles - self.handles),
+            scopes: (self.scopes + 1, until.scopes - self.scopes),
+            needs: (needs(self), needs(until) - needs(self)),
+        }
+    }
+}
+
+/// Of each kind the first number that is gone, and how many are.
+#[derive(Default)]
+struct Gone {
+    handles: (u16, u16),
+    scopes: (u16, u16),
+    needs: (u16, u16),
 }
 
 /// A number from `first + gone` on becomes less by `gone`.
-fn renumber(frame: Frame, handles: (u16, u16), scopes: (u16, u16)) -> Frame {
+fn renumber(frame: Frame, gone: &Gone) -> Frame {
     let less = |n: u16, (first, gone): (u16, u16)| match n.checked_sub(gone) {
         Some(m) if m >= first => m,
         _ => n,
     };
+    let scope = |s| less(s, gone.scopes);
+    let known = |h| less(h, gone.handles);
+    let need = |NeedNumber(n)| NeedNumber(less(n, gone.needs));
     match frame {
-        Frame::Pop(s) => Frame::Pop(less(s, scopes)),
-        Frame::Dangle(s) => Frame::Dangle(less(s, scopes)),
-        Frame::Restore(s) => Frame::Restore(less(s, scopes)),
-        Frame::AllocIn(s) => Frame::AllocIn(less(s, scopes)),
+        Frame::Pop(s) => Frame::Pop(scope(s)),
+        Frame::Dangle(s) => Frame::Dangle(scope(s)),
+        Frame::Restore(s) => Frame::Restore(scope(s)),
+        Frame::AllocIn(s) => Frame::AllocIn(scope(s)),
         Frame::Define { name, handle } => Frame::Define {
             name,
-            handle: less(handle, handles),
+            handle: known(handle),
         },
-        Frame::Free(h) => Frame::Free(less(h, handles)),
-        Frame::FreeQuietly(h) => Frame::FreeQuietly(less(h, handles)),
-        Frame::Forget(h) => Frame::Forget(less(h, handles)),
+        Frame::Free(h) => Frame::Free(known(h)),
+        Frame::FreeQuietly(h) => Frame::FreeQuietly(known(h)),
+        Frame::Forget(h) => Frame::Forget(known(h)),
         Frame::Write { handle, value } => Frame::Write {
-            handle: less(handle, handles),
+            handle: known(handle),
             value,
         },
-        Frame::Read(h) => Frame::Read(less(h, handles)),
+        Frame::Read(h) => Frame::Read(known(h)),
+        Frame::Defer(s) => Frame::Defer(scope(s)),
+        Frame::Assigned(h) => Frame::Assigned(known(h)),
+        Frame::AllocNeed(n) => Frame::AllocNeed(need(n)),
+        Frame::Output(n) => Frame::Output(need(n)),
+        Frame::FreeNeed(n) => Frame::FreeNeed(need(n)),
         other => other,
     }
 }
@@ -134,6 +177,9 @@ fn simpler(frame: Frame) -> Vec<Frame> {
             .map(|handle| Frame::Define { name, handle })
             .collect(),
         Frame::Write { handle, value } if value > 0 => vec![Frame::Write { handle, value: 0 }],
+        Frame::Assigned(h) => each(h, Frame::Assigned),
+        Frame::Defer(s) if s > 0 => vec![Frame::Defer(0), Frame::Ignore],
+        Frame::Defer(_) => vec![Frame::Ignore],
         _ => vec![],
     }
 }
@@ -143,10 +189,12 @@ fn smaller_numbers(mut frames: Vec<Frame>, shows: Shows<'_>) -> Vec<Frame> {
         for frame in simpler(frames[at]) {
             let mut smaller = frames.clone();
             if let (Frame::Linear(n), Frame::Linear(m)) = (frames[at], frame) {
-                let (handles, _) = handed(&frames[..at]);
-                let gone = (handles + m, n - m);
+                let gone = Gone {
+                    handles: (Handed::by(&frames[..at]).handles + m, n - m),
+                    ..Gone::default()
+                };
                 for later in smaller.iter_mut().skip(at + 1) {
-                    *later = renumber(*later, gone, (0, 0));
+                    *later = renumber(*later, &gone);
                 }
             }
             smaller[at] = frame;

@@ -6,7 +6,7 @@ use oracle::comparison::Comparison;
 use oracle::every::{alphabet, wide_alphabet};
 use oracle::judge::Against;
 use oracle::ours::Model;
-use oracle::phases;
+use oracle::{phases, random};
 use rune::Bare;
 
 /// What the rules have a run of calls show; ours is the same.
@@ -23,7 +23,9 @@ fn last(pushes: usize, removals: &[usize]) -> (Row, Row) {
     calls.extend(removals.iter().map(|a| Call::Remove(*a)));
     let ours = *rows(&calls).last().expect("a call");
     let mut theirs = Bare::default();
-    (0..pushes).for_each(|_| drop(theirs.push()));
+    for _ in 0..pushes {
+        theirs.push();
+    }
     let existed = removals.iter().map(|a| theirs.remove(*a)).last();
     let original = Row {
         answer: existed.expect("a removal").into(),
@@ -88,7 +90,7 @@ fn no_script_finds_the_first_wording() {
     let mut comparison = Comparison::new(first, against);
     phases::every_script(&mut comparison, &alphabet(), 3);
     phases::every_script(&mut comparison, &wide_alphabet(), 3);
-    phases::random_scripts(&mut comparison, 300, 7);
+    phases::random_scripts(&mut comparison, random::script, 300, 7);
     assert!(comparison.found.is_empty());
 }
 

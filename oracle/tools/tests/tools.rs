@@ -1,12 +1,13 @@
 //! The tools themselves: records, shrinking, and that a planted fault is found and an honest answer isn't blamed.
 
-use model::{Fault, Frame};
+use model::{Fault, Frame, FAULTS};
 use oracle::comparison::Comparison;
-use oracle::every::{alphabet, wide_alphabet};
+use oracle::every::{alphabet, needs_alphabet, wide_alphabet};
 use oracle::judge::Against;
 use oracle::ours::Model;
 use oracle::records::{self, Mark};
-use oracle::{phases, shrink};
+use oracle::rng::Rng;
+use oracle::{phases, random, shrink};
 
 const BOTH: Against = Against {
     original: true,
@@ -43,9 +44,54 @@ fn the_model_has_no_difference() {
     let mut comparison = Comparison::new(Box::new(Model(None)), BOTH);
     phases::every_script(&mut comparison, &alphabet(), 3);
     phases::every_script(&mut comparison, &wide_alphabet(), 2);
-    phases::random_scripts(&mut comparison, 300, 7);
+    phases::every_script(&mut comparison, &needs_alphabet(), 3);
+    phases::fixed_scripts(&mut comparison);
+    phases::random_scripts(&mut comparison, random::script, 300, 7);
+    phases::random_scripts(&mut comparison, random::with_needs, 300, 7);
     assert!(comparison.found.is_empty());
-    assert!(comparison.tally.offered > 3000);
+    assert!(comparison.tally.offered > 4000);
+}
+
+/// What goes with a frame that is left out: its need, the handle of that need, and their numbers later on.
+#[test]
+fn a_script_with_needs_is_made_small() {
+    let long = b"22\n200000\n06\n230001\n01\n200001\n230002\n1000020007\n110002\n020001\n250001\n";
+    let reads = |s: &[u8]| {
+        let list = String::from_utf8(model::translator(s)).expect("a list");
+        list.contains("\n23") && list.contains("\n11")
+    };
+    let small = shrink::shrink(long, &mut |s| reads(s));
+    assert_eq!(small, b"200000\n230000\n1000000000\n110000\n");
+}
+
+/// Scripts by chance reach the 64th need and go on after it.
+#[test]
+fn many_needs_by_chance() {
+    let mut rng = Rng::new(1);
+    let most = (0..300).map(|_| {
+        let frames = random::with_needs(&mut rng).frames;
+        model::play(&frames, None).0.needed()
+    });
+    assert_eq!(most.max(), Some(model::NEEDS));
+}
+
+/// Each fault of needs is found by a script; the two of the room for needs by the model alone.
+#[test]
+fn faults_of_needs_are_found() {
+    let of_needs = FAULTS
+        .iter()
+        .skip_while(|(_, f)| *f != Fault::NeedHandleFreed);
+    for (name, fault) in of_needs {
+        let original = !matches!(fault, Fault::NeedRoomFirst | Fault::FreedNeedMakesRoom);
+        let against = Against {
+            original,
+            model: !original,
+            ..BOTH
+        };
+        let mut comparison = Comparison::new(Box::new(Model(Some(*fault))), against);
+        phases::fixed_scripts(&mut comparison);
+        assert!(!comparison.found.is_empty(), "{name}");
+    }
 }
 
 #[test]

@@ -7,7 +7,7 @@ use oracle::comparison::{Comparison, Found};
 use oracle::judge::{Against, ORIGINAL_FAULTS};
 use oracle::known::known;
 use oracle::ours::{Model, Ours, Program};
-use oracle::{every, phases};
+use oracle::{every, phases, random};
 use std::process::ExitCode;
 use std::time::Instant;
 
@@ -19,7 +19,9 @@ struct Plan {
     linked: bool,
     every: usize,
     wide: usize,
+    needs: usize,
     random: u64,
+    random_needs: u64,
     damaged: u64,
     bare: u64,
     bare_every: usize,
@@ -54,7 +56,9 @@ fn plan(args: &Args) -> Plan {
         linked: args.flag("--linked"),
         every: args.number("--every", every) as usize,
         wide: args.number("--wide", every - 1) as usize,
+        needs: args.number("--needs", every) as usize,
         random: args.number("--random", random),
+        random_needs: args.number("--random-needs", random / 3),
         damaged: args.number("--damaged", few),
         bare: args.number("--bare", 20_000),
         bare_every: args.number("--bare-every", 2) as usize,
@@ -92,6 +96,14 @@ fn every_script(comparison: &mut Comparison, name: &str, alphabet: &[Frame], lon
     let seconds = begun.elapsed().as_secs();
     let letters = alphabet.len();
     println!("every script of up to {longest} frames, {name} alphabet of {letters}, {seconds} s");
+    println!("{}", comparison.tally);
+    comparison.tally = Default::default();
+}
+
+fn by_chance(comparison: &mut Comparison, source: random::Source, count: u64, seed: u64) {
+    let begun = Instant::now();
+    let profiles = phases::random_scripts(comparison, source, count, seed);
+    println!("by chance, {} s, {profiles:?}", begun.elapsed().as_secs());
     println!("{}", comparison.tally);
     comparison.tally = Default::default();
 }
@@ -136,14 +148,21 @@ fn scripts(plan: &Plan) -> usize {
     let mut comparison = Comparison::new(ours, plan.against);
     every_script(&mut comparison, "small", &every::alphabet(), plan.every);
     every_script(&mut comparison, "wide", &every::wide_alphabet(), plan.wide);
-
-    let begun = Instant::now();
-    let profiles = phases::random_scripts(&mut comparison, plan.random, plan.seed);
-    println!("by chance, {} s, {profiles:?}", begun.elapsed().as_secs());
-    println!("{}", comparison.tally);
+    every_script(
+        &mut comparison,
+        "needs",
+        &every::needs_alphabet(),
+        plan.needs,
+    );
+    by_chance(&mut comparison, random::script, plan.random, plan.seed);
+    by_chance(
+        &mut comparison,
+        random::with_needs,
+        plan.random_needs,
+        plan.seed,
+    );
 
     if plan.linked || plan.program.is_some() || plan.plant.is_some() {
-        comparison.tally = Default::default();
         phases::damaged_texts(&mut comparison, plan.damaged, plan.seed);
         println!("damaged texts, by the model only");
         println!("{}", comparison.tally);

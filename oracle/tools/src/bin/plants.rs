@@ -3,10 +3,10 @@
 use model::{Fault, FAULTS};
 use oracle::bare;
 use oracle::comparison::Comparison;
-use oracle::every::alphabet;
+use oracle::every::{alphabet, needs_alphabet};
 use oracle::judge::{Against, ORIGINAL_FAULTS};
 use oracle::ours::Model;
-use oracle::phases;
+use oracle::{phases, random};
 use std::process::ExitCode;
 
 const SEED: u64 = 1;
@@ -24,9 +24,17 @@ fn shown(text: &[u8]) -> String {
 /// The first difference, made small.
 fn found(fault: Option<Fault>, against: Against) -> Option<String> {
     let mut comparison = Comparison::new(Box::new(Model(fault)), against);
-    phases::every_script(&mut comparison, &alphabet(), 4);
-    if comparison.found.is_empty() {
-        phases::random_scripts(&mut comparison, 4000, SEED);
+    let phases: [fn(&mut Comparison); 5] = [
+        |c| phases::every_script(c, &alphabet(), 4),
+        |c| phases::every_script(c, &needs_alphabet(), 4),
+        phases::fixed_scripts,
+        |c| drop(phases::random_scripts(c, random::script, 4000, SEED)),
+        |c| drop(phases::random_scripts(c, random::with_needs, 4000, SEED)),
+    ];
+    for phase in phases {
+        if comparison.found.is_empty() {
+            phase(&mut comparison);
+        }
     }
     if comparison.found.is_empty() && against.model {
         phases::damaged_texts(&mut comparison, 2000, SEED);

@@ -1,7 +1,7 @@
 //! For each refusal of 01 and each frame: the shortest script that meets it, and what the original does with that frame.
 
 use model::Frame;
-use oracle::every::{alphabet, every};
+use oracle::every::{alphabet, every, needs_alphabet};
 use rune::{drive, Stop};
 use std::collections::BTreeMap;
 
@@ -20,9 +20,11 @@ fn kind(words: &str) -> String {
     words.chars().filter(|c| !c.is_ascii_digit()).collect()
 }
 
-fn main() {
-    let mut table: BTreeMap<(u8, u8, String), (Vec<Frame>, String)> = BTreeMap::new();
-    every(&alphabet(), 5, &mut |frames| {
+/// By number, opcode and the original's words: the script, and the words with their numbers.
+type Table = BTreeMap<(u8, u8, String), (Vec<Frame>, String)>;
+
+fn collect(alphabet: &[Frame], table: &mut Table) {
+    every(alphabet, 5, &mut |frames| {
         let refusal = model::play(frames, None).1.err();
         if let (Some(refusal), Some(words)) = (refusal, theirs(frames)) {
             let opcode = frames[refusal.line].opcode();
@@ -34,6 +36,12 @@ fn main() {
         }
         true
     });
+}
+
+fn main() {
+    let mut table = Table::new();
+    collect(&alphabet(), &mut table);
+    collect(&needs_alphabet(), &mut table);
     for ((number, opcode, _), (frames, words)) in table {
         let script = String::from_utf8(Frame::script(&frames)).expect("a script");
         let script = script.trim_end().replace('\n', " / ");
