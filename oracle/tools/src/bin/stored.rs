@@ -1,13 +1,14 @@
-//! Writes stored answers (see `records`) to standard output: 01's sessions and limits first, then scripts by chance. With --wrong, the short
-//! sessions with their answer as it is and spoilt in each of four ways; with --broken, one record and another that is cut off.
+//! Writes stored answers (see `records`) to standard output: 01's sessions and limits first, then scripts by chance; then the same with needs.
+//! With --wrong, the short sessions with their answer as it is and spoilt in each of four ways; with --broken, one record and another that is
+//! cut off.
 
 use model::Frame;
 use oracle::args::Args;
 use oracle::judge::{judge, Against, Verdict};
-use oracle::random;
+use oracle::random::{self, Source};
 use oracle::records::{self, Mark};
 use oracle::rng::Rng;
-use oracle::sessions::sessions;
+use oracle::sessions::{needs, sessions};
 use std::io::Write;
 
 const AGAINST: Against = Against {
@@ -50,9 +51,9 @@ fn least(i: u64) -> usize {
     }
 }
 
-fn by_chance(rng: &mut Rng, i: u64) -> Vec<u8> {
+fn by_chance(source: Source, rng: &mut Rng, i: u64) -> Vec<u8> {
     loop {
-        let script = Frame::script(&random::script(rng).frames);
+        let script = Frame::script(&source(rng).frames);
         if (least(i)..most(i)).contains(&script.len()) {
             return script;
         }
@@ -98,16 +99,17 @@ fn broken() -> Vec<u8> {
 
 fn answers(args: &Args) -> Vec<u8> {
     let count = args.number("--count", 240);
+    let few = args.number("--needs", 24);
     let seed = args.number("--seed", 1);
+    let mut scripts = sessions();
     let mut rng = Rng::new(seed);
+    scripts.extend((0..count).map(|i| by_chance(random::script, &mut rng, i)));
+    scripts.extend(needs());
+    let mut rng = Rng::new(seed);
+    // from 1 on, so that none is long: the file has to stay below 262,144 bytes
+    scripts.extend((1..=few).map(|i| by_chance(random::with_needs, &mut rng, i)));
     let mut out = Vec::new();
-    let mut marks = Vec::new();
-    for script in sessions() {
-        marks.push(store(&script, &mut out));
-    }
-    for i in 0..count {
-        marks.push(store(&by_chance(&mut rng, i), &mut out));
-    }
+    let marks: Vec<Mark> = scripts.iter().map(|s| store(s, &mut out)).collect();
     let of = |mark: Mark| marks.iter().filter(|m| **m == mark).count();
     eprintln!(
         "{} records: {} lists of the original, {} refused by it too, {} by 01 alone",
