@@ -26,7 +26,7 @@ pub const ORIGINAL_FAULTS: [(&str, OriginalFault); 3] = [
     ("original-accepts", OriginalFault::Accepts),
 ];
 
-/// "no insert meets H > L and no root Scope handle is freed after 05"
+/// "no insert meets H > L and no root Scope handle is freed after 05"; a need's own handle is a Scope handle, which 25 frees
 #[derive(Clone, Copy, Debug, PartialEq, Eq)]
 pub enum Outside {
     HeadAboveLength,

@@ -30,6 +30,29 @@ fn the_whole_session_is_equal() {
     assert_eq!(until, [Some(7), Some(7), Some(6), Some(10)]);
 }
 
+/// 23 gives a slot; 25 ends it where the need's scope is the top, and else the pop of that scope.
+#[test]
+fn a_needs_slot_is_held_from_23_until_25_or_the_pop() {
+    let needs =
+        beside("01 / 200000 / 200001 / 230000 / 230001 / 230000 / 250000 / 250001 / 020001 / 05");
+    assert!(!needs.differs());
+    assert_eq!(needs.old.held, needs.ours.held);
+    let held = needs.ours.held.iter();
+    let spans: Vec<_> = held.map(|h| (h.slot, h.from, h.until)).collect();
+    assert_eq!(spans, [(0, 3, Some(9)), (1, 4, Some(7))]);
+    let drawn = page(&[needs], &Counts::default());
+    assert!(drawn.contains("handle 0, slot 0, lines 3\u{2013}8"));
+    assert!(drawn.contains("handle 1, slot 1, lines 4\u{2013}6"));
+}
+
+#[test]
+fn the_late_need_is_equal() {
+    let sample = include_bytes!("../../../samples/late-need.script");
+    let beside = Beside::new("late-need", sample, &mut Model(None));
+    assert!(sentence(&beside).starts_with("equal: "));
+    assert_eq!(beside.old.held, beside.ours.held);
+}
+
 /// D1 with its follow-up run.
 #[test]
 fn the_known_fault_is_named() {
@@ -113,6 +136,9 @@ fn every_script_can_be_drawn() {
         "080400",
         "080000",
         "01 / 080101 / 020001 / 080002 / 06 / 0c0103",
+        "22 / 230000",
+        "200000 / 230000 / 05 / 250000",
+        "01 / 080101 / 020001 / 080002 / 200000 / 230000 / 250000",
     ]
     .into_iter()
     .map(beside)
@@ -124,7 +150,7 @@ fn every_script_can_be_drawn() {
         &mut ours,
     ));
     for n in 0..60 {
-        let script = Frame::script(&random::script(&mut rng).frames);
+        let script = Frame::script(&random::any(&mut rng).frames);
         let made = Beside::new(&n.to_string(), &script, &mut ours as &mut dyn Ours);
         assert!(!made.fault(), "{}", sentence(&made));
         all.push(made);
