@@ -83,13 +83,37 @@ fn d1_two_allocations_share_a_slot() {
     assert_eq!(freed.stop, Some((5, Stop::Refused(words.into()))));
 }
 
+/// A deferred need inserts as alloc in does.
+#[test]
+fn d1_by_a_need() {
+    let script = "01 / 080101 / 020001 / 080002 / 200000 / 230000";
+    ours(
+        script,
+        "010001 / 080000 / 02 / 080000 / 200000 / 230080 / 900101",
+    );
+    let driven = drive(&frames(script));
+    assert_eq!(
+        driven.list,
+        list("010001 / 080000 / 02 / 080000 / 200000 / 230100 / 900101")
+    );
+    assert_eq!(driven.head_above_length, Some(5));
+}
+
+/// 01 takes the script, with this list; the original refuses its last frame: it looks for root.
+#[track_caller]
+fn freed_late(script: &str, lines: &str) {
+    ours(script, lines);
+    let frames = frames(script);
+    let last = frames.len() - 1;
+    let driven = drive(&frames);
+    let words = "Freed address 0 does not have an implicit scope";
+    assert_eq!(driven.stop, Some((last, Stop::Refused(words.into()))));
+    assert_eq!(driven.root_freed_late, Some(last));
+}
+
 #[test]
 fn d2_a_root_scope_handle_freed_after_pop_last() {
-    let script = "070000 / 05 / 0c0000";
-    ours(script, "070000 / 05 / 0c / 900001");
-    let (line, stop) = drive(&frames(script)).stop.expect("a refusal");
-    let words = "Freed address 0 does not have an implicit scope";
-    assert_eq!((line, stop), (2, Stop::Refused(words.into())));
+    freed_late("070000 / 05 / 0c0000", "070000 / 05 / 0c / 900001");
 }
 
 #[test]
@@ -159,4 +183,75 @@ fn d11_a_run_refused_midway() {
     let (words, dangling) = rune::probe::run_refused_midway();
     assert_eq!(words, "Freed address 9 is not defined in scope 0:0");
     assert_eq!(dangling, [0]);
+}
+
+#[test]
+fn d14_a_need_of_root_freed_after_pop_last() {
+    freed_late(
+        "200000 / 230000 / 05 / 250000",
+        "200000 / 230000 / 05 / 25 / 900001",
+    );
+}
+
+/// .. and where the need has no address of its own there is nothing to look for.
+#[test]
+fn d14_other_needs_after_pop_last() {
+    for (script, lines) in [
+        ("200000 / 05 / 250000", "200000 / 05 / 25 / 900000"),
+        (
+            "06 / 210000 / 05 / 250000",
+            "060000 / 210000 / 05 / 25 / 900001",
+        ),
+    ] {
+        ours(script, lines);
+        assert_eq!(drive(&frames(script)).list, list(lines));
+    }
+}
+
+#[test]
+fn d15_a_need_deferred_to_a_closed_scope() {
+    taken("05 / 200000", 4, "200000");
+    taken("01 / 020001 / 200001", 4, "200000");
+    refused_in_words(
+        "200000 / 05 / 230000",
+        4,
+        "Missing scope 0:0 to allocate in",
+    );
+    refused_in_words(
+        "01 / 200001 / 020001 / 01 / 230000",
+        4,
+        "Scope id mismatch, 1:2 (actual) != 1:1 (expected)",
+    );
+}
+
+#[test]
+fn d16_room_for_needs() {
+    taken(&vec!["22"; 65].join(" / "), 22, "220040");
+    taken("080400 / 200000 / 230000", 7, "230400");
+    let handles = "01 / 080400 / 020001 / 080400 / 200000 / 230000";
+    taken(handles, 16, "230400");
+}
+
+/// No difference: a deferred need has no output on either side.
+#[test]
+fn a_deferred_need_has_no_output() {
+    let words = "Needs defer(0:0) has not been allocated for output";
+    refused_in_words("200000 / 240000", 18, words);
+}
+
+/// The original can't be told: it takes an address and a need by value, and a need keeps its address inside.
+#[test]
+fn what_can_not_be_said() {
+    for (script, number) in [
+        ("200000 / 230000 / 0c0000", 13),
+        ("200000 / 230000 / 0d0000", 13),
+        ("200000 / 230000 / 0e0000", 13),
+        ("200000 / 230000 / 250000 / 0900070000", 13),
+        ("210000", 13),
+        ("230000", 21),
+        ("22 / 250000 / 250000", 21),
+    ] {
+        let stop = refused(script, number).stop.expect("it goes no further");
+        assert!(matches!(stop.1, Stop::Untold(_)), "{script}: {stop:?}");
+    }
 }

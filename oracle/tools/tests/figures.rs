@@ -26,7 +26,7 @@ fn scripts_of_every_kind() {
 fn scripts_by_chance() {
     let (mut lean, mut rng, mut taken) = (Lean::default(), Rng::new(3), 0);
     for _ in 0..500 {
-        let frames = random::script(&mut rng).frames;
+        let frames = random::any(&mut rng).frames;
         let driven = drive(&frames);
         let list = lean.translate(&Frame::script(&frames));
         assert_eq!(list.is_some(), driven.stop.is_none());

@@ -1,4 +1,5 @@
-//! 01, "Addresses and needs", held against the original: no script reaches needs.
+//! 01, "Addresses and needs", held against the original question by question: scripts reach needs by the frames of W-201, but no frame
+//! asks for `addr`, `try_as_addr`, `into_addr` or an assignment from elsewhere.
 //! No function of the original makes a need with a Local or a Dangling address, so 19 can't be asked of it.
 
 /// Written from 01. "refused" is 18.

@@ -1,4 +1,4 @@
-//! What the original does where no script reaches: needs, and a run that is refused midway.
+//! What the original does where no script reaches: all that a need can be asked, and a run that is refused midway.
 
 use super::{Address, Any, Ctxt, Linear, ScopeHandle, Scopes};
 use crate::alloc::Vec as List;
