@@ -84,6 +84,7 @@ fn translation() {
     println!("\n## Translation\n");
     println!("Nanoseconds a frame: original / ours, and the ratio. An empty script takes {} and {} nanoseconds in all.\n", ns(theirs), ns(ours));
     let heads: Vec<String> = LENGTHS.iter().map(|n| format!(" {n} frames |")).collect();
+    println!("A script has 64 needs at most, so those with needs have one for every four frames up to 256, and then 64.\n");
     println!("| script |{}", heads.concat());
     println!("|---|{}", "---|".repeat(LENGTHS.len()));
     for (name, frames) in KINDS {
@@ -146,7 +147,7 @@ const HEAD: &str = "\
 Printed by `bin/figures`. Ours are the proved functions, linked into the same program as the original; each number is processor time, the best of up
 to 25 rounds (of 5 at least) in each of which every side has its turn. Before a figure is taken, both sides' results are compared: sums, list bytes, cells.
 
-The original is driven by `oracle/rune/src/v1/lean.rs`: its own `Scopes`, `Address` and `Linear` and nothing beside them, with a plain reader of
+The original is driven by `oracle/rune/src/v1/lean.rs`: its own `Scopes`, `Address`, `Linear` and `Any` and nothing beside them, with a plain reader of
 the same text and a plain writer of the same list. Buffers (its frames and list, our lent list of 32,768 bytes, cells and output) are
 made and written once before and used again; scopes and handles are made anew for each script on both sides. The original's
 collections are the standard library's, with a cheap hash for names.

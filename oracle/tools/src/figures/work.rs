@@ -1,17 +1,21 @@
 //! What both sides do: pairs over bare slots, scripts of several kinds of a given number of frames, a list of stores and loads.
 
 use model::Frame::{self, *};
+use model::{NeedNumber, NEEDS};
 
 /// A kind's name, and its script of n frames.
 pub type Kind = (&'static str, fn(usize) -> Vec<Frame>);
 
-pub const KINDS: [Kind; 6] = [
+pub const KINDS: [Kind; 9] = [
     ("alloc and free, in turn", pairs),
     ("alloc, write, read, free", mix),
     ("scopes 8 deep with names", names),
     ("look-ups through up to 63 scopes", climbs),
     ("a run and its freeing", runs),
     ("a run of 16, its freeing, a drain", drains),
+    ("a need: defer, allocate, output, .., free", needs),
+    ("allocate, output, write, read, over needs", asked),
+    ("alloc and free, in turn, beside needs", beside),
 ];
 
 /// By how much the slot of the next pair is further on, and which slots that gives.
@@ -112,6 +116,60 @@ fn drains(n: usize) -> Vec<Frame> {
     }
     frames.truncate(n);
     frames
+}
+
+/// How many needs a script of n frames has: four frames for each, while there is room for them.
+fn needed(n: usize) -> usize {
+    NEEDS.min(n / 4)
+}
+
+/// One need after another: deferred, allocated, asked for its output and its address again as long as frames are left for it, freed.
+fn needs(n: usize) -> Vec<Frame> {
+    let each = n / needed(n);
+    let frame = |i: usize| {
+        let need = NeedNumber((i / each) as u16);
+        match i % each {
+            0 => Defer(0),
+            last if last == each - 1 => FreeNeed(need),
+            odd if odd % 2 == 1 => AllocNeed(need),
+            _ => Output(need),
+        }
+    };
+    (0..n).map(frame).collect()
+}
+
+/// All needs are deferred, then asked in turn; the first round allocates them, so a need's handle has its number.
+fn asked(n: usize) -> Vec<Frame> {
+    let needs = needed(n);
+    let frame = |i: usize| {
+        let place = (i / 4 % needs) as u16;
+        match i % 4 {
+            0 => AllocNeed(NeedNumber(place)),
+            1 => Output(NeedNumber(place)),
+            2 => Write {
+                handle: place,
+                value: i as u16,
+            },
+            _ => Read(place),
+        }
+    };
+    let deferred = (0..needs).map(|_| Defer(0));
+    deferred.chain((0..n - needs).map(frame)).collect()
+}
+
+/// All needs are deferred and allocated; each free has to tell its handle from theirs.
+fn beside(n: usize) -> Vec<Frame> {
+    let needs = needed(n);
+    let made = |i: usize| match i % 2 {
+        0 => Defer(0),
+        _ => AllocNeed(NeedNumber((i / 2) as u16)),
+    };
+    let frame = |i: usize| match i % 2 {
+        0 => Alloc,
+        _ => Free((needs + i / 2) as u16),
+    };
+    let made = (0..2 * needs).map(made);
+    made.chain((0..n - 2 * needs).map(frame)).collect()
 }
 
 /// 2,048 lines, a store and a load in turn, over 1,024 cells; then the size.
