@@ -42,10 +42,9 @@ pub fn random_scripts(
     profiles
 }
 
-/// 01's sessions and those of needs.
-pub fn fixed_scripts(comparison: &mut Comparison) {
-    let all = sessions::sessions().into_iter().chain(sessions::needs());
-    for script in all {
+/// The sessions of needs: some have 64 needs, which no short script has.
+pub fn sessions_of_needs(comparison: &mut Comparison) {
+    for script in sessions::needs() {
         comparison.offer(script);
     }
     comparison.settle();

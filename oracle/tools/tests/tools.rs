@@ -45,7 +45,7 @@ fn the_model_has_no_difference() {
     phases::every_script(&mut comparison, &alphabet(), 3);
     phases::every_script(&mut comparison, &wide_alphabet(), 2);
     phases::every_script(&mut comparison, &needs_alphabet(), 3);
-    phases::fixed_scripts(&mut comparison);
+    phases::sessions_of_needs(&mut comparison);
     phases::random_scripts(&mut comparison, random::script, 300, 7);
     phases::random_scripts(&mut comparison, random::with_needs, 300, 7);
     assert!(comparison.found.is_empty());
@@ -89,7 +89,7 @@ fn faults_of_needs_are_found() {
             ..BOTH
         };
         let mut comparison = Comparison::new(Box::new(Model(Some(*fault))), against);
-        phases::fixed_scripts(&mut comparison);
+        phases::sessions_of_needs(&mut comparison);
         assert!(!comparison.found.is_empty(), "{name}");
     }
 }

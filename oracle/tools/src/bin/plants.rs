@@ -27,7 +27,7 @@ fn found(fault: Option<Fault>, against: Against) -> Option<String> {
     let phases: [fn(&mut Comparison); 5] = [
         |c| phases::every_script(c, &alphabet(), 4),
         |c| phases::every_script(c, &needs_alphabet(), 4),
-        phases::fixed_scripts,
+        phases::sessions_of_needs,
         |c| drop(phases::random_scripts(c, random::script, 4000, SEED)),
         |c| drop(phases::random_scripts(c, random::with_needs, 4000, SEED)),
     ];
