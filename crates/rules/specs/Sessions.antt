@@ -68,8 +68,8 @@ unfoldable pub needSessions : List Session
 needSessions =
     -- the three kinds of need, their output, and a need's handle written, read and named
     session "01\n200001\n22\n06\n210000\n230000\n240000\n1000010009\n110001\n0900070001\n120007\n230001\n240001\n230002\n240002\n250000\n250001\n250002\n0f\n" "010001\n200000\n220001\n060000\n210002\n230001\n240001\n1000010009\n110001\n09\n120001\n23ffff\n24ffff\n230000\n240000\n25\n25\n25\n0f00010001\n900002\n" "a00009\na00009\n"
-    -- a second 23 takes no handle
-    ∷ session "200000\n230000\n230000\n06\n1000010007\n110001\n" "200000\n230000\n230000\n060001\n1000010007\n110001\n900002\n" "a00007\n"
+    -- a second 23 takes no handle: the next one is the alloc's, and may be freed
+    ∷ session "200000\n230000\n230000\n06\n1000010007\n110001\n0c0001\n" "200000\n230000\n230000\n060001\n1000010007\n110001\n0c\n900002\n" "a00007\n"
     -- a deferred need is allocated in its scope, which need not be the top
     ∷ session "200000\n01\n230000\n06\n020001\n0f\n240000\n" "200000\n010001\n230000\n060001\n02\n0f00010001\n240000\n900002\n" ""
     -- 0c, 0d and 0e of a need's handle: 13
