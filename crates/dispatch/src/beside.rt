@@ -1,14 +1,10 @@
 // The frames that look at needs, by their opcodes: 0c to 0e, and 20 to 25.
 ghost use mathlib.Core.Path.{_≡_};
-ghost use mathlib.Core.Option.{some};
-ghost use mathlib.Core.List.{List};
-ghost use Prim.Native.Nat.{ℕ, _≤_, _<_};
-ghost use Rattle.rules.specs.Frames as frame;
-ghost use Rattle.text.specs.Lines.{frameOf};
-ghost use Rattle.handles.specs.NeedTable.{Table, table};
-ghost use Rattle.frames.specs.Steps.{onAllots, onFrees, numberedIn, allotsIn, allotsOut, freesIn, freesOut, Tables};
-ghost use Rattle.frames.specs.Needing.{StandsWith, Makes, GoesBack, tableIn, tableOut};
-ghost use Rattle.dispatch.specs.Dispatched.{GoesOn};
+ghost use Prim.Native.Nat.{_≤_, _<_};
+ghost use Rattle.handles.specs.NeedTable.{Table};
+ghost use Rattle.frames.specs.Steps.{Tables};
+ghost use Rattle.frames.specs.Needing.{NeedsAllots, NeedsFrees};
+ghost use Rattle.dispatch.specs.Dispatched.{FreeStep, NoteStep, NeedStep};
 use frames::needing;
 use frames::needing::Noted;
 use frames::owned;
@@ -43,8 +39,8 @@ pub fn free_step<'a>(
     needed: usize,
     f: Frame,
 ) -> Stepped
-    requires { ⌜ ((s : Scopes) × StandsWith (onFrees s (now halves) (now links) (now owner) (now number) n) (now handles) (now holders) handed (table (now needs) (now remembers) needed)) × (12 ≤ f .opcode) × (f .opcode < 15) ⌝ }
-    ensures { λ r. ⌜ ((g : frame.Frame) → frameOf f ≡ some g → (s : Scopes) → GoesBack g (f .opcode) (freesIn s halves links owner number n) (freesOut s halves links owner number (r .numbers)) handles holders handed (tableIn needs remembers needed) r (tableIn needs remembers needed)) ⌝ }
+    requires { ⌜ NeedsFrees halves links owner number n handles holders handed needs remembers needed × (12 ≤ f .opcode) × (f .opcode < 15) ⌝ }
+    ensures { λ r. ⌜ FreeStep f halves links owner number n handles holders handed needs remembers needed r ⌝ }
 {
     let op = f.opcode;
     let h = HandleNumber(f.a);
@@ -86,7 +82,7 @@ fn note_step<'a>(
     f: Frame,
 ) -> Noted
     requires { ⌜ Tables (now handles) handed × Table (now needs) (now remembers) needed × (32 ≤ f .opcode) × (f .opcode < 35) ⌝ }
-    ensures { λ r. ⌜ ((g : frame.Frame) → frameOf f ≡ some g → (s : Scopes) (holders : List ℕ) → Makes g (f .opcode) (numberedIn s live number) (now (handles .entry)) holders handed (tableIn needs remembers needed) (r .adds) (tableOut needs remembers (r .needed))) ⌝ }
+    ensures { λ r. ⌜ NoteStep f live number handles handed needs remembers needed r ⌝ }
 {
     let op = f.opcode;
     if op == 0x20 {
@@ -114,8 +110,8 @@ pub fn need_step<'a>(
     needed: usize,
     f: Frame,
 ) -> Advance
-    requires { ⌜ ((s : Scopes) × StandsWith (onAllots s (now halves) (now links) (now owner) (now live) (now number) n) (now handles) (now holders) handed (table (now needs) (now remembers) needed)) × (32 ≤ f .opcode) ⌝ }
-    ensures { λ r. ⌜ ((g : frame.Frame) → frameOf f ≡ some g → (s : Scopes) → GoesOn g (f .opcode) (allotsIn s halves links owner live number n) (allotsOut s halves links owner live number (r .numbers)) handles holders handed (tableIn needs remembers needed) r (tableOut needs remembers (r .needed))) ⌝ }
+    requires { ⌜ NeedsAllots halves links owner live number n handles holders handed needs remembers needed × (32 ≤ f .opcode) ⌝ }
+    ensures { λ r. ⌜ NeedStep f halves links owner live number n handles holders handed needs remembers needed r ⌝ }
 {
     let op = f.opcode;
     let k = NeedNumber(f.a);

@@ -1,11 +1,8 @@
 // Which step a frame of a script is, by its opcode.
 ghost use mathlib.Core.Path.{_≡_};
-ghost use mathlib.Core.Option.{some};
 ghost use Prim.Native.Nat.{_≤_, _<_};
 ghost use lib.ListN.{length};
 ghost use Rattle.rules.specs.Tells.{Tells};
-ghost use Rattle.rules.specs.Frames as frame;
-ghost use Rattle.text.specs.Lines.{frameOf};
 ghost use Rattle.dispatch.specs.Dispatched.{StandsOn, StepsOn};
 use beside::Advance;
 use beside::free_step;
@@ -48,7 +45,7 @@ pub fn step(
     f: Frame,
 ) -> Advance
     requires { ⌜ StandsOn halves links owner live dangled parent number bindings n handles holders drained handed needs remembers needed ⌝ }
-    ensures { λ r. ⌜ ((g : frame.Frame) → frameOf f ≡ some g → StepsOn g (f .opcode) halves links owner live dangled parent number bindings n handles holders drained handed needs remembers needed r) ⌝ }
+    ensures { λ r. ⌜ StepsOn f halves links owner live dangled parent number bindings n handles holders drained handed needs remembers needed r ⌝ }
     ensures { λ _. ⌜ length (now (drained .exit)) ≡ 1024 ⌝ }
 {
     let op = f.opcode;

@@ -1,14 +1,11 @@
 // The frames that don't look at needs, by their opcodes.
 ghost use mathlib.Core.Path.{_≡_};
-ghost use mathlib.Core.Option.{some};
 ghost use mathlib.Core.List.{List};
 ghost use Prim.Native.Nat.{ℕ, _≤_, _<_};
 ghost use lib.ListN.{length};
-ghost use Rattle.rules.specs.Frames as frame;
-ghost use Rattle.text.specs.Lines.{frameOf};
 ghost use Rattle.scopes.specs.Lent.{made, Whole};
-ghost use Rattle.frames.specs.Steps.{onAllots, onNames, onCells, Stands, Leads, Stays};
-ghost use Rattle.dispatch.specs.Dispatched.{isPlain, PlainOn};
+ghost use Rattle.frames.specs.Steps.{onNames, onCells, Stands, StandsAllots};
+ghost use Rattle.dispatch.specs.Dispatched.{isPlain, ScopeStep, AllotStep, NameStep, CellStep, PlainOn};
 use frames::allots;
 use frames::cells;
 use frames::named;
@@ -37,7 +34,7 @@ fn scope_step(
     f: Frame,
 ) -> Stepped
     requires { ⌜ Whole (made (now halves) (now links) (now owner) (now live) (now dangled) (now parent) (now number) (now bindings) n) × (f .opcode < 6) ⌝ }
-    ensures { λ r. ⌜ ((g : frame.Frame) → frameOf f ≡ some g → (handles holders : List ℕ) → Leads g (f .opcode) (made (now (halves .entry)) (now (links .entry)) (now (owner .entry)) (now (live .entry)) (now (dangled .entry)) (now (parent .entry)) (now (number .entry)) (now (bindings .entry)) n) (made (now (halves .exit)) (now (links .exit)) (now (owner .exit)) (now (live .exit)) (now (dangled .exit)) (now (parent .exit)) (now (number .exit)) (now (bindings .exit)) (r .numbers)) handles holders handed r handles holders) ⌝ }
+    ensures { λ r. ⌜ ScopeStep f halves links owner live dangled parent number bindings n handed r ⌝ }
 {
     let op = f.opcode;
     if op == 0x01 {
@@ -94,8 +91,8 @@ fn allot_step<'a>(
     handed: usize,
     f: Frame,
 ) -> Stepped
-    requires { ⌜ ((s : Scopes) × Stands (onAllots s (now halves) (now links) (now owner) (now live) (now number) n) (now handles) (now holders) handed) × (6 ≤ f .opcode) × (f .opcode < 9) ⌝ }
-    ensures { λ r. ⌜ ((g : frame.Frame) → frameOf f ≡ some g → (s : Scopes) → Leads g (f .opcode) (onAllots s (now (halves .entry)) (now (links .entry)) (now (owner .entry)) (now (live .entry)) (now (number .entry)) n) (onAllots s (now (halves .exit)) (now (links .exit)) (now (owner .exit)) (now (live .entry)) (now (number .entry)) (r .numbers)) (now (handles .entry)) (now (holders .entry)) handed r (now (handles .exit)) (now (holders .exit))) ⌝ }
+    requires { ⌜ StandsAllots halves links owner live number n handles holders handed × (6 ≤ f .opcode) × (f .opcode < 9) ⌝ }
+    ensures { λ r. ⌜ AllotStep f halves links owner live number n handles holders handed r ⌝ }
 {
     let op = f.opcode;
     if op == 0x06 {
@@ -129,7 +126,7 @@ fn name_step<'a>(
     f: Frame,
 ) -> Stepped
     requires { ⌜ ((s : Scopes) × ((holders : List ℕ) × Stands (onNames s (now live) (now parent) (now bindings) n) (now handles) holders handed)) × (9 ≤ f .opcode) × (f .opcode < 12) ⌝ }
-    ensures { λ r. ⌜ ((g : frame.Frame) → frameOf f ≡ some g → (s : Scopes) (holders : List ℕ) → Leads g (f .opcode) (onNames s (now (live .entry)) (now (parent .entry)) (now (bindings .entry)) n) (onNames s (now (live .entry)) (now (parent .entry)) (now (bindings .exit)) (r .numbers)) (now (handles .entry)) holders handed r (now (handles .entry)) holders) ⌝ }
+    ensures { λ r. ⌜ NameStep f live parent bindings n handles handed r ⌝ }
 {
     let op = f.opcode;
     if op == 0x09 {
@@ -159,7 +156,7 @@ fn cell_step<'a>(
     f: Frame,
 ) -> Adds
     requires { ⌜ ((s : Scopes) × Stands (onCells s (now halves) (now live) (now parent) (now bindings) n) (now handles) (now holders) handed) × (16 ≤ f .opcode) × (f .opcode < 32) ⌝ }
-    ensures { λ r. ⌜ ((g : frame.Frame) → frameOf f ≡ some g → (s : Scopes) → Stays g (f .opcode) (onCells s (now (halves .entry)) (now (live .entry)) (now (parent .entry)) (now (bindings .entry)) n) (now (handles .entry)) (now (holders .entry)) handed r (now (handles .exit))) ⌝ }
+    ensures { λ r. ⌜ CellStep f halves live parent bindings n handles holders handed r ⌝ }
 {
     let op = f.opcode;
     if op == 0x10 {
@@ -203,7 +200,7 @@ pub fn plain_step(
 ) -> Stepped
     requires { ⌜ Stands (made (now halves) (now links) (now owner) (now live) (now dangled) (now parent) (now number) (now bindings) n) (now handles) (now holders) handed ⌝ }
     requires { ⌜ (length (now drained) ≡ 1024) × isPlain (f .opcode) ⌝ }
-    ensures { λ r. ⌜ ((g : frame.Frame) → frameOf f ≡ some g → PlainOn g (f .opcode) halves links owner live dangled parent number bindings n handles holders drained handed r) ⌝ }
+    ensures { λ r. ⌜ PlainOn f halves links owner live dangled parent number bindings n handles holders drained handed r ⌝ }
     ensures { λ _. ⌜ length (now (drained .exit)) ≡ 1024 ⌝ }
 {
     let op = f.opcode;

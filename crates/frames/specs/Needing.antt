@@ -1,9 +1,10 @@
 -- The steps of a script with needs, W-201 of document 02: what the frames 20 to 25, and 0c, 0d, 0e beside needs, promise. Assumes nothing.
 use mathlib.Core.Path.{_≡_}
+use mathlib.Core.Bool.{Bool}
 use mathlib.Core.List.{List, [], _∷_}
 use Prim.Native.Nat.{ℕ}
 use lib.ListN.{length}
-use denote.Ref.{now}
+use denote.Ref.{RefT, now}
 use Rattle.rules.specs.Notation.{_>>=_}
 use Rattle.rules.specs.Sizes.{base}
 use Rattle.rules.specs.Slots.{edition1}
@@ -12,6 +13,7 @@ use Rattle.rules.specs.Needs.{Kind, freed, Need, defer, at, ignore, freedNeed}
 use Rattle.rules.specs.Frames as rules
 use Rattle.rules.specs.Frames.{Remembered, shows, oneLine}
 use Rattle.rules.proofs.Sound.{NeedsSound}
+use Rattle.scopes.specs.declared.Numbers.{Numbers}
 use Rattle.scopes.specs.declared.Scopes.{Scopes}
 use Rattle.scopes.specs.View.{view}
 use Rattle.scopes.specs.Lent.{Whole}
@@ -19,7 +21,7 @@ use Rattle.needs.specs.declared.OutputAnswer.{OutputAnswer}
 use Rattle.needs.specs.declared.OutputAnswer.the-variants as output
 use Rattle.handles.specs.Handles.{handleAt}
 use Rattle.handles.specs.NeedTable.{rememberedAt, Needing, table, stateWith}
-use Rattle.frames.specs.Steps.{stepped, Few, Stands, Reached, Lent}
+use Rattle.frames.specs.Steps.{stepped, Few, Stands, Reached, Lent, onAllots, onFrees, allotsIn, allotsOut, freesIn, freesOut}
 use Rattle.frames.specs.declared.steps.Adds.{Adds}
 use Rattle.frames.specs.declared.steps.Adds.the-variants.{One, Refused}
 use Rattle.frames.specs.declared.steps.Stepped.{Stepped}
@@ -83,26 +85,41 @@ tableIn needs remembers needed = table (now (needs .entry)) (now (remembers .ent
 abbrev pub tableOut : (needs remembers : Lent ℕ) → ℕ → Needing
 tableOut needs remembers needed = table (now (needs .exit)) (now (remembers .exit)) needed
 
--- a step over all tables: the state becomes u, the needs t′
-abbrev pub Goes : rules.Frame → ℕ → Scopes → Scopes → (handles holders : Lent ℕ) → ℕ → Needing → Stepped → Needing → Type 0
-Goes f o s u handles holders handed t r t′ =
-    LeadsWith f o s u (now (handles .entry)) (now (holders .entry)) handed t r (now (handles .exit)) (now (holders .exit)) t′
+-- there is a state with the arrays of an allocation, or of a freeing, in which a script with needs stands
+abbrev pub NeedsAllots : (halves links owner : RefT (List ℕ)) → RefT (List Bool) → RefT (List ℕ) → Numbers → (handles holders : RefT (List ℕ)) → ℕ → (needs remembers : RefT (List ℕ)) → ℕ → Type 0
+NeedsAllots halves links owner live number n handles holders handed needs remembers needed =
+    (s : Scopes) × StandsWith (onAllots s (now halves) (now links) (now owner) (now live) (now number) n) (now handles) (now holders) handed (table (now needs) (now remembers) needed)
 
--- .. that leaves the holders
-abbrev pub GoesBack : rules.Frame → ℕ → Scopes → Scopes → (handles holders : Lent ℕ) → ℕ → Needing → Stepped → Needing → Type 0
-GoesBack f o s u handles holders handed t r t′ =
-    LeadsWith f o s u (now (handles .entry)) (now (holders .entry)) handed t r (now (handles .exit)) (now (holders .entry)) t′
+abbrev pub NeedsFrees : (halves links owner number : RefT (List ℕ)) → Numbers → (handles holders : RefT (List ℕ)) → ℕ → (needs remembers : RefT (List ℕ)) → ℕ → Type 0
+NeedsFrees halves links owner number n handles holders handed needs remembers needed =
+    (s : Scopes) × StandsWith (onFrees s (now halves) (now links) (now owner) (now number) n) (now handles) (now holders) handed (table (now needs) (now remembers) needed)
 
--- .. that changes the handle table alone
+-- a step over the arrays of an allocation, and the needs
+abbrev pub AllotsBeside : rules.Frame → ℕ → (halves links owner : Lent ℕ) → Lent Bool → Lent ℕ → Numbers → (handles holders : Lent ℕ) → ℕ → (needs remembers : Lent ℕ) → ℕ → Stepped → Type 0
+AllotsBeside f o halves links owner live number n handles holders handed needs remembers needed r =
+    (s : Scopes) → LeadsWith f o (allotsIn s halves links owner live number n) (allotsOut s halves links owner live number (r .numbers))
+    (now (handles .entry)) (now (holders .entry)) handed (tableIn needs remembers needed) r (now (handles .exit)) (now (holders .exit)) (tableOut needs remembers needed)
+
+-- a step over the arrays of a freeing, which leaves the holders; the needs become t′
+abbrev pub FreesBeside : rules.Frame → ℕ → (halves links owner number : Lent ℕ) → Numbers → (handles holders : Lent ℕ) → ℕ → Needing → Stepped → Needing → Type 0
+FreesBeside f o halves links owner number n handles holders handed t r t′ =
+    (s : Scopes) → LeadsWith f o (freesIn s halves links owner number n) (freesOut s halves links owner number (r .numbers))
+    (now (handles .entry)) (now (holders .entry)) handed t r (now (handles .exit)) (now (holders .entry)) t′
+
+-- a step that changes the handle table alone
 abbrev pub Forgets : rules.Frame → ℕ → Scopes → Lent ℕ → List ℕ → ℕ → Needing → Adds → Type 0
 Forgets f o s handles holders handed t adds =
     StandsWith s (now (handles .entry)) holders handed t → (drained : List ℕ)
     → WorksWith f o s (now (handles .entry)) holders handed t (record { state = s; handed = handed; adds = adds }) (now (handles .exit)) holders t drained
 
--- .. that makes a need, whatever handles there are
+-- a step that makes a need, whatever handles there are
 abbrev pub Notes : rules.Frame → ℕ → Scopes → Needing → Adds → Needing → Type 0
 Notes f o s t adds t′ = (handles holders : List ℕ) (handed : ℕ) → Makes f o s handles holders handed t adds t′
 
--- .. that asks one
+-- a step that makes a need of a handle
+abbrev pub NotesHandle : rules.Frame → ℕ → Lent ℕ → ℕ → Needing → Adds → Needing → Type 0
+NotesHandle f o handles handed t adds t′ = (s : Scopes) (holders : List ℕ) → Makes f o s (now (handles .entry)) holders handed t adds t′
+
+-- a step that asks a need
 abbrev pub Asks : rules.Frame → ℕ → Lent ℕ → ℕ → Adds → Type 0
 Asks f o needs needed adds = (s : Scopes) (remembers : List ℕ) → let t : Needing = table (now (needs .entry)) remembers needed in Notes f o s t adds t

@@ -232,16 +232,41 @@ pub record AllotsIn (id : scope.Id) (s : Scopes) (handles holders : List ℕ) (h
   pub comes : (o : ℕ) (drained : List ℕ) → Comes (allottedIn id o (stateOf (view s) handles holders handed)) o r handles′ holders′ drained
   pub hands : isRefused (r .adds) ≡ false → (handed < 2048) × (kindIn (getD handles′ handed 0) ≡ inScope id)
 
-abbrev pub LeadsIn : scope.Id → Scopes → Scopes → (handles holders : Lent ℕ) → ℕ → Stepped → Type 0
-LeadsIn id s t handles holders handed r =
-    Stands s (now (handles .entry)) (now (holders .entry)) handed
-    → AllotsIn id s (now (handles .entry)) (now (holders .entry)) handed (record { state = t; handed = r .handed; adds = r .adds }) (now (handles .exit)) (now (holders .exit))
+-- .. over the lent arrays
+abbrev pub AllotsInScope : scope.Id → (halves links owner : Lent ℕ) → Lent Bool → Lent ℕ → Numbers → (handles holders : Lent ℕ) → ℕ → Stepped → Type 0
+AllotsInScope id halves links owner live number n handles holders handed r =
+    (s : Scopes) → Stands (allotsIn s halves links owner live number n) (now (handles .entry)) (now (holders .entry)) handed
+    → AllotsIn id (allotsIn s halves links owner live number n) (now (handles .entry)) (now (holders .entry)) handed
+    (record { state = allotsOut s halves links owner live number (r .numbers); handed = r .handed; adds = r .adds }) (now (handles .exit)) (now (holders .exit))
 
 -- something was freed by m, which may be refused
 abbrev pub Frees : (rules.State → Answer rules.State) → Scopes → Scopes → (handles holders : Lent ℕ) → ℕ → Stepped → Type 0
 Frees m s t handles holders handed r =
     Stands s (now (handles .entry)) (now (holders .entry)) handed → (o : ℕ) (drained : List ℕ)
     → Comes (freedThen o (m (stateOf (view s) (now (handles .entry)) (now (holders .entry)) handed))) o (record { state = t; handed = r .handed; adds = r .adds }) (now (handles .exit)) (now (holders .entry)) drained
+
+-- .. over the lent arrays
+abbrev pub FreesBy : (rules.State → Answer rules.State) → (halves links owner number : Lent ℕ) → Numbers → (handles holders : Lent ℕ) → ℕ → Stepped → Type 0
+FreesBy m halves links owner number n handles holders handed r =
+    (s : Scopes) → Frees m (freesIn s halves links owner number n) (freesOut s halves links owner number (r .numbers)) handles holders handed r
+
+-- a step over the lent arrays of an allocation, and of a freeing, which leaves the holders
+abbrev pub LeadsAllots : rules.Frame → ℕ → (halves links owner : Lent ℕ) → Lent Bool → Lent ℕ → Numbers → (handles holders : Lent ℕ) → ℕ → Stepped → Type 0
+LeadsAllots f o halves links owner live number n handles holders handed r =
+    (s : Scopes) → Leads f o (allotsIn s halves links owner live number n) (allotsOut s halves links owner live number (r .numbers)) (now (handles .entry)) (now (holders .entry)) handed r (now (handles .exit)) (now (holders .exit))
+
+abbrev pub LeadsFrees : rules.Frame → ℕ → (halves links owner number : Lent ℕ) → Numbers → (handles holders : Lent ℕ) → ℕ → Stepped → Type 0
+LeadsFrees f o halves links owner number n handles holders handed r =
+    (s : Scopes) → Leads f o (freesIn s halves links owner number n) (freesOut s halves links owner number (r .numbers)) (now (handles .entry)) (now (holders .entry)) handed r (now (handles .exit)) (now (holders .entry))
+
+-- there is a state with the arrays of an allocation, or of a freeing, in which a script stands
+abbrev pub StandsAllots : (halves links owner : RefT (List ℕ)) → RefT (List Bool) → RefT (List ℕ) → Numbers → (handles holders : RefT (List ℕ)) → ℕ → Type 0
+StandsAllots halves links owner live number n handles holders handed =
+    (s : Scopes) × Stands (onAllots s (now halves) (now links) (now owner) (now live) (now number) n) (now handles) (now holders) handed
+
+abbrev pub StandsFrees : (halves links owner number : RefT (List ℕ)) → Numbers → (handles holders : RefT (List ℕ)) → ℕ → Type 0
+StandsFrees halves links owner number n handles holders handed =
+    (s : Scopes) × Stands (onFrees s (now halves) (now links) (now owner) (now number) n) (now handles) (now holders) handed
 
 -- the handle h was handed out, and is known as x
 abbrev pub Known : List ℕ → ℕ → ℕ → Handle → Type 0

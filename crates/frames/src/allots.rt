@@ -5,7 +5,7 @@ ghost use lib.ListN.{length};
 ghost use Rattle.rules.specs.Frames as frame;
 ghost use Rattle.scopes.specs.View.{idOf};
 ghost use Rattle.scopes.specs.Lent.{withSlots};
-ghost use Rattle.frames.specs.Steps.{slotOr, onAllots, allotsIn, allotsOut, Stands, Leads, LeadsIn, Grants};
+ghost use Rattle.frames.specs.Steps.{slotOr, Stands, StandsAllots, Leads, LeadsAllots, AllotsInScope, Grants};
 use crate::steps::Adds;
 use crate::steps::Stepped;
 use crate::steps::adds_of;
@@ -105,8 +105,8 @@ pub fn alloc_in_scope<'a>(
     handed: usize,
     id: ScopeId,
 ) -> Stepped
-    requires { ⌜ ((s : Scopes) × Stands (onAllots s (now halves) (now links) (now owner) (now live) (now number) n) (now handles) (now holders) handed) ⌝ }
-    ensures { λ r. ⌜ ((s : Scopes) → LeadsIn (idOf id) (allotsIn s halves links owner live number n) (allotsOut s halves links owner live number (r .numbers)) handles holders handed r) ⌝ }
+    requires { ⌜ StandsAllots halves links owner live number n handles holders handed ⌝ }
+    ensures { λ r. ⌜ AllotsInScope (idOf id) halves links owner live number n handles holders handed r ⌝ }
 {
     let i = open::place_of(live, number, id);
     if i == 64 {
@@ -131,8 +131,8 @@ pub fn alloc_in<'a>(
     handed: usize,
     k: u16,
 ) -> Stepped
-    requires { ⌜ ((s : Scopes) × Stands (onAllots s (now halves) (now links) (now owner) (now live) (now number) n) (now handles) (now holders) handed) ⌝ }
-    ensures { λ r. ⌜ ((s : Scopes) → Leads (frame.allocIn k) 0x07 (onAllots s (now (halves .entry)) (now (links .entry)) (now (owner .entry)) (now (live .entry)) (now (number .entry)) n) (onAllots s (now (halves .exit)) (now (links .exit)) (now (owner .exit)) (now (live .entry)) (now (number .entry)) (r .numbers)) (now (handles .entry)) (now (holders .entry)) handed r (now (handles .exit)) (now (holders .exit))) ⌝ }
+    requires { ⌜ StandsAllots halves links owner live number n handles holders handed ⌝ }
+    ensures { λ r. ⌜ LeadsAllots (frame.allocIn k) 0x07 halves links owner live number n handles holders handed r ⌝ }
 {
     let id = meant(live, number, k);
     alloc_in_scope(

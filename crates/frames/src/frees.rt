@@ -6,7 +6,7 @@ ghost use Prim.Native.Nat.{ℕ};
 ghost use Rattle.rules.specs.Frames as frame;
 ghost use Rattle.scopes.specs.Lent.{withSlots};
 ghost use Rattle.needs.specs.Kinds.{kindOf};
-ghost use Rattle.frames.specs.Steps.{freeing, freeCode, onFrees, slotsIn, slotsOut, freesIn, freesOut, Tables, Known, Stands, Leads, Stays, Frees};
+ghost use Rattle.frames.specs.Steps.{freeing, freeCode, slotsIn, slotsOut, Tables, Known, Stands, StandsFrees, Stays, LeadsFrees, Frees, FreesBy};
 use crate::steps::Adds;
 use crate::steps::Stepped;
 use crate::steps::ended;
@@ -77,8 +77,8 @@ pub fn free_as(
     kind: AddressKind,
     dangles: bool,
 ) -> Stepped
-    requires { ⌜ ((s : Scopes) × Stands (onFrees s (now halves) (now links) (now owner) (now number) n) (now handles) (now holders) handed) × Known (now handles) handed (h .0) x ⌝ }
-    ensures { λ r. ⌜ ((s : Scopes) → Frees (frame.freeAs (kindOf kind) dangles (h .0)) (freesIn s halves links owner number n) (freesOut s halves links owner number (r .numbers)) handles holders handed r) ⌝ }
+    requires { ⌜ StandsFrees halves links owner number n handles holders handed × Known (now handles) handed (h .0) x ⌝ }
+    ensures { λ r. ⌜ FreesBy (frame.freeAs (kindOf kind) dangles (h .0)) halves links owner number n handles holders handed r ⌝ }
 {
     if goes_back(number, n.top, kind) {
         return hand_back(
@@ -116,8 +116,8 @@ pub fn free(
     h: HandleNumber,
     dangles: bool,
 ) -> Stepped
-    requires { ⌜ ((s : Scopes) × Stands (onFrees s (now halves) (now links) (now owner) (now number) n) (now handles) (now holders) handed) ⌝ }
-    ensures { λ r. ⌜ ((s : Scopes) → Leads (freeing dangles (h .0)) (freeCode dangles) (freesIn s halves links owner number n) (freesOut s halves links owner number (r .numbers)) (now (handles .entry)) (now (holders .entry)) handed r (now (handles .exit)) (now (holders .entry))) ⌝ }
+    requires { ⌜ StandsFrees halves links owner number n handles holders handed ⌝ }
+    ensures { λ r. ⌜ LeadsFrees (freeing dangles (h .0)) (freeCode dangles) halves links owner number n handles holders handed r ⌝ }
 {
     let i = h.0 as usize;
     if handed <= i {

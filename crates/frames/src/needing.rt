@@ -6,7 +6,7 @@ ghost use Rattle.rules.specs.Frames as frame;
 ghost use Rattle.needs.specs.Kinds.{needOf};
 ghost use Rattle.handles.specs.NeedTable.{needIn, Table};
 ghost use Rattle.frames.specs.Steps.{numberedIn, Tables};
-ghost use Rattle.frames.specs.Needing.{Makes, Notes, Asks, Adding, shownOf, tableIn, tableOut};
+ghost use Rattle.frames.specs.Needing.{Notes, NotesHandle, Asks, Adding, shownOf, tableIn, tableOut};
 use crate::steps::Adds;
 use crate::steps::meant;
 use handles::remembered;
@@ -79,7 +79,7 @@ pub fn assigned(
     h: HandleNumber,
 ) -> Noted
     requires { ⌜ Tables (now handles) handed × Table (now needs) (now remembers) needed ⌝ }
-    ensures { λ r. ⌜ ((s : Scopes) (holders : List ℕ) → Makes (frame.newAssigned (h .0)) 0x21 s (now (handles .entry)) holders handed (tableIn needs remembers needed) (r .adds) (tableOut needs remembers (r .needed))) ⌝ }
+    ensures { λ r. ⌜ NotesHandle (frame.newAssigned (h .0)) 0x21 handles handed (tableIn needs remembers needed) (r .adds) (tableOut needs remembers (r .needed)) ⌝ }
 {
     let i = h.0 as usize;
     if handed <= i {

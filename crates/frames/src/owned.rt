@@ -8,9 +8,9 @@ ghost use Rattle.rules.specs.Needs as rule;
 ghost use Rattle.rules.specs.Frames as frame;
 ghost use Rattle.scopes.specs.View.{idOf};
 ghost use Rattle.needs.specs.Kinds.{kindOf, needOf};
-ghost use Rattle.handles.specs.NeedTable.{needIn, Table, table};
-ghost use Rattle.frames.specs.Steps.{freeing, freeCode, isRefused, onAllots, onFrees, allotsIn, allotsOut, freesIn, freesOut, Tables, Stands, Frees};
-ghost use Rattle.frames.specs.Needing.{StandsWith, needKind, Goes, GoesBack, Forgets, tableIn, tableOut};
+ghost use Rattle.handles.specs.NeedTable.{needIn, Table};
+ghost use Rattle.frames.specs.Steps.{freeing, freeCode, isRefused, Tables, StandsFrees, FreesBy};
+ghost use Rattle.frames.specs.Needing.{needKind, NeedsAllots, NeedsFrees, AllotsBeside, FreesBeside, Forgets, tableIn, tableOut};
 use crate::allots::alloc_in_scope;
 use crate::frees;
 use crate::needing::is_gone;
@@ -46,8 +46,8 @@ pub fn free_beside<'a>(
     h: HandleNumber,
     dangles: bool,
 ) -> Stepped
-    requires { ⌜ ((s : Scopes) × StandsWith (onFrees s (now halves) (now links) (now owner) (now number) n) (now handles) (now holders) handed (table (now needs) (now remembers) needed)) ⌝ }
-    ensures { λ r. ⌜ ((s : Scopes) → GoesBack (freeing dangles (h .0)) (freeCode dangles) (freesIn s halves links owner number n) (freesOut s halves links owner number (r .numbers)) handles holders handed (tableIn needs remembers needed) r (tableIn needs remembers needed)) ⌝ }
+    requires { ⌜ NeedsFrees halves links owner number n handles holders handed needs remembers needed ⌝ }
+    ensures { λ r. ⌜ FreesBeside (freeing dangles (h .0)) (freeCode dangles) halves links owner number n handles holders handed (tableIn needs remembers needed) r (tableIn needs remembers needed) ⌝ }
 {
     if belongs(needs, remembers, needed, h) {
         return refused(n, handed, 13);
@@ -117,9 +117,9 @@ fn first<'a>(
     k: NeedNumber,
     id: ScopeId,
 ) -> Stepped
-    requires { ⌜ ((s : Scopes) × StandsWith (onAllots s (now halves) (now links) (now owner) (now live) (now number) n) (now handles) (now holders) handed (table (now needs) (now remembers) needed)) ⌝ }
+    requires { ⌜ NeedsAllots halves links owner live number n handles holders handed needs remembers needed ⌝ }
     requires { ⌜ (k .0 < needed) × (needIn (getD (now needs) (k .0) 0) ≡ rule.defer (idOf id)) ⌝ }
-    ensures { λ r. ⌜ ((s : Scopes) → Goes (frame.allocNeed (k .0)) 0x23 (allotsIn s halves links owner live number n) (allotsOut s halves links owner live number (r .numbers)) handles holders handed (tableIn needs remembers needed) r (tableOut needs remembers needed)) ⌝ }
+    ensures { λ r. ⌜ AllotsBeside (frame.allocNeed (k .0)) 0x23 halves links owner live number n handles holders handed needs remembers needed r ⌝ }
 {
     let r = alloc_in_scope(
         halves,
@@ -159,8 +159,8 @@ pub fn allocate<'a>(
     needed: usize,
     k: NeedNumber,
 ) -> Stepped
-    requires { ⌜ ((s : Scopes) × StandsWith (onAllots s (now halves) (now links) (now owner) (now live) (now number) n) (now handles) (now holders) handed (table (now needs) (now remembers) needed)) ⌝ }
-    ensures { λ r. ⌜ ((s : Scopes) → Goes (frame.allocNeed (k .0)) 0x23 (allotsIn s halves links owner live number n) (allotsOut s halves links owner live number (r .numbers)) handles holders handed (tableIn needs remembers needed) r (tableOut needs remembers needed)) ⌝ }
+    requires { ⌜ NeedsAllots halves links owner live number n handles holders handed needs remembers needed ⌝ }
+    ensures { λ r. ⌜ AllotsBeside (frame.allocNeed (k .0)) 0x23 halves links owner live number n handles holders handed needs remembers needed r ⌝ }
 {
     let i = k.0 as usize;
     if needed <= i {
@@ -240,8 +240,8 @@ fn free_own(
     h: HandleNumber,
     d: Need,
 ) -> Stepped
-    requires { ⌜ ((s : Scopes) × Stands (onFrees s (now halves) (now links) (now owner) (now number) n) (now handles) (now holders) handed) × (frame.owns (needOf d) ≡ true → h .0 < handed) ⌝ }
-    ensures { λ r. ⌜ ((s : Scopes) → Frees (λ t. frame.freeOwn (h .0) t (needOf d)) (freesIn s halves links owner number n) (freesOut s halves links owner number (r .numbers)) handles holders handed r) ⌝ }
+    requires { ⌜ StandsFrees halves links owner number n handles holders handed × (frame.owns (needOf d) ≡ true → h .0 < handed) ⌝ }
+    ensures { λ r. ⌜ FreesBy (λ t. frame.freeOwn (h .0) t (needOf d)) halves links owner number n handles holders handed r ⌝ }
 {
     let kind = kind_of(d);
     if is_scope(kind) {
@@ -284,8 +284,8 @@ pub fn free_need(
     needed: usize,
     k: NeedNumber,
 ) -> Stepped
-    requires { ⌜ ((s : Scopes) × StandsWith (onFrees s (now halves) (now links) (now owner) (now number) n) (now handles) (now holders) handed (table (now needs) (now remembers) needed)) ⌝ }
-    ensures { λ r. ⌜ ((s : Scopes) → GoesBack (frame.dropNeed (k .0)) 0x25 (freesIn s halves links owner number n) (freesOut s halves links owner number (r .numbers)) handles holders handed (tableIn needs remembers needed) r (tableOut needs remembers needed)) ⌝ }
+    requires { ⌜ NeedsFrees halves links owner number n handles holders handed needs remembers needed ⌝ }
+    ensures { λ r. ⌜ FreesBeside (frame.dropNeed (k .0)) 0x25 halves links owner number n handles holders handed (tableIn needs remembers needed) r (tableOut needs remembers needed) ⌝ }
 {
     let i = k.0 as usize;
     if needed <= i {
