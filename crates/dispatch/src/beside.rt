@@ -1,5 +1,4 @@
 // The frames that look at needs, by their opcodes: 0c to 0e, and 20 to 25.
-ghost use mathlib.Core.Path.{_≡_};
 ghost use Prim.Native.Nat.{_≤_, _<_};
 ghost use Rattle.handles.specs.NeedTable.{Table};
 ghost use Rattle.frames.specs.Steps.{Tables};
@@ -13,7 +12,6 @@ use frames::steps::Stepped;
 use handles::remembered::NeedNumber;
 use scopes::HandleNumber;
 use scopes::Numbers;
-use scopes::Scopes;
 use text::lines::Frame;
 
 // A step with needs: the numbers of the state, and how many handles and needs there are.

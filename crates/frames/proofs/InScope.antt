@@ -1,9 +1,9 @@
 -- A slot in the scope of an id, and its handle: 4, 16, 7, and what was granted. Assumes nothing.
 use mathlib.Core.Path.{_≡_, refl, sym, ap, subst, _∙_}
-use mathlib.Core.Bool.{Bool, true, false}
+use mathlib.Core.Bool.{false}
 use mathlib.Core.Option.{Option, none, some}
 use mathlib.Core.List.{List, [], _∷_}
-use Prim.Native.Nat.{ℕ, _+_, _≤_, _<_}
+use Prim.Native.Nat.{ℕ, _+_, _≤_}
 use native.Mathlib.Omega.{arith}
 use lib.ListN.{getD}
 use Rattle.rules.specs.Notation.{Answer, given, refused, _>>=_}
@@ -23,7 +23,6 @@ use Rattle.scopes.specs.declared.Outcome.{Outcome}
 use Rattle.needs.specs.declared.AddressKind.the-variants as kind
 use Rattle.handles.specs.Handles.{kindIn, stateOf}
 use Rattle.frames.specs.Steps.{addsOf, isRefused, Few, Stands, Grants, Reached, allottedIn, AllotsIn}
-use Rattle.frames.specs.declared.steps.Adds.{Adds}
 use Rattle.frames.specs.declared.steps.Adds.the-variants.{Refused}
 use Rattle.frames.proofs.Moving.{few-reply, comes-refused}
 use Rattle.frames.proofs.Allotting.{allots}

@@ -24,7 +24,7 @@ use Rattle.needs.specs.declared.OutputAnswer.the-variants as output
 use Rattle.handles.specs.Handles.{handleAt}
 use Rattle.handles.specs.NeedTable.{needIn, Needing, table, stateWith}
 use Rattle.handles.proofs.NeedTables.{need-set}
-use Rattle.frames.specs.Steps.{stepped, Few, Reached}
+use Rattle.frames.specs.Steps.{stepped, Few}
 use Rattle.frames.specs.Needing.{StandsWith, WorksWith, Adding, shownOf}
 use Rattle.frames.specs.declared.steps.Adds.{Adds}
 use Rattle.frames.specs.declared.steps.Adds.the-variants.{One, Refused}

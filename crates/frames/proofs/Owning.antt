@@ -1,6 +1,6 @@
 -- 23 of a deferred need, and 25: by what is done over the scopes and the handles alone. Assumes nothing.
 use mathlib.Core.Path.{_≡_, refl, sym, ap, _∙_}
-use mathlib.Core.Bool.{Bool, true, false}
+use mathlib.Core.Bool.{true, false}
 use mathlib.Core.Option.{Option, none, some}
 use mathlib.Core.List.{List, [], _∷_}
 use Prim.Native.Nat.{ℕ, _≤_, _<_}
@@ -17,11 +17,11 @@ use Rattle.rules.proofs.Chains.{All, all-given, all-then, all-when, when-false}
 use Rattle.rules.proofs.Tables.{put-ext}
 use Rattle.rules.proofs.Handles.{grant-new}
 use Rattle.rules.proofs.Needing.{own-known}
-use Rattle.rules.proofs.Apart.{mapped, within, Moves, allot-moves, own-line}
+use Rattle.rules.proofs.Apart.{mapped, within, allot-moves, own-line}
 use Rattle.rules.proofs.Tells.{clash}
 use Rattle.scopes.specs.View.{view}
 use Rattle.scopes.specs.declared.Scopes.{Scopes}
-use Rattle.handles.specs.Handles.{slotIn, kindIn, handleAt, stateOf}
+use Rattle.handles.specs.Handles.{kindIn, handleAt, stateOf}
 use Rattle.handles.specs.NeedTable.{needIn, rememberedAt, Needing, table, stateWith}
 use Rattle.handles.proofs.NeedTables.{own-is, again, need-set}
 use Rattle.frames.specs.Steps.{isRefused, freedThen, allottedIn, AllotsIn, Stands, Comes, Reached}

@@ -1,7 +1,6 @@
 // 20 defer, 21 assigned, 22 ignore, 24 output of need: frames that make a need or ask one, and leave all else alone.
 ghost use mathlib.Core.Path.{_≡_};
-ghost use mathlib.Core.List.{List};
-ghost use Prim.Native.Nat.{ℕ, _≤_};
+ghost use Prim.Native.Nat.{_≤_};
 ghost use Rattle.rules.specs.Frames as frame;
 ghost use Rattle.needs.specs.Kinds.{needOf};
 ghost use Rattle.handles.specs.NeedTable.{needIn, Table};

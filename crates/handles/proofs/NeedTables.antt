@@ -1,17 +1,17 @@
 -- Needs by their numbers in the tables: what a number says, whose handle it is, and one need set. Assumes nothing.
 use mathlib.Core.Path.{_≡_, refl, sym, ap, _∙_}
-use mathlib.Core.Bool.{Bool, true, false, _&&_}
+use mathlib.Core.Bool.{Bool, true, false}
 use mathlib.Core.List.{List}
 use Prim.Native.Nat.{ℕ, suc, _+_, _-_, _/_, _%_, _≤_, _<_}
 use native.Mathlib.Omega.{arith}
 use lib.Dec.{eqb}
-use lib.ListN.{length, getD, set}
+use lib.ListN.{length, set}
 use lib.Seq.{getD-set-same, getD-set-other}
 use borrow.Author.Tests.{ne-eqb, eq-eqb, eqb-true}
 use Rattle.rules.specs.Notation.{put, isSome, first}
 use Rattle.rules.specs.Scopes.{Id}
-use Rattle.rules.specs.Needs.{Kind, Address, allocatedKind, local, dangling, assigned, freed, scope, Need, defer, at, ignore, freedNeed}
-use Rattle.rules.specs.Frames.{Remembered, owns, isScopeKind, keeps}
+use Rattle.rules.specs.Needs.{Kind, Address, allocatedKind, local, dangling, assigned, freed, scope, defer, at, ignore, freedNeed}
+use Rattle.rules.specs.Frames.{owns, isScopeKind, keeps}
 use Rattle.rules.proofs.Tables.{put-ext}
 use Rattle.needs.specs.Kinds.{kindOf}
 use Rattle.handles.specs.declared.Handle.{Handle as Known}

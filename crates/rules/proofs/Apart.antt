@@ -9,7 +9,7 @@ use Rattle.rules.specs.Sizes.{Room}
 use Rattle.rules.specs.Slots.{Placement}
 use Rattle.rules.specs.Scopes.{Scopes, Found}
 use Rattle.rules.specs.Needs.{Kind, goesBack, giveBack, Need, defer, at, ignore, freedNeed}
-use Rattle.rules.specs.Frames.{Frame, child, pop, dangle, restore, popLast, alloc, allocIn, linear, define, get, takeFrom, free, freeQuietly, forget, drain, write, read, readName, newDefer, newAssigned, newIgnore, allocNeed, outputNeed, dropNeed, isScopeKind, Remembered, State, needs≔, needed≔, setHandle, unknown, spent, belongs, barred, allot, close, handBack, freeAs, freeHandle, freeOwn, Line, shows, oneLine, Step, step}
+use Rattle.rules.specs.Frames.{Frame, child, pop, dangle, restore, popLast, alloc, allocIn, linear, define, get, takeFrom, free, freeQuietly, forget, drain, write, read, readName, newDefer, newAssigned, newIgnore, allocNeed, outputNeed, dropNeed, isScopeKind, Remembered, State, needs≔, needed≔, setHandle, unknown, spent, belongs, barred, allot, close, handBack, freeAs, freeHandle, freeOwn, Line, shows, oneLine, step}
 use Rattle.rules.proofs.Tells.{clash}
 
 -- a frame that doesn't look at needs

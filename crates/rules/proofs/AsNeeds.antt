@@ -1,18 +1,18 @@
 -- Frames 23 and 25 do to a need what document 01's library calls do to it; what scripts add are handles, and 16 and 14. Assumes nothing.
-use mathlib.Core.Path.{_≡_, refl, sym, ap, _∙_}
+use mathlib.Core.Path.{_≡_, refl, ap}
 use mathlib.Core.Bool.{Bool, true, false, _||_}
 use mathlib.Core.Option.{Option, none, some}
-use Prim.Native.Nat.{ℕ, _+_, _≤_, _<_}
+use Prim.Native.Nat.{ℕ, _+_, _≤_}
 use lib.Dec.{ltb}
 use borrow.Author.Tests.{le-ltb}
 use Rattle.rules.specs.Notation.{Answer, given, refused, _>>=_, refuse_when_, refuse_unless_, if_then_else_}
 use Rattle.rules.specs.Sizes.{Room}
 use Rattle.rules.specs.Slots.{Placement}
 use Rattle.rules.specs.Scopes.{Id, Scopes, Found, topScope, byId, allocIn, allocate}
-use Rattle.rules.specs.Needs.{Kind, local, dangling, assigned, freed, scope, Address, allocAddressIn, isScope, goesBack, giveBack, freeAddress, Need, defer, at, ignore, freedNeed, Allocated, allocateNeed, freeNeed}
-use Rattle.rules.specs.Frames.{Remembered, isScopeKind, owns, State, setHandle, allot, handBack, freeAs, setNeed, allotNeed, freeOwn}
+use Rattle.rules.specs.Needs.{Kind, local, dangling, assigned, freed, scope, allocAddressIn, isScope, goesBack, giveBack, freeAddress, Need, defer, at, ignore, freedNeed, Allocated, allocateNeed, freeNeed}
+use Rattle.rules.specs.Frames.{Remembered, isScopeKind, State, setHandle, allot, handBack, freeAs, setNeed, allotNeed, freeOwn}
 use Rattle.rules.proofs.Tables.{put-same}
-use Rattle.rules.proofs.Tells.{clash, decided}
+use Rattle.rules.proofs.Tells.{clash}
 use Rattle.rules.proofs.Sound.{NeedAgrees}
 
 -- ---- 23

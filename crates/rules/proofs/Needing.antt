@@ -2,11 +2,11 @@
 -- freed. Assumes nothing.
 use mathlib.Core.Path.{_≡_, refl, sym, ap, subst, _∙_}
 use mathlib.Core.Bool.{true, false}
-use Prim.Native.Nat.{ℕ, _+_, _≤_, _<_}
+use Prim.Native.Nat.{ℕ, _≤_, _<_}
 use native.Mathlib.Omega.{arith}
 use borrow.Author.Tests.{leb-false}
 use Rattle.rules.specs.Notation.{put}
-use Rattle.rules.specs.Needs.{Kind, Need, defer, at, ignore, freedNeed}
+use Rattle.rules.specs.Needs.{Need, defer, at, ignore, freedNeed}
 use Rattle.rules.specs.Frames.{Handle, Remembered, owns, isGone, State, lost}
 use Rattle.rules.proofs.Tables.{put-cases}
 use Rattle.rules.proofs.Tells.{clash, neither}

@@ -1,6 +1,6 @@
 -- `is_freeing` meets its contract. Assumes nothing.
 use native.Mathlib.Omega.{arith}
-use mathlib.Core.Path.{_≡_, refl}
+use mathlib.Core.Path.{refl}
 use borrow.Author.Tests.{lt-ltb, ltb-true}
 use Rattle.rules.proofs.Tells.{clash}
 use Rattle.dispatch.proofs.is_freeing.Statement.{statement}

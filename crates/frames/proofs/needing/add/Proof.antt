@@ -1,6 +1,4 @@
 -- `add` meets its contract. Assumes nothing.
-use native.Mathlib.Omega.{arith}
-use mathlib.Core.Path.{_≡_, refl, sym, ap, _∙_}
 use borrow.Author.Needs.{needs}
 use Rattle.frames.proofs.NeedSteps.{adding-22, adding}
 use Rattle.frames.proofs.needing.add.Statement.{statement}

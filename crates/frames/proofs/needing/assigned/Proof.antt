@@ -1,12 +1,11 @@
 -- 21 assigned: 13, 22. Assumes nothing.
 use native.Mathlib.Omega.{arith}
-use mathlib.Core.Path.{_≡_, sym, ap, _∙_}
+use mathlib.Core.Path.{sym, _∙_}
 use borrow.Author.Needs.{needs}
 use Rattle.rules.specs.Needs as rule
 use Rattle.rules.specs.Frames as frame
 use Rattle.rules.specs.Frames.{step}
 use Rattle.rules.proofs.Chains.{when-true, when-false}
-use Rattle.handles.specs.Handles.{slotIn}
 use Rattle.frames.proofs.Handling.{is-unknown, is-known}
 use Rattle.frames.proofs.NeedSteps.{makes, makes-refused}
 use Rattle.frames.proofs.needing.assigned.Statement.{statement}

@@ -1,10 +1,9 @@
 -- `defer` meets its contract. Assumes nothing.
-use native.Mathlib.Omega.{arith}
-use mathlib.Core.Path.{_≡_, refl, sym, ap, _∙_}
+use mathlib.Core.Path.{ap, _∙_}
 use borrow.Author.Needs.{needs}
 use Rattle.frames.proofs.NeedSteps.{nowhere, makes, makes-refused}
 use Rattle.rules.specs.Frames as frame
-use Rattle.rules.specs.Frames.{Remembered, step}
+use Rattle.rules.specs.Frames.{step}
 use Rattle.rules.proofs.Chains.{unless-none, unless-some}
 use Rattle.rules.specs.Needs as rule
 use Rattle.scopes.specs.declared.Scopes.{Scopes}

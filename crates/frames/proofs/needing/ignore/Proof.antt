@@ -1,6 +1,5 @@
 -- `ignore` meets its contract. Assumes nothing.
-use native.Mathlib.Omega.{arith}
-use mathlib.Core.Path.{_≡_, refl, sym, ap, _∙_}
+use mathlib.Core.Path.{refl}
 use borrow.Author.Needs.{needs}
 use Rattle.frames.proofs.NeedSteps.{makes}
 use Rattle.rules.specs.Frames as frame

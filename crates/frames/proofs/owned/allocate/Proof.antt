@@ -1,9 +1,9 @@
 -- 23 allocate need: 21, and of a deferred one 4, 16, 7. Assumes nothing.
-use mathlib.Core.Path.{_≡_, refl, sym, ap, _∙_}
+use mathlib.Core.Path.{sym, ap, _∙_}
 use Rattle.rules.specs.Frames as frame
 use Rattle.rules.specs.Frames.{isGone, step}
 use Rattle.rules.proofs.Chains.{when-true}
-use Rattle.needs.specs.Kinds.{needOf, addressOf}
+use Rattle.needs.specs.Kinds.{needOf}
 use Rattle.frames.proofs.Allocations.{reached-is}
 use Rattle.frames.proofs.Owning.{below, need-21, gone-21, again-works, ignored-works}
 use borrow.Author.Needs.{needs}

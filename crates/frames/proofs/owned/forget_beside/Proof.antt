@@ -1,6 +1,5 @@
 -- `forget_beside` meets its contract. Assumes nothing.
-use native.Mathlib.Omega.{arith}
-use mathlib.Core.Path.{_≡_, refl, sym, ap, _∙_}
+use mathlib.Core.Path.{refl, sym, _∙_}
 use borrow.Author.Needs.{needs}
 use Rattle.rules.specs.Frames as frame
 use Rattle.frames.proofs.Beside.{refused-with, forget-barred, forget-works-with}

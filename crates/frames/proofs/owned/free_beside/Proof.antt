@@ -1,6 +1,5 @@
 -- `free_beside` meets its contract. Assumes nothing.
-use native.Mathlib.Omega.{arith}
-use mathlib.Core.Path.{_≡_, refl, sym, ap, _∙_}
+use mathlib.Core.Path.{sym, _∙_}
 use borrow.Author.Needs.{needs}
 use Rattle.rules.specs.Sizes.{base}
 use Rattle.frames.specs.Steps.{freeing, freeCode}

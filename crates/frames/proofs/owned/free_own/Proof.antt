@@ -1,6 +1,6 @@
 -- A handle that may belong to a need is freed with it: 14, 12. Assumes nothing.
 use native.Mathlib.Omega.{arith}
-use mathlib.Core.Path.{_≡_, sym, ap, _∙_}
+use mathlib.Core.Path.{sym, ap, _∙_}
 use Prim.Native.Nat.{_<_}
 use Rattle.rules.specs.Sizes.{base}
 use Rattle.rules.specs.Frames.{isScopeKind}

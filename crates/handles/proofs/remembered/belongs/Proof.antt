@@ -1,9 +1,9 @@
 -- `belongs` meets its contract. Assumes nothing.
 use native.Mathlib.Omega.{arith}
-use mathlib.Core.Path.{_≡_, refl, sym, ap, _∙_}
+use mathlib.Core.Path.{sym, _∙_}
 use borrow.Author.Needs.{needs}
 use Rattle.handles.proofs.NeedTables.{Left, belongs-all, belongs-here, belongs-next, belongs-none}
-use Prim.Native.Nat.{_≤_, _-_}
+use Prim.Native.Nat.{_-_}
 use Rattle.handles.proofs.remembered.belongs.Statement.{statement}
 use Rattle.handles.proofs.remembered.belongs.Tie as tie
 

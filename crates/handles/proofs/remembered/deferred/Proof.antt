@@ -1,6 +1,5 @@
 -- `deferred` meets its contract. Assumes nothing.
 use native.Mathlib.Omega.{arith}
-use mathlib.Core.Path.{_≡_, refl, sym, ap, _∙_}
 use borrow.Author.Needs.{needs}
 use Rattle.handles.proofs.NeedTables.{four, deferred-is}
 use Rattle.scopes.specs.View.{idOf}

@@ -1,7 +1,5 @@
 -- `is_its` meets its contract. Assumes nothing.
-use native.Mathlib.Omega.{arith}
-use mathlib.Core.Path.{_≡_, refl, sym, ap, _∙_}
-use borrow.Author.Needs.{needs}
+use mathlib.Core.Path.{sym}
 use Rattle.handles.proofs.NeedTables.{keeps-four, keeps-other}
 use Rattle.handles.proofs.remembered.is_its.Statement.{statement}
 use Rattle.handles.proofs.remembered.is_its.Tie as tie
