@@ -193,10 +193,18 @@ fn refused(frames: &[Frame], number: u8, line: usize, plant: Option<OriginalFaul
         Some((earlier, why)) if earlier < line => {
             Verdict::Differs(format!("line {earlier}: taken here, the original: {why:?}"))
         }
+        // a need that isn't there can't be said to the original
+        None if number == 21 => Verdict::Differs(format!(
+            "line {line}: refused here by 21, taken by the original"
+        )),
         _ if !refused_there_too(number, frames[line]) => Verdict::Ours(number),
         Some((_, Stop::Refused(_))) => Verdict::BothRefuse(number),
-        // a scope that was never opened
-        Some((_, Stop::Untold(_))) if number == 4 => Verdict::Ours(number),
+        // a scope that was never opened; that of a need was
+        Some((_, Stop::Untold(_)))
+            if number == 4 && !matches!(frames[line], Frame::AllocNeed(_)) =>
+        {
+            Verdict::Ours(number)
+        }
         other => Verdict::Differs(format!(
             "line {line}: refused here by {number}, the original: {other:?}"
         )),
