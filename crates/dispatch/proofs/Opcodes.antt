@@ -21,7 +21,7 @@ use Rattle.text.proofs.Rows.{opcode-told}
 use Rattle.handles.specs.NeedTable.{Needing}
 use Rattle.frames.specs.Steps.{freeing, freeCode, Works, Reached}
 use Rattle.frames.specs.Needing.{WorksWith}
-use Rattle.dispatch.specs.Dispatched.{isPlain}
+use Rattle.dispatch.specs.Dispatched.{PlainCode}
 use Rattle.text.specs.Shapes.{shapeOf, frameShapes}
 use Rattle.text.specs.declared.lines.Frame.{Frame as Code}
 
@@ -76,11 +76,11 @@ pub is-last : (f : Code) {g : Frame} → frameOf f ≡ some g → 37 ≤ f .opco
 is-last f e l = by-eqb (f .opcode) 37 (λ q. q) (λ ne. no-frame (is-past f (omega (arith, ne))) e)
 
 -- an opcode that is neither a freeing one nor a need's is a plain one
-pub plain-by : (o : ℕ) → ((12 ≤ o) × (o < 15) → ⊥) → o < 32 → isPlain o
+pub plain-by : (o : ℕ) → ((12 ≤ o) × (o < 15) → ⊥) → o < 32 → PlainCode o
 plain-by o ne h = (decided (ltb o 12) (λ e. inl (ltb-true o 12 e)) (λ e. decided (ltb o 15) (λ q. absurd (ne (ltb-false o 12 e, ltb-true o 15 q))) (λ q. inr (ltb-false o 15 q))), h)
 
 -- a frame whose opcode is a plain one doesn't look at needs
-pub plain-code : (f : Code) (g : Frame) → isPlain (f .opcode) → frameOf f ≡ some g → plain g ≡ true
+pub plain-code : (f : Code) (g : Frame) → PlainCode (f .opcode) → frameOf f ≡ some g → plain g ≡ true
 plain-code f g p e = go g (opcode-told f g e)
   where
     out : {X : Type 0} (o : ℕ) → o ≡ f .opcode → 12 ≤ o → (o < 15) ⊎ (32 ≤ o) → X

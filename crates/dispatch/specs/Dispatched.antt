@@ -14,7 +14,7 @@ use Rattle.scopes.specs.Lent.{made}
 use Rattle.handles.specs.NeedTable.{table}
 use Rattle.text.specs.Lines.{frameOf}
 use Rattle.text.specs.declared.lines.Frame.{Frame as Code}
-use Rattle.frames.specs.Steps.{Lent, onNames, onCells, numberedIn, allotsIn, allotsOut, Works, Leads, Stays, LeadsAllots}
+use Rattle.frames.specs.Steps.{LentArray, onNames, onCells, numberedIn, allotsIn, allotsOut, Works, Leads, Stays, LeadsAllots}
 use Rattle.frames.specs.Needing.{StandsWith, WorksWith, Makes, FreesBeside, tableIn, tableOut}
 use Rattle.frames.specs.declared.needing.Noted.{Noted}
 use Rattle.frames.specs.declared.steps.Adds.{Adds}
@@ -22,15 +22,15 @@ use Rattle.frames.specs.declared.steps.Stepped.{Stepped}
 use Rattle.dispatch.specs.declared.beside.Advance.{Advance}
 
 -- an opcode of a frame that doesn't look at needs
-abbrev pub isPlain : ℕ → Type 0
-isPlain o = ((o < 12) ⊎ (15 ≤ o)) × (o < 32)
+abbrev pub PlainCode : ℕ → Type 0
+PlainCode o = ((o < 12) ⊎ (15 ≤ o)) × (o < 32)
 
 -- the state that the lent arrays are, as they came in and as they are left
-abbrev pub wholeIn : (halves links owner : Lent ℕ) (live dangled : Lent Bool) (parent number bindings : Lent ℕ) → Numbers → Scopes
+abbrev pub wholeIn : (halves links owner : LentArray ℕ) (live dangled : LentArray Bool) (parent number bindings : LentArray ℕ) → Numbers → Scopes
 wholeIn halves links owner live dangled parent number bindings n =
     made (now (halves .entry)) (now (links .entry)) (now (owner .entry)) (now (live .entry)) (now (dangled .entry)) (now (parent .entry)) (now (number .entry)) (now (bindings .entry)) n
 
-abbrev pub wholeOut : (halves links owner : Lent ℕ) (live dangled : Lent Bool) (parent number bindings : Lent ℕ) → Numbers → Scopes
+abbrev pub wholeOut : (halves links owner : LentArray ℕ) (live dangled : LentArray Bool) (parent number bindings : LentArray ℕ) → Numbers → Scopes
 wholeOut halves links owner live dangled parent number bindings n =
     made (now (halves .exit)) (now (links .exit)) (now (owner .exit)) (now (live .exit)) (now (dangled .exit)) (now (parent .exit)) (now (number .exit)) (now (bindings .exit)) n
 
@@ -41,14 +41,14 @@ StandsOn halves links owner live dangled parent number bindings n handles holder
     × (length (now drained) ≡ 1024)
 
 -- the frame that the record f is leads where the rules say
-abbrev pub StepsOn : Code → (halves links owner : Lent ℕ) (live dangled : Lent Bool) (parent number bindings : Lent ℕ) → Numbers → (handles holders drained : Lent ℕ) → ℕ → (needs remembers : Lent ℕ) → ℕ → Advance → Type 0
+abbrev pub StepsOn : Code → (halves links owner : LentArray ℕ) (live dangled : LentArray Bool) (parent number bindings : LentArray ℕ) → Numbers → (handles holders drained : LentArray ℕ) → ℕ → (needs remembers : LentArray ℕ) → ℕ → Advance → Type 0
 StepsOn f halves links owner live dangled parent number bindings n handles holders drained handed needs remembers needed r =
     (g : Frame) → frameOf f ≡ some g → WorksWith g (f .opcode) (wholeIn halves links owner live dangled parent number bindings n) (now (handles .entry)) (now (holders .entry)) handed (tableIn needs remembers needed)
     (record { state = wholeOut halves links owner live dangled parent number bindings (r .numbers); handed = r .handed; adds = r .adds })
     (now (handles .exit)) (now (holders .exit)) (tableOut needs remembers (r .needed)) (now (drained .exit))
 
 -- .. whatever needs there are
-abbrev pub PlainOn : Code → (halves links owner : Lent ℕ) (live dangled : Lent Bool) (parent number bindings : Lent ℕ) → Numbers → (handles holders drained : Lent ℕ) → ℕ → Stepped → Type 0
+abbrev pub PlainOn : Code → (halves links owner : LentArray ℕ) (live dangled : LentArray Bool) (parent number bindings : LentArray ℕ) → Numbers → (handles holders drained : LentArray ℕ) → ℕ → Stepped → Type 0
 PlainOn f halves links owner live dangled parent number bindings n handles holders drained handed r =
     (g : Frame) → frameOf f ≡ some g → Works g (f .opcode) (wholeIn halves links owner live dangled parent number bindings n) (now (handles .entry)) (now (holders .entry)) handed
     (record { state = wholeOut halves links owner live dangled parent number bindings (r .numbers); handed = r .handed; adds = r .adds })
@@ -57,40 +57,40 @@ PlainOn f halves links owner live dangled parent number bindings n handles holde
 -- ---- of the frame that the record f is, over the arrays that a group of frames is lent
 
 -- 01 to 05
-abbrev pub ScopeStep : Code → (halves links owner : Lent ℕ) (live dangled : Lent Bool) (parent number bindings : Lent ℕ) → Numbers → ℕ → Stepped → Type 0
+abbrev pub ScopeStep : Code → (halves links owner : LentArray ℕ) (live dangled : LentArray Bool) (parent number bindings : LentArray ℕ) → Numbers → ℕ → Stepped → Type 0
 ScopeStep f halves links owner live dangled parent number bindings n handed r =
     (g : Frame) → frameOf f ≡ some g → (handles holders : List ℕ)
     → Leads g (f .opcode) (wholeIn halves links owner live dangled parent number bindings n) (wholeOut halves links owner live dangled parent number bindings (r .numbers)) handles holders handed r handles holders
 
 -- 06 to 08
-abbrev pub AllotStep : Code → (halves links owner : Lent ℕ) → Lent Bool → Lent ℕ → Numbers → (handles holders : Lent ℕ) → ℕ → Stepped → Type 0
+abbrev pub AllotStep : Code → (halves links owner : LentArray ℕ) → LentArray Bool → LentArray ℕ → Numbers → (handles holders : LentArray ℕ) → ℕ → Stepped → Type 0
 AllotStep f halves links owner live number n handles holders handed r = (g : Frame) → frameOf f ≡ some g → LeadsAllots g (f .opcode) halves links owner live number n handles holders handed r
 
 -- 09 to 0b
-abbrev pub NameStep : Code → Lent Bool → (parent bindings : Lent ℕ) → Numbers → Lent ℕ → ℕ → Stepped → Type 0
+abbrev pub NameStep : Code → LentArray Bool → (parent bindings : LentArray ℕ) → Numbers → LentArray ℕ → ℕ → Stepped → Type 0
 NameStep f live parent bindings n handles handed r =
     (g : Frame) → frameOf f ≡ some g → (s : Scopes) (holders : List ℕ)
     → Leads g (f .opcode) (onNames s (now (live .entry)) (now (parent .entry)) (now (bindings .entry)) n) (onNames s (now (live .entry)) (now (parent .entry)) (now (bindings .exit)) (r .numbers)) (now (handles .entry)) holders handed r (now (handles .entry)) holders
 
 -- 10 to 12
-abbrev pub CellStep : Code → Lent ℕ → Lent Bool → (parent bindings : Lent ℕ) → Numbers → (handles holders : Lent ℕ) → ℕ → Adds → Type 0
+abbrev pub CellStep : Code → LentArray ℕ → LentArray Bool → (parent bindings : LentArray ℕ) → Numbers → (handles holders : LentArray ℕ) → ℕ → Adds → Type 0
 CellStep f halves live parent bindings n handles holders handed adds =
     (g : Frame) → frameOf f ≡ some g → (s : Scopes)
     → Stays g (f .opcode) (onCells s (now (halves .entry)) (now (live .entry)) (now (parent .entry)) (now (bindings .entry)) n) (now (handles .entry)) (now (holders .entry)) handed adds (now (handles .exit))
 
 -- 0c to 0e
-abbrev pub FreeStep : Code → (halves links owner number : Lent ℕ) → Numbers → (handles holders : Lent ℕ) → ℕ → (needs remembers : Lent ℕ) → ℕ → Stepped → Type 0
+abbrev pub FreeStep : Code → (halves links owner number : LentArray ℕ) → Numbers → (handles holders : LentArray ℕ) → ℕ → (needs remembers : LentArray ℕ) → ℕ → Stepped → Type 0
 FreeStep f halves links owner number n handles holders handed needs remembers needed r =
     (g : Frame) → frameOf f ≡ some g → FreesBeside g (f .opcode) halves links owner number n handles holders handed (tableIn needs remembers needed) r (tableIn needs remembers needed)
 
 -- 20 to 22
-abbrev pub NoteStep : Code → Lent Bool → Lent ℕ → Lent ℕ → ℕ → (needs remembers : Lent ℕ) → ℕ → Noted → Type 0
+abbrev pub NoteStep : Code → LentArray Bool → LentArray ℕ → LentArray ℕ → ℕ → (needs remembers : LentArray ℕ) → ℕ → Noted → Type 0
 NoteStep f live number handles handed needs remembers needed r =
     (g : Frame) → frameOf f ≡ some g → (s : Scopes) (holders : List ℕ)
     → Makes g (f .opcode) (numberedIn s live number) (now (handles .entry)) holders handed (tableIn needs remembers needed) (r .adds) (tableOut needs remembers (r .needed))
 
 -- 20 to 25
-abbrev pub NeedStep : Code → (halves links owner : Lent ℕ) → Lent Bool → Lent ℕ → Numbers → (handles holders : Lent ℕ) → ℕ → (needs remembers : Lent ℕ) → ℕ → Advance → Type 0
+abbrev pub NeedStep : Code → (halves links owner : LentArray ℕ) → LentArray Bool → LentArray ℕ → Numbers → (handles holders : LentArray ℕ) → ℕ → (needs remembers : LentArray ℕ) → ℕ → Advance → Type 0
 NeedStep f halves links owner live number n handles holders handed needs remembers needed r =
     (g : Frame) → frameOf f ≡ some g → (s : Scopes) → StandsWith (allotsIn s halves links owner live number n) (now (handles .entry)) (now (holders .entry)) handed (tableIn needs remembers needed) → (drained : List ℕ)
     → WorksWith g (f .opcode) (allotsIn s halves links owner live number n) (now (handles .entry)) (now (holders .entry)) handed (tableIn needs remembers needed)

@@ -1,8 +1,8 @@
 // The frames that look at needs, by their opcodes: 0c to 0e, and 20 to 25.
 ghost use Prim.Native.Nat.{_≤_, _<_};
-ghost use Rattle.handles.specs.NeedTable.{Table};
+ghost use Rattle.handles.specs.NeedTable.{SizedNeeds};
 ghost use Rattle.frames.specs.Steps.{Tables};
-ghost use Rattle.frames.specs.Needing.{NeedsAllots, NeedsFrees};
+ghost use Rattle.frames.specs.Needing.{StandsAllotsWith, StandsFreesWith};
 ghost use Rattle.dispatch.specs.Dispatched.{FreeStep, NoteStep, NeedStep};
 use frames::needing;
 use frames::needing::Noted;
@@ -37,7 +37,7 @@ pub fn free_step<'a>(
     needed: usize,
     f: Frame,
 ) -> Stepped
-    requires { ⌜ NeedsFrees halves links owner number n handles holders handed needs remembers needed × (12 ≤ f .opcode) × (f .opcode < 15) ⌝ }
+    requires { ⌜ StandsFreesWith halves links owner number n handles holders handed needs remembers needed × (12 ≤ f .opcode) × (f .opcode < 15) ⌝ }
     ensures { λ r. ⌜ FreeStep f halves links owner number n handles holders handed needs remembers needed r ⌝ }
 {
     let op = f.opcode;
@@ -79,7 +79,7 @@ fn note_step<'a>(
     needed: usize,
     f: Frame,
 ) -> Noted
-    requires { ⌜ Tables (now handles) handed × Table (now needs) (now remembers) needed × (32 ≤ f .opcode) × (f .opcode < 35) ⌝ }
+    requires { ⌜ Tables (now handles) handed × SizedNeeds (now needs) (now remembers) needed × (32 ≤ f .opcode) × (f .opcode < 35) ⌝ }
     ensures { λ r. ⌜ NoteStep f live number handles handed needs remembers needed r ⌝ }
 {
     let op = f.opcode;
@@ -108,7 +108,7 @@ pub fn need_step<'a>(
     needed: usize,
     f: Frame,
 ) -> Advance
-    requires { ⌜ NeedsAllots halves links owner live number n handles holders handed needs remembers needed × (32 ≤ f .opcode) ⌝ }
+    requires { ⌜ StandsAllotsWith halves links owner live number n handles holders handed needs remembers needed × (32 ≤ f .opcode) ⌝ }
     ensures { λ r. ⌜ NeedStep f halves links owner live number n handles holders handed needs remembers needed r ⌝ }
 {
     let op = f.opcode;

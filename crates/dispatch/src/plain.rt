@@ -5,7 +5,7 @@ ghost use Prim.Native.Nat.{ℕ, _≤_, _<_};
 ghost use lib.ListN.{length};
 ghost use Rattle.scopes.specs.Lent.{made, Whole};
 ghost use Rattle.frames.specs.Steps.{onNames, onCells, Stands, StandsAllots};
-ghost use Rattle.dispatch.specs.Dispatched.{isPlain, ScopeStep, AllotStep, NameStep, CellStep, PlainOn};
+ghost use Rattle.dispatch.specs.Dispatched.{PlainCode, ScopeStep, AllotStep, NameStep, CellStep, PlainOn};
 use frames::allots;
 use frames::cells;
 use frames::named;
@@ -199,7 +199,7 @@ pub fn plain_step(
     f: Frame,
 ) -> Stepped
     requires { ⌜ Stands (made (now halves) (now links) (now owner) (now live) (now dangled) (now parent) (now number) (now bindings) n) (now handles) (now holders) handed ⌝ }
-    requires { ⌜ (length (now drained) ≡ 1024) × isPlain (f .opcode) ⌝ }
+    requires { ⌜ (length (now drained) ≡ 1024) × PlainCode (f .opcode) ⌝ }
     ensures { λ r. ⌜ PlainOn f halves links owner live dangled parent number bindings n handles holders drained handed r ⌝ }
     ensures { λ _. ⌜ length (now (drained .exit)) ≡ 1024 ⌝ }
 {

@@ -1,4 +1,4 @@
--- 06 alloc and 08 linear, case by case: 3 or 4, 16, and what was granted. Assumes nothing.
+-- 06 alloc and 08 linear, case by case: 3, 16, and what was granted. Assumes nothing.
 use mathlib.Core.Path.{_≡_, refl, sym, ap, subst, _∙_}
 use mathlib.Core.Logic.{_⊎_, ⊎-elim, inl, inr}
 use mathlib.Core.Bool.{Bool, true, false, _&&_}
@@ -17,7 +17,7 @@ use Rattle.rules.specs.Needs.{Kind, local, runKind}
 use Rattle.rules.specs.Frames.{State, Frame, alloc, linear, shows, oneLine, Step, allot, step}
 use Rattle.rules.proofs.Chains.{none-some, unless-some, unless-none, when-true, refused-on}
 use Rattle.rules.proofs.Tells.{tells-and, tells-lt, tells-true, clash}
-use Rattle.rules.proofs.Naming.{found-at}
+use Rattle.rules.proofs.Naming.{id-is as found-id}
 use Rattle.rules.proofs.Exact.{top-found}
 use Rattle.scopes.specs.View.{view, index, at, atFirst, Seen, seen, told}
 use Rattle.scopes.specs.Lent.{made, Whole}
@@ -47,17 +47,7 @@ module _ (s : Scopes) where
       (stands .whole .sound .rooted .topped)
 
 pub id-is : (c : rule.Scopes) (id : Id) (k : Found) → byId base c id ≡ some k → id ≡ rule.idOf k
-unfolding byId
-id-is c id k e = go (ltb (id .index) (base .scopes) && rule.hasNumber (id .number) (c .live (id .index))) refl
-  where
-    go : (b : Bool) → (ltb (id .index) (base .scopes) && rule.hasNumber (id .number) (c .live (id .index))) ≡ b → id ≡ rule.idOf k
-    go false q = none-some (rw (q, byId) at e)
-    go true q =
-        let f = found-at (c .live) (id .index) k (rw (q, byId) at e) in
-        let t = tells-and (tells-lt (id .index) (base .scopes)) (tells-true (rule.hasNumber (id .number) (c .live (id .index)))) .holds q .1 in
-        let at : c .live (id .index) ≡ some (k .scope) = ap (c .live) (sym (f .0)) ∙ f .1 in
-        let n : k .scope .number ≡ id .number = eqb-true (k .scope .number) (id .number) (sym (ap (rule.hasNumber (id .number)) at) ∙ t) in
-        λ u. record { index = sym (f .0) u; number = sym n u }
+id-is c id k e = let t = found-id base c id k e in λ u. record { index = sym (t .0) u; number = sym (t .1) u }
 
 abbrev runStart : ℕ × rule.Scopes → Option ℕ × rule.Scopes
 runStart r = (some (r .0), r .1)

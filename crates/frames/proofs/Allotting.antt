@@ -15,7 +15,7 @@ use Rattle.rules.specs.Slots.{Slots, Placed, edition1}
 use Rattle.rules.specs.Scopes as rule
 use Rattle.rules.specs.Scopes.{Found, allocate, topScope}
 use Rattle.rules.specs.Needs.{Kind}
-use Rattle.rules.specs.Frames.{gone as noNeed, State, scopes≔, handles≔, handed≔, Line, shows, oneLine, Step, grant, allot}
+use Rattle.rules.specs.Frames.{noNeed, State, scopes≔, handles≔, handed≔, Line, shows, oneLine, Step, grant, allot}
 use Rattle.rules.specs.Demand3.{Fair, Gives}
 use Rattle.rules.proofs.Sound.{SlotsSound}
 use Rattle.rules.proofs.Tells.{decided, is-false, clash}

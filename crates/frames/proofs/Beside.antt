@@ -1,7 +1,7 @@
 -- A step beside needs: what is done over the scopes and the handles alone, then what becomes of the needs. 01 to 0b and 0f to 12, and 0c, 0d, 0e of
 -- a handle that belongs to no need, leave them. Assumes nothing.
 use mathlib.Core.Path.{_≡_, refl, sym, ap, subst, _∙_}
-use mathlib.Core.Bool.{Bool, true, false, _||_}
+use mathlib.Core.Bool.{Bool, true, false}
 use mathlib.Core.List.{List}
 use Prim.Native.Nat.{ℕ, _<_}
 use native.Mathlib.Omega.{arith}
@@ -13,6 +13,7 @@ use Rattle.rules.specs.Frames.{Frame, forget, Remembered, State, spent, belongs
 use Rattle.rules.proofs.Chains.{when-true, refused-on}
 use Rattle.rules.proofs.Apart.{plain, mapped, within, apart, apart-free, apart-quietly, apart-forget}
 use Rattle.rules.proofs.Sound.{StateSound}
+use Rattle.rules.proofs.Tells.{or-second}
 use Rattle.scopes.specs.View.{view}
 use Rattle.scopes.specs.Lent.{Whole}
 use Rattle.scopes.specs.declared.Scopes.{Scopes}
@@ -98,11 +99,7 @@ module _ (s : Scopes) (handles holders : List ℕ) (handed : ℕ) (t : Needing) 
 
     barred-by : belongsIn (t .needs) (t .remembers) (t .needed) h ≡ true → barred standing h ≡ true
     unfolding barred
-    barred-by e = either (spent standing h) (belongs standing h) (belongs-is ∙ e)
-      where
-        either : (a b : Bool) → b ≡ true → (a || b) ≡ true
-        either true b q = refl
-        either false b q = q
+    barred-by e = or-second (spent standing h) (belongs standing h) (belongs-is ∙ e)
 
     pub free-barred : (dangles : Bool) → belongsIn (t .needs) (t .remembers) (t .needed) h ≡ true → step base (edition1 (base .segments)) standing (freeing dangles h) ≡ refused 13
     unfolding freeHandle

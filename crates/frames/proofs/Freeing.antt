@@ -12,7 +12,7 @@ use Rattle.rules.specs.Sizes.{base}
 use Rattle.rules.specs.Slots.{Slots, edition1, remove}
 use Rattle.rules.specs.Scopes as rule
 use Rattle.rules.specs.Needs.{Kind, freed, isFreed, goesBack, giveBack}
-use Rattle.rules.specs.Frames.{gone as noNeed, State, scopes≔, Handle, held≔, kind≔, Frame, shows, oneLine, setHandle, handBack, freeAs, freeHandle, step}
+use Rattle.rules.specs.Frames.{noNeed, State, scopes≔, Handle, held≔, kind≔, Frame, shows, oneLine, setHandle, handBack, freeAs, freeHandle, step}
 use Rattle.rules.proofs.Chains.{when-true, when-false, refused-on}
 use Rattle.rules.proofs.Tables.{put-same, put-other, put-ext, remove-other}
 use Rattle.rules.proofs.Tells.{decided, clash, tells-and, tells-true, tells-eq}

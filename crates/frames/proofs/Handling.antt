@@ -13,8 +13,9 @@ use Rattle.rules.specs.Sizes.{base}
 use Rattle.rules.specs.Slots.{edition1}
 use Rattle.rules.specs.Scopes as rule
 use Rattle.rules.specs.Needs.{Kind, Address, address, freed, allocatedKind, isFreed}
-use Rattle.rules.specs.Frames.{gone as noNeed, State, Handle, kind≔, written≔, Frame, define, forget, write, read, shows, stores, loads, oneLine, unknown, spent, belongs, barred, setHandle, step}
+use Rattle.rules.specs.Frames.{noNeed, State, Handle, kind≔, written≔, Frame, define, forget, write, read, shows, stores, loads, oneLine, unknown, spent, belongs, barred, setHandle, step}
 use Rattle.rules.proofs.Chains.{when-true, when-false}
+use Rattle.rules.proofs.Tells.{or-second}
 use Rattle.slots.specs.Halves.{occ}
 use Rattle.scopes.specs.View.{view}
 use Rattle.scopes.specs.declared.Scopes.{Scopes}
@@ -34,11 +35,7 @@ module _ (t : State) (h : ℕ) where
 
   pub spent-freed : isFreed (t .handles h .kind) ≡ true → spent t h ≡ true
   unfolding spent
-  spent-freed e = either (unknown t h) (isFreed (t .handles h .kind)) e
-    where
-      either : (a b : Bool) → b ≡ true → (a || b) ≡ true
-      either true b q = refl
-      either false b q = q
+  spent-freed e = or-second (unknown t h) (isFreed (t .handles h .kind)) e
 
   pub unspent : h < t .handed → isFreed (t .handles h .kind) ≡ false → spent t h ≡ false
   unfolding spent unknown

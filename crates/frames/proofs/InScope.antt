@@ -22,7 +22,7 @@ use Rattle.scopes.specs.declared.ScopeId.{ScopeId}
 use Rattle.scopes.specs.declared.Outcome.{Outcome}
 use Rattle.needs.specs.declared.AddressKind.the-variants as kind
 use Rattle.handles.specs.Handles.{kindIn, stateOf}
-use Rattle.frames.specs.Steps.{addsOf, isRefused, Few, Stands, Grants, Reached, allottedIn, AllotsIn}
+use Rattle.frames.specs.Steps.{addsOf, isRefused, Few, Stands, Grants, Reached, allottedIn, AllotsOne}
 use Rattle.frames.specs.declared.steps.Adds.the-variants.{Refused}
 use Rattle.frames.proofs.Moving.{few-reply, comes-refused}
 use Rattle.frames.proofs.Allotting.{allots}
@@ -35,7 +35,7 @@ module _ (s : Scopes) (handles holders : List ℕ) (handed : ℕ) (stands : Stan
   abbrev standing : State
   standing = stateOf c handles holders handed
 
-  pub in-refused : (n : ℕ) (r : Reached) → r ≡ record { state = s; handed = handed; adds = Refused n } → ((o : ℕ) → allottedIn (idOf id) o standing ≡ refused n) → AllotsIn (idOf id) s handles holders handed r handles holders
+  pub in-refused : (n : ℕ) (r : Reached) → r ≡ record { state = s; handed = handed; adds = Refused n } → ((o : ℕ) → allottedIn (idOf id) o standing ≡ refused n) → AllotsOne (idOf id) s handles holders handed r handles holders
   in-refused n r is e = record {
     comes = λ o drained. comes-refused s handles holders handed stands _ o n r is (e o) drained;
     hands = λ q. clash (ap (λ (x : Reached). isRefused (x .adds)) is) q;
@@ -67,7 +67,7 @@ module _ (s : Scopes) (handles holders : List ℕ) (handed : ℕ) (stands : Stan
               subst (λ (h : ℕ). kindIn (getD handles′ h 0) ≡ scope (idOf id)) next (g .hands (record { 0 = x .0 }) says .1 .kinds 0 (omega arith))
           go (refused n) p = clash (ap isRefused (g .says ∙ ap addsOf (ap (λ (y : Seen). y .says) (q ∙ ap (told at c) p)))) u
 
-      pub in-granted : handed + 1 ≤ 2048 → Whole (o .state) → r .state ≡ o .state → AllotsIn (idOf id) s handles holders handed r handles′ holders′
+      pub in-granted : handed + 1 ≤ 2048 → Whole (o .state) → r .state ≡ o .state → AllotsOne (idOf id) s handles holders handed r handles′ holders′
       unfolding allottedIn
       in-granted fits ok same = record {
         comes = λ op drained. record {

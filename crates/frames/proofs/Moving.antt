@@ -12,7 +12,7 @@ use Rattle.rules.specs.Slots.{Slots, edition1, removeAll}
 use Rattle.rules.specs.AddressSets.{member}
 use Rattle.rules.specs.Scopes as rule
 use Rattle.rules.specs.Scopes.{Found}
-use Rattle.rules.specs.Frames.{gone as noNeed, State, scopes≔, Frame, child, pop, dangle, restore, popLast, Line, shows, oneLine, close, letGo, Step, step}
+use Rattle.rules.specs.Frames.{noNeed, State, scopes≔, Frame, child, pop, dangle, restore, popLast, Line, shows, oneLine, close, letGo, Step, step}
 use Rattle.rules.specs.Sound.{ownedBy}
 use Rattle.rules.proofs.Chains.{All}
 use Rattle.rules.proofs.Tables.{removeAll-other}

@@ -7,7 +7,7 @@ use Prim.Native.Nat.{ℕ, _+_, _≤_, _<_}
 use native.Mathlib.Omega.{arith}
 use lib.ListN.{length, getD, set, length-set}
 use borrow.Author.Tests.{le-leb, lt-leb}
-use Rattle.rules.specs.Notation.{refused, _>>=_, refuse_when_}
+use Rattle.rules.specs.Notation.{_>>=_, refuse_when_}
 use Rattle.rules.specs.Sizes.{base}
 use Rattle.rules.specs.Slots.{edition1}
 use Rattle.rules.specs.Scopes as rule
@@ -25,7 +25,7 @@ use Rattle.handles.specs.Handles.{handleAt}
 use Rattle.handles.specs.NeedTable.{needIn, Needing, table, stateWith}
 use Rattle.handles.proofs.NeedTables.{need-set}
 use Rattle.frames.specs.Steps.{stepped, Few}
-use Rattle.frames.specs.Needing.{StandsWith, WorksWith, Adding, shownOf}
+use Rattle.frames.specs.Needing.{StandsWith, WorksWith, AddsNeed, shownOf}
 use Rattle.frames.specs.declared.steps.Adds.{Adds}
 use Rattle.frames.specs.declared.steps.Adds.the-variants.{One, Refused}
 
@@ -35,7 +35,7 @@ module _ (needs remembers : List ℕ) (needed b h : ℕ) (long : length needs �
   abbrev x : Remembered
   x = record { need = needIn b; handle = h }
 
-  pub adding-22 : 64 ≤ needed → Adding x (table needs remembers needed) (Refused 22) (table needs remembers needed)
+  pub adding-22 : 64 ≤ needed → AddsNeed x (table needs remembers needed) (Refused 22) (table needs remembers needed)
   unfolding addNeed base _>>=_ refuse_when_
   adding-22 l = record {
     does = λ c handles holders handed o drained. rw (le-leb 64 needed l, addNeed);
@@ -44,7 +44,7 @@ module _ (needs remembers : List ℕ) (needed b h : ℕ) (long : length needs �
     remembers-length = long′;
   }
 
-  pub adding : needed < 64 → Adding x (table needs remembers needed) (One needed) (table (set needs needed b) (set remembers needed h) (needed + 1))
+  pub adding : needed < 64 → AddsNeed x (table needs remembers needed) (One needed) (table (set needs needed b) (set remembers needed h) (needed + 1))
   unfolding addNeed setNeed base _>>=_ refuse_when_
   adding l = record {
     does = λ c handles holders handed o drained.
@@ -61,19 +61,7 @@ module _ (s : Scopes) (handles holders : List ℕ) (handed : ℕ) (t : Needing) 
   abbrev standing : State
   standing = stateWith (view s) handles holders handed t
 
-  pub makes-refused : (n : ℕ) → step base (edition1 (base .segments)) standing f ≡ refused n → (drained : List ℕ)
-      → WorksWith f o s handles holders handed t (record { state = s; handed = handed; adds = Refused n }) handles holders t drained
-  makes-refused n e drained = record {
-    does = e;
-    whole = stands .stands .whole;
-    few = tt;
-    handles-length = stands .stands .handles-length;
-    holders-length = stands .stands .holders-length;
-    needs-length = stands .needs-length;
-    remembers-length = stands .remembers-length;
-  }
-
-  pub makes : (x y : Remembered) → x ≡ y → (adds : Adds) (t′ : Needing) → Adding x t adds t′
+  pub makes : (x y : Remembered) → x ≡ y → (adds : Adds) (t′ : Needing) → AddsNeed x t adds t′
       → step base (edition1 (base .segments)) standing f ≡ (addNeed base y standing >>= λ u. oneLine (shows o (t .needed ∷ [])) u) → (drained : List ℕ)
       → WorksWith f o s handles holders handed t (record { state = s; handed = handed; adds = adds }) handles holders t′ drained
   makes x y q adds t′ a e drained = record {
@@ -89,9 +77,9 @@ module _ (s : Scopes) (handles holders : List ℕ) (handed : ℕ) (t : Needing) 
 -- ---- 20
 
 -- an id that no scope has
-pub nowhere : (c : rule.Scopes) (n : ℕ) (id : ScopeId) → byId base c (idOf id) ≡ byNumber base c n → id .index ≡ 255 → byNumber base c n ≡ none
+pub none-meant : (c : rule.Scopes) (n : ℕ) (id : ScopeId) → byId base c (idOf id) ≡ byNumber base c n → id .index ≡ 255 → byNumber base c n ≡ none
 unfolding base byId
-nowhere c n id is e = sym is ∙ ap (λ (i : ℕ). byId base c (record { index = i; number = id .number })) e
+none-meant c n id is e = sym is ∙ ap (λ (i : ℕ). byId base c (record { index = i; number = id .number })) e
 
 -- ---- 24
 

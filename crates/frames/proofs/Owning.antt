@@ -12,7 +12,7 @@ use Rattle.rules.specs.Slots.{Placement, edition1}
 use Rattle.rules.specs.Scopes as rule
 use Rattle.rules.specs.Scopes.{Id, Found, byId}
 use Rattle.rules.specs.Needs.{Kind, scope, Address, Need, defer, at, ignore, freedNeed, allocatedKind}
-use Rattle.rules.specs.Frames.{Handle, Frame, allocNeed, dropNeed, Remembered, gone, isScopeKind, owns, isGone, State, setNeed, lost, grant, allot, allotNeed, freeAs, freeOwn, slotShown, shows, oneLine, step}
+use Rattle.rules.specs.Frames.{Handle, Frame, allocNeed, dropNeed, Remembered, noNeed, isScopeKind, owns, isGone, State, setNeed, lost, grant, allot, allotNeed, freeAs, freeOwn, slotShown, shows, oneLine, step}
 use Rattle.rules.proofs.Chains.{All, all-given, all-then, all-when, when-false}
 use Rattle.rules.proofs.Tables.{put-ext}
 use Rattle.rules.proofs.Handles.{grant-new}
@@ -24,7 +24,7 @@ use Rattle.scopes.specs.declared.Scopes.{Scopes}
 use Rattle.handles.specs.Handles.{kindIn, handleAt, stateOf}
 use Rattle.handles.specs.NeedTable.{needIn, rememberedAt, Needing, table, stateWith}
 use Rattle.handles.proofs.NeedTables.{own-is, again, need-set}
-use Rattle.frames.specs.Steps.{isRefused, freedThen, allottedIn, AllotsIn, Stands, Comes, Reached}
+use Rattle.frames.specs.Steps.{isRefused, freedThen, allottedIn, AllotsOne, Stands, Comes, Reached}
 use Rattle.frames.specs.Needing.{needKind, StandsWith, WorksWith}
 use Rattle.frames.specs.declared.steps.Adds.the-variants.{Nothing, One, Refused}
 use Rattle.frames.proofs.NeedSteps.{lost-unknown, lost-gone, not-lost}
@@ -84,9 +84,9 @@ module _ (needs : ℕ → Remembered) (needed : ℕ) (bare : State) (n : ℕ) (t
   -- ---- 25
 
   pub drop-is : isGone (needs n .need) ≡ false
-      → step base place standing (dropNeed n) ≡ mapped (λ r. (r .0, within needs needed (r .1) ▹ setNeed n gone)) (freedThen 0x25 (freeOwn (needs n .handle) bare (needs n .need)))
+      → step base place standing (dropNeed n) ≡ mapped (λ r. (r .0, within needs needed (r .1) ▹ setNeed n noNeed)) (freedThen 0x25 (freeOwn (needs n .handle) bare (needs n .need)))
   unfolding step
-  drop-is e = when-false 21 _ (not-lost standing n there e) ∙ own-line needs needed bare (needs n .handle) (needs n .need) (setNeed n gone) (shows 0x25 [])
+  drop-is e = when-false 21 _ (not-lost standing n there e) ∙ own-line needs needed bare (needs n .handle) (needs n .need) (setNeed n noNeed) (shows 0x25 [])
 
 -- a need's own handle is freed as the need's address; nothing is freed of another
 pub own-freed : (h : ℕ) (t : State) (d : Need) (k : Kind) → needKind d ≡ k → isScopeKind k ≡ true → freeOwn h t d ≡ freeAs k true h t
@@ -138,8 +138,8 @@ module _ (c : rule.Scopes) (handles holders : List ℕ) (handed : ℕ) (t : Need
       → (with-needs ▹ setNeed n (own h (stateOf c handles holders handed))) ≡ stateWith c handles holders handed (table (set (t .needs) n (getD handles h 0)) (set (t .remembers) n h) (t .needed))
   set-own h e = set-to (getD handles h 0) h (own h (stateOf c handles holders handed)) (λ u. record { need = own-is (getD handles h 0) e u; handle = h })
 
-  pub set-gone : (with-needs ▹ setNeed n gone) ≡ stateWith c handles holders handed (table (set (t .needs) n 0) (set (t .remembers) n 0) (t .needed))
-  set-gone = set-to 0 0 gone refl
+  pub set-gone : (with-needs ▹ setNeed n noNeed) ≡ stateWith c handles holders handed (table (set (t .needs) n 0) (set (t .remembers) n 0) (t .needed))
+  set-gone = set-to 0 0 noNeed refl
 
 -- ---- steps
 
@@ -202,7 +202,7 @@ module _ (s : Scopes) (handles holders : List ℕ) (handed : ℕ) (t : Needing) 
     inside : (n < length (t .needs)) × (n < length (t .remembers))
     inside = let room = below there in (omega (arith, stands .needs-length), omega (arith, stands .remembers-length))
 
-    module _ (id : Id) (is : needIn (getD (t .needs) n 0) ≡ defer id) (r : Reached) (handles′ holders′ : List ℕ) (a : AllotsIn id s handles holders handed r handles′ holders′) (drained : List ℕ) where
+    module _ (id : Id) (is : needIn (getD (t .needs) n 0) ≡ defer id) (r : Reached) (handles′ holders′ : List ℕ) (a : AllotsOne id s handles holders handed r handles′ holders′) (drained : List ℕ) where
       first-to : (t′ : Needing) → (isRefused (r .adds) ≡ false → owned (rememberedAt (t .needs) (t .remembers)) (t .needed) bare n there id is (stateOf (view (r .state)) handles′ holders′ (r .handed)) ≡ stateWith (view (r .state)) handles′ holders′ (r .handed) t′)
           → length (t′ .needs) ≡ 64 → length (t′ .remembers) ≡ 64 → WorksWith (allocNeed n) 0x23 s handles holders handed t r handles′ holders′ t′ drained
       first-to = beside s handles holders handed t stands (allocNeed n) 0x23 _ _ (first-is (rememberedAt (t .needs) (t .remembers)) (t .needed) bare n there id is) r handles′ holders′ drained (a .comes 0x23 drained)
@@ -217,7 +217,7 @@ module _ (s : Scopes) (handles holders : List ℕ) (handed : ℕ) (t : Needing) 
 
     module _ (d : Need) (is : d ≡ needIn (getD (t .needs) n 0)) (kept : isGone d ≡ false) (r : Reached) (handles′ : List ℕ) (drained : List ℕ)
         (w : Comes (freedThen 0x25 (freeOwn (getD (t .remembers) n 0) bare d)) 0x25 r handles′ holders drained) where
-      drop-to : (t′ : Needing) → (isRefused (r .adds) ≡ false → (within (rememberedAt (t .needs) (t .remembers)) (t .needed) (stateOf (view (r .state)) handles′ holders (r .handed)) ▹ setNeed n gone) ≡ stateWith (view (r .state)) handles′ holders (r .handed) t′)
+      drop-to : (t′ : Needing) → (isRefused (r .adds) ≡ false → (within (rememberedAt (t .needs) (t .remembers)) (t .needed) (stateOf (view (r .state)) handles′ holders (r .handed)) ▹ setNeed n noNeed) ≡ stateWith (view (r .state)) handles′ holders (r .handed) t′)
           → length (t′ .needs) ≡ 64 → length (t′ .remembers) ≡ 64 → WorksWith (dropNeed n) 0x25 s handles holders handed t r handles′ holders t′ drained
       drop-to =
           beside s handles holders handed t stands (dropNeed n) 0x25 _ _ (drop-is (rememberedAt (t .needs) (t .remembers)) (t .needed) bare n there (sym (ap isGone is) ∙ kept)) r handles′ holders drained

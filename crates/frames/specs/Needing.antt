@@ -21,7 +21,7 @@ use Rattle.needs.specs.declared.OutputAnswer.{OutputAnswer}
 use Rattle.needs.specs.declared.OutputAnswer.the-variants as output
 use Rattle.handles.specs.Handles.{handleAt}
 use Rattle.handles.specs.NeedTable.{rememberedAt, Needing, table, stateWith}
-use Rattle.frames.specs.Steps.{stepped, Few, Stands, Reached, Lent, onAllots, onFrees, allotsIn, allotsOut, freesIn, freesOut}
+use Rattle.frames.specs.Steps.{stepped, Few, Stands, Reached, LentArray, onAllots, onFrees, allotsIn, allotsOut, freesIn, freesOut}
 use Rattle.frames.specs.declared.steps.Adds.{Adds}
 use Rattle.frames.specs.declared.steps.Adds.the-variants.{One, Refused}
 use Rattle.frames.specs.declared.steps.Stepped.{Stepped}
@@ -57,7 +57,7 @@ Makes f o s handles holders handed t adds t′ =
     StandsWith s handles holders handed t → (drained : List ℕ) → WorksWith f o s handles holders handed t (record { state = s; handed = handed; adds = adds }) handles holders t′ drained
 
 -- one more need, x, was asked for: 22, or its number is added
-pub record Adding (x : Remembered) (t : Needing) (adds : Adds) (t′ : Needing) : Type 0 where
+pub record AddsNeed (x : Remembered) (t : Needing) (adds : Adds) (t′ : Needing) : Type 0 where
   pub does : (c : scope.Scopes) (handles holders : List ℕ) (handed o : ℕ) (drained : List ℕ)
       → (rules.addNeed base x (stateWith c handles holders handed t) >>= λ u. oneLine (shows o (t .needed ∷ [])) u) ≡ stepped o adds (stateWith c handles holders handed t′) drained
   pub few : Few adds
@@ -79,35 +79,35 @@ needKind freedNeed = freed
 
 -- ---- over the lent arrays themselves
 
-abbrev pub tableIn : (needs remembers : Lent ℕ) → ℕ → Needing
+abbrev pub tableIn : (needs remembers : LentArray ℕ) → ℕ → Needing
 tableIn needs remembers needed = table (now (needs .entry)) (now (remembers .entry)) needed
 
-abbrev pub tableOut : (needs remembers : Lent ℕ) → ℕ → Needing
+abbrev pub tableOut : (needs remembers : LentArray ℕ) → ℕ → Needing
 tableOut needs remembers needed = table (now (needs .exit)) (now (remembers .exit)) needed
 
 -- there is a state with the arrays of an allocation, or of a freeing, in which a script with needs stands
-abbrev pub NeedsAllots : (halves links owner : RefT (List ℕ)) → RefT (List Bool) → RefT (List ℕ) → Numbers → (handles holders : RefT (List ℕ)) → ℕ → (needs remembers : RefT (List ℕ)) → ℕ → Type 0
-NeedsAllots halves links owner live number n handles holders handed needs remembers needed =
+abbrev pub StandsAllotsWith : (halves links owner : RefT (List ℕ)) → RefT (List Bool) → RefT (List ℕ) → Numbers → (handles holders : RefT (List ℕ)) → ℕ → (needs remembers : RefT (List ℕ)) → ℕ → Type 0
+StandsAllotsWith halves links owner live number n handles holders handed needs remembers needed =
     (s : Scopes) × StandsWith (onAllots s (now halves) (now links) (now owner) (now live) (now number) n) (now handles) (now holders) handed (table (now needs) (now remembers) needed)
 
-abbrev pub NeedsFrees : (halves links owner number : RefT (List ℕ)) → Numbers → (handles holders : RefT (List ℕ)) → ℕ → (needs remembers : RefT (List ℕ)) → ℕ → Type 0
-NeedsFrees halves links owner number n handles holders handed needs remembers needed =
+abbrev pub StandsFreesWith : (halves links owner number : RefT (List ℕ)) → Numbers → (handles holders : RefT (List ℕ)) → ℕ → (needs remembers : RefT (List ℕ)) → ℕ → Type 0
+StandsFreesWith halves links owner number n handles holders handed needs remembers needed =
     (s : Scopes) × StandsWith (onFrees s (now halves) (now links) (now owner) (now number) n) (now handles) (now holders) handed (table (now needs) (now remembers) needed)
 
 -- a step over the arrays of an allocation, and the needs
-abbrev pub AllotsBeside : rules.Frame → ℕ → (halves links owner : Lent ℕ) → Lent Bool → Lent ℕ → Numbers → (handles holders : Lent ℕ) → ℕ → (needs remembers : Lent ℕ) → ℕ → Stepped → Type 0
+abbrev pub AllotsBeside : rules.Frame → ℕ → (halves links owner : LentArray ℕ) → LentArray Bool → LentArray ℕ → Numbers → (handles holders : LentArray ℕ) → ℕ → (needs remembers : LentArray ℕ) → ℕ → Stepped → Type 0
 AllotsBeside f o halves links owner live number n handles holders handed needs remembers needed r =
     (s : Scopes) → LeadsWith f o (allotsIn s halves links owner live number n) (allotsOut s halves links owner live number (r .numbers))
     (now (handles .entry)) (now (holders .entry)) handed (tableIn needs remembers needed) r (now (handles .exit)) (now (holders .exit)) (tableOut needs remembers needed)
 
 -- a step over the arrays of a freeing, which leaves the holders; the needs become t′
-abbrev pub FreesBeside : rules.Frame → ℕ → (halves links owner number : Lent ℕ) → Numbers → (handles holders : Lent ℕ) → ℕ → Needing → Stepped → Needing → Type 0
+abbrev pub FreesBeside : rules.Frame → ℕ → (halves links owner number : LentArray ℕ) → Numbers → (handles holders : LentArray ℕ) → ℕ → Needing → Stepped → Needing → Type 0
 FreesBeside f o halves links owner number n handles holders handed t r t′ =
     (s : Scopes) → LeadsWith f o (freesIn s halves links owner number n) (freesOut s halves links owner number (r .numbers))
     (now (handles .entry)) (now (holders .entry)) handed t r (now (handles .exit)) (now (holders .entry)) t′
 
 -- a step that changes the handle table alone
-abbrev pub Forgets : rules.Frame → ℕ → Scopes → Lent ℕ → List ℕ → ℕ → Needing → Adds → Type 0
+abbrev pub Forgets : rules.Frame → ℕ → Scopes → LentArray ℕ → List ℕ → ℕ → Needing → Adds → Type 0
 Forgets f o s handles holders handed t adds =
     StandsWith s (now (handles .entry)) holders handed t → (drained : List ℕ)
     → WorksWith f o s (now (handles .entry)) holders handed t (record { state = s; handed = handed; adds = adds }) (now (handles .exit)) holders t drained
@@ -117,9 +117,9 @@ abbrev pub Notes : rules.Frame → ℕ → Scopes → Needing → Adds → Needi
 Notes f o s t adds t′ = (handles holders : List ℕ) (handed : ℕ) → Makes f o s handles holders handed t adds t′
 
 -- a step that makes a need of a handle
-abbrev pub NotesHandle : rules.Frame → ℕ → Lent ℕ → ℕ → Needing → Adds → Needing → Type 0
+abbrev pub NotesHandle : rules.Frame → ℕ → LentArray ℕ → ℕ → Needing → Adds → Needing → Type 0
 NotesHandle f o handles handed t adds t′ = (s : Scopes) (holders : List ℕ) → Makes f o s (now (handles .entry)) holders handed t adds t′
 
 -- a step that asks a need
-abbrev pub Asks : rules.Frame → ℕ → Lent ℕ → ℕ → Adds → Type 0
+abbrev pub Asks : rules.Frame → ℕ → LentArray ℕ → ℕ → Adds → Type 0
 Asks f o needs needed adds = (s : Scopes) (remembers : List ℕ) → let t : Needing = table (now (needs .entry)) remembers needed in Notes f o s t adds t

@@ -11,7 +11,7 @@ use Rattle.rules.specs.Notation.{Answer, refused, _>>=_, refuse_when_, refuse_u
 use Rattle.rules.specs.Sizes.{base}
 use Rattle.rules.specs.Slots.{edition1}
 use Rattle.rules.specs.Scopes as scope
-use Rattle.rules.specs.Needs.{Kind, scope as inScope}
+use Rattle.rules.specs.Needs.{scope as inScope}
 use Rattle.rules.specs.Frames as rules
 use Rattle.rules.specs.Frames.{stores, loads, shows, oneLine}
 use Rattle.rules.proofs.Sound.{StateSound}
@@ -135,7 +135,7 @@ allottedIn id o t = do
   x ← rules.allot base (edition1 (base .segments)) k (inScope id) 1 t
   oneLine (shows o (x .0 ∷ [])) (x .1)
 
--- a state that is freed something of, or refused; the line has the opcode alone
+-- something was freed, or it was refused; the line has the opcode alone
 abbrev pub freedThen : ℕ → Answer rules.State → rules.Step
 freedThen o m = m >>= λ t. oneLine (shows o []) t
 
@@ -162,31 +162,31 @@ onCells s halves live parent bindings n = made halves (s .links) (s .owner) live
 
 -- ---- over the lent arrays themselves, each at entry and at exit
 
-abbrev pub Lent : Type 0 → Type 0
-Lent A = Both (RefT (List A)) (RefT (List A))
+abbrev pub LentArray : Type 0 → Type 0
+LentArray A = Both (RefT (List A)) (RefT (List A))
 
 -- the state s with the arrays of a group, as it came in and as it is left
-abbrev pub slotsIn : Scopes → (halves links owner : Lent ℕ) → Numbers → Scopes
+abbrev pub slotsIn : Scopes → (halves links owner : LentArray ℕ) → Numbers → Scopes
 slotsIn s halves links owner n = withSlots s (now (halves .entry)) (now (links .entry)) (now (owner .entry)) n
 
-abbrev pub slotsOut : Scopes → (halves links owner : Lent ℕ) → Numbers → Scopes
+abbrev pub slotsOut : Scopes → (halves links owner : LentArray ℕ) → Numbers → Scopes
 slotsOut s halves links owner n = withSlots s (now (halves .exit)) (now (links .exit)) (now (owner .exit)) n
 
-abbrev pub numberedIn : Scopes → Lent Bool → Lent ℕ → Scopes
+abbrev pub numberedIn : Scopes → LentArray Bool → LentArray ℕ → Scopes
 numberedIn s live number = onNumbered s (now (live .entry)) (now (number .entry))
 
-abbrev pub allotsIn : Scopes → (halves links owner : Lent ℕ) → Lent Bool → Lent ℕ → Numbers → Scopes
+abbrev pub allotsIn : Scopes → (halves links owner : LentArray ℕ) → LentArray Bool → LentArray ℕ → Numbers → Scopes
 allotsIn s halves links owner live number n =
     onAllots s (now (halves .entry)) (now (links .entry)) (now (owner .entry)) (now (live .entry)) (now (number .entry)) n
 
-abbrev pub allotsOut : Scopes → (halves links owner : Lent ℕ) → Lent Bool → Lent ℕ → Numbers → Scopes
+abbrev pub allotsOut : Scopes → (halves links owner : LentArray ℕ) → LentArray Bool → LentArray ℕ → Numbers → Scopes
 allotsOut s halves links owner live number n =
     onAllots s (now (halves .exit)) (now (links .exit)) (now (owner .exit)) (now (live .entry)) (now (number .entry)) n
 
-abbrev pub freesIn : Scopes → (halves links owner number : Lent ℕ) → Numbers → Scopes
+abbrev pub freesIn : Scopes → (halves links owner number : LentArray ℕ) → Numbers → Scopes
 freesIn s halves links owner number n = onFrees s (now (halves .entry)) (now (links .entry)) (now (owner .entry)) (now (number .entry)) n
 
-abbrev pub freesOut : Scopes → (halves links owner number : Lent ℕ) → Numbers → Scopes
+abbrev pub freesOut : Scopes → (halves links owner number : LentArray ℕ) → Numbers → Scopes
 freesOut s halves links owner number n = onFrees s (now (halves .exit)) (now (links .exit)) (now (owner .exit)) (now (number .entry)) n
 
 -- ---- what is asked where the state doesn't matter
@@ -228,34 +228,34 @@ abbrev pub LoadsOf : rules.Frame → ℕ → Scopes → List ℕ → List ℕ �
 LoadsOf f o s handles holders handed h = rules.step base (edition1 (base .segments)) (stateOf (view s) handles holders handed) f ≡ loading o (stateOf (view s) handles holders handed) h
 
 -- one slot was asked for in the scope of that id; the handle that was handed out is the next one, and of that scope
-pub record AllotsIn (id : scope.Id) (s : Scopes) (handles holders : List ℕ) (handed : ℕ) (r : Reached) (handles′ holders′ : List ℕ) : Type 0 where
+pub record AllotsOne (id : scope.Id) (s : Scopes) (handles holders : List ℕ) (handed : ℕ) (r : Reached) (handles′ holders′ : List ℕ) : Type 0 where
   pub comes : (o : ℕ) (drained : List ℕ) → Comes (allottedIn id o (stateOf (view s) handles holders handed)) o r handles′ holders′ drained
   pub hands : isRefused (r .adds) ≡ false → (handed < 2048) × (kindIn (getD handles′ handed 0) ≡ inScope id)
 
 -- .. over the lent arrays
-abbrev pub AllotsInScope : scope.Id → (halves links owner : Lent ℕ) → Lent Bool → Lent ℕ → Numbers → (handles holders : Lent ℕ) → ℕ → Stepped → Type 0
+abbrev pub AllotsInScope : scope.Id → (halves links owner : LentArray ℕ) → LentArray Bool → LentArray ℕ → Numbers → (handles holders : LentArray ℕ) → ℕ → Stepped → Type 0
 AllotsInScope id halves links owner live number n handles holders handed r =
     (s : Scopes) → Stands (allotsIn s halves links owner live number n) (now (handles .entry)) (now (holders .entry)) handed
-    → AllotsIn id (allotsIn s halves links owner live number n) (now (handles .entry)) (now (holders .entry)) handed
+    → AllotsOne id (allotsIn s halves links owner live number n) (now (handles .entry)) (now (holders .entry)) handed
     (record { state = allotsOut s halves links owner live number (r .numbers); handed = r .handed; adds = r .adds }) (now (handles .exit)) (now (holders .exit))
 
 -- something was freed by m, which may be refused
-abbrev pub Frees : (rules.State → Answer rules.State) → Scopes → Scopes → (handles holders : Lent ℕ) → ℕ → Stepped → Type 0
+abbrev pub Frees : (rules.State → Answer rules.State) → Scopes → Scopes → (handles holders : LentArray ℕ) → ℕ → Stepped → Type 0
 Frees m s t handles holders handed r =
     Stands s (now (handles .entry)) (now (holders .entry)) handed → (o : ℕ) (drained : List ℕ)
     → Comes (freedThen o (m (stateOf (view s) (now (handles .entry)) (now (holders .entry)) handed))) o (record { state = t; handed = r .handed; adds = r .adds }) (now (handles .exit)) (now (holders .entry)) drained
 
 -- .. over the lent arrays
-abbrev pub FreesBy : (rules.State → Answer rules.State) → (halves links owner number : Lent ℕ) → Numbers → (handles holders : Lent ℕ) → ℕ → Stepped → Type 0
+abbrev pub FreesBy : (rules.State → Answer rules.State) → (halves links owner number : LentArray ℕ) → Numbers → (handles holders : LentArray ℕ) → ℕ → Stepped → Type 0
 FreesBy m halves links owner number n handles holders handed r =
     (s : Scopes) → Frees m (freesIn s halves links owner number n) (freesOut s halves links owner number (r .numbers)) handles holders handed r
 
 -- a step over the lent arrays of an allocation, and of a freeing, which leaves the holders
-abbrev pub LeadsAllots : rules.Frame → ℕ → (halves links owner : Lent ℕ) → Lent Bool → Lent ℕ → Numbers → (handles holders : Lent ℕ) → ℕ → Stepped → Type 0
+abbrev pub LeadsAllots : rules.Frame → ℕ → (halves links owner : LentArray ℕ) → LentArray Bool → LentArray ℕ → Numbers → (handles holders : LentArray ℕ) → ℕ → Stepped → Type 0
 LeadsAllots f o halves links owner live number n handles holders handed r =
     (s : Scopes) → Leads f o (allotsIn s halves links owner live number n) (allotsOut s halves links owner live number (r .numbers)) (now (handles .entry)) (now (holders .entry)) handed r (now (handles .exit)) (now (holders .exit))
 
-abbrev pub LeadsFrees : rules.Frame → ℕ → (halves links owner number : Lent ℕ) → Numbers → (handles holders : Lent ℕ) → ℕ → Stepped → Type 0
+abbrev pub LeadsFrees : rules.Frame → ℕ → (halves links owner number : LentArray ℕ) → Numbers → (handles holders : LentArray ℕ) → ℕ → Stepped → Type 0
 LeadsFrees f o halves links owner number n handles holders handed r =
     (s : Scopes) → Leads f o (freesIn s halves links owner number n) (freesOut s halves links owner number (r .numbers)) (now (handles .entry)) (now (holders .entry)) handed r (now (handles .exit)) (now (holders .entry))
 
@@ -269,5 +269,5 @@ StandsFrees halves links owner number n handles holders handed =
     (s : Scopes) × Stands (onFrees s (now halves) (now links) (now owner) (now number) n) (now handles) (now holders) handed
 
 -- the handle h was handed out, and is known as x
-abbrev pub Known : List ℕ → ℕ → ℕ → Handle → Type 0
-Known handles handed h x = (h < handed) × Coded (getD handles h 0) x
+abbrev pub KnownAs : List ℕ → ℕ → ℕ → Handle → Type 0
+KnownAs handles handed h x = (h < handed) × Coded (getD handles h 0) x

@@ -1,12 +1,10 @@
 // 0c free, 0d free without dangling, 0e forget.
-ghost use mathlib.Core.Path.{_≡_};
-ghost use mathlib.Core.Bool.{true, false};
 ghost use mathlib.Core.List.{List};
 ghost use Prim.Native.Nat.{ℕ};
 ghost use Rattle.rules.specs.Frames as frame;
 ghost use Rattle.scopes.specs.Lent.{withSlots};
 ghost use Rattle.needs.specs.Kinds.{kindOf};
-ghost use Rattle.frames.specs.Steps.{freeing, freeCode, slotsIn, slotsOut, Tables, Known, Stands, StandsFrees, Stays, LeadsFrees, Frees, FreesBy};
+ghost use Rattle.frames.specs.Steps.{freeing, freeCode, slotsIn, slotsOut, Tables, KnownAs, Stands, StandsFrees, Stays, LeadsFrees, Frees, FreesBy};
 use crate::steps::Adds;
 use crate::steps::Stepped;
 use crate::steps::ended;
@@ -37,7 +35,7 @@ fn hand_back(
     x: Handle,
     dangles: bool,
 ) -> Stepped
-    requires { ⌜ ((s : Scopes) × Stands (withSlots s (now halves) (now links) (now owner) n) (now handles) (now holders) handed) × Known (now handles) handed (h .0) x ⌝ }
+    requires { ⌜ ((s : Scopes) × Stands (withSlots s (now halves) (now links) (now owner) n) (now handles) (now holders) handed) × KnownAs (now handles) handed (h .0) x ⌝ }
     ensures { λ r. ⌜ ((s : Scopes) → Frees (frame.handBack dangles (h .0)) (slotsIn s halves links owner n) (slotsOut s halves links owner (r .numbers)) handles holders handed r) ⌝ }
 {
     let address = x.address;
@@ -77,7 +75,7 @@ pub fn free_as(
     kind: AddressKind,
     dangles: bool,
 ) -> Stepped
-    requires { ⌜ StandsFrees halves links owner number n handles holders handed × Known (now handles) handed (h .0) x ⌝ }
+    requires { ⌜ StandsFrees halves links owner number n handles holders handed × KnownAs (now handles) handed (h .0) x ⌝ }
     ensures { λ r. ⌜ FreesBy (frame.freeAs (kindOf kind) dangles (h .0)) halves links owner number n handles holders handed r ⌝ }
 {
     if goes_back(number, n.top, kind) {

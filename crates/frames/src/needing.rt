@@ -3,9 +3,9 @@ ghost use mathlib.Core.Path.{_≡_};
 ghost use Prim.Native.Nat.{_≤_};
 ghost use Rattle.rules.specs.Frames as frame;
 ghost use Rattle.needs.specs.Kinds.{needOf};
-ghost use Rattle.handles.specs.NeedTable.{needIn, Table};
+ghost use Rattle.handles.specs.NeedTable.{needIn, SizedNeeds};
 ghost use Rattle.frames.specs.Steps.{numberedIn, Tables};
-ghost use Rattle.frames.specs.Needing.{Notes, NotesHandle, Asks, Adding, shownOf, tableIn, tableOut};
+ghost use Rattle.frames.specs.Needing.{Notes, NotesHandle, Asks, AddsNeed, shownOf, tableIn, tableOut};
 use crate::steps::Adds;
 use crate::steps::meant;
 use handles::remembered;
@@ -28,8 +28,8 @@ pub struct Noted {
 
 // One more need, of number b, that remembers h: 22.
 fn add(needs: &mut [u64; 64], remembers: &mut [u16; 64], needed: usize, b: u64, h: u16) -> Noted
-    requires { ⌜ Table (now needs) (now remembers) needed ⌝ }
-    ensures { λ r. ⌜ Adding (record { need = needIn b; handle = h }) (tableIn needs remembers needed) (r .adds) (tableOut needs remembers (r .needed)) ⌝ }
+    requires { ⌜ SizedNeeds (now needs) (now remembers) needed ⌝ }
+    ensures { λ r. ⌜ AddsNeed (record { need = needIn b; handle = h }) (tableIn needs remembers needed) (r .adds) (tableOut needs remembers (r .needed)) ⌝ }
 {
     if 64 <= needed {
         return Noted {
@@ -54,7 +54,7 @@ pub fn defer<'a>(
     needed: usize,
     k: u16,
 ) -> Noted
-    requires { ⌜ Table (now needs) (now remembers) needed ⌝ }
+    requires { ⌜ SizedNeeds (now needs) (now remembers) needed ⌝ }
     ensures { λ r. ⌜ ((s : Scopes) → Notes (frame.newDefer k) 0x20 (numberedIn s live number) (tableIn needs remembers needed) (r .adds) (tableOut needs remembers (r .needed))) ⌝ }
 {
     let id = meant(live, number, k);
@@ -77,7 +77,7 @@ pub fn assigned(
     needed: usize,
     h: HandleNumber,
 ) -> Noted
-    requires { ⌜ Tables (now handles) handed × Table (now needs) (now remembers) needed ⌝ }
+    requires { ⌜ Tables (now handles) handed × SizedNeeds (now needs) (now remembers) needed ⌝ }
     ensures { λ r. ⌜ NotesHandle (frame.newAssigned (h .0)) 0x21 handles handed (tableIn needs remembers needed) (r .adds) (tableOut needs remembers (r .needed)) ⌝ }
 {
     let i = h.0 as usize;
@@ -96,7 +96,7 @@ pub fn assigned(
 
 // 22.
 pub fn ignore(needs: &mut [u64; 64], remembers: &mut [u16; 64], needed: usize) -> Noted
-    requires { ⌜ Table (now needs) (now remembers) needed ⌝ }
+    requires { ⌜ SizedNeeds (now needs) (now remembers) needed ⌝ }
     ensures { λ r. ⌜ ((s : Scopes) → Notes frame.newIgnore 0x22 s (tableIn needs remembers needed) (r .adds) (tableOut needs remembers (r .needed))) ⌝ }
 {
     add(needs, remembers, needed, remembered::IGNORE, 0)

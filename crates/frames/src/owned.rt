@@ -8,9 +8,9 @@ ghost use Rattle.rules.specs.Needs as rule;
 ghost use Rattle.rules.specs.Frames as frame;
 ghost use Rattle.scopes.specs.View.{idOf};
 ghost use Rattle.needs.specs.Kinds.{kindOf, needOf};
-ghost use Rattle.handles.specs.NeedTable.{needIn, Table};
+ghost use Rattle.handles.specs.NeedTable.{needIn, SizedNeeds};
 ghost use Rattle.frames.specs.Steps.{freeing, freeCode, isRefused, Tables, StandsFrees, FreesBy};
-ghost use Rattle.frames.specs.Needing.{needKind, NeedsAllots, NeedsFrees, AllotsBeside, FreesBeside, Forgets, tableIn, tableOut};
+ghost use Rattle.frames.specs.Needing.{needKind, StandsAllotsWith, StandsFreesWith, AllotsBeside, FreesBeside, Forgets, tableIn, tableOut};
 use crate::allots::alloc_in_scope;
 use crate::frees;
 use crate::needing::is_gone;
@@ -46,7 +46,7 @@ pub fn free_beside<'a>(
     h: HandleNumber,
     dangles: bool,
 ) -> Stepped
-    requires { ⌜ NeedsFrees halves links owner number n handles holders handed needs remembers needed ⌝ }
+    requires { ⌜ StandsFreesWith halves links owner number n handles holders handed needs remembers needed ⌝ }
     ensures { λ r. ⌜ FreesBeside (freeing dangles (h .0)) (freeCode dangles) halves links owner number n handles holders handed (tableIn needs remembers needed) r (tableIn needs remembers needed) ⌝ }
 {
     if belongs(needs, remembers, needed, h) {
@@ -74,7 +74,7 @@ pub fn forget_beside<'a>(
     needed: usize,
     h: HandleNumber,
 ) -> Adds
-    requires { ⌜ Tables (now handles) handed × Table (now needs) (now remembers) needed ⌝ }
+    requires { ⌜ Tables (now handles) handed × SizedNeeds (now needs) (now remembers) needed ⌝ }
     ensures { λ r. ⌜ ((s : Scopes) (holders : List ℕ) → Forgets (frame.forget (h .0)) 0x0e s handles holders handed (tableIn needs remembers needed) r) ⌝ }
 {
     if belongs(needs, remembers, needed, h) {
@@ -100,7 +100,8 @@ fn is_refused(adds: Adds) -> bool
 
 // ---- 23
 
-// The first time, of the need k, which is deferred to the scope id: 4, 16, 7. The next handle is the need's, and its number the need's own.
+// The first time, of the need k, which is deferred to the scope id: 4, 16, 7. The next handle becomes the need's, and the need's
+// number in the table that handle's.
 fn first<'a>(
     halves: &mut [u64; 16],
     links: &mut [u16; 2178],
@@ -117,7 +118,7 @@ fn first<'a>(
     k: NeedNumber,
     id: ScopeId,
 ) -> Stepped
-    requires { ⌜ NeedsAllots halves links owner live number n handles holders handed needs remembers needed ⌝ }
+    requires { ⌜ StandsAllotsWith halves links owner live number n handles holders handed needs remembers needed ⌝ }
     requires { ⌜ (k .0 < needed) × (needIn (getD (now needs) (k .0) 0) ≡ rule.defer (idOf id)) ⌝ }
     ensures { λ r. ⌜ AllotsBeside (frame.allocNeed (k .0)) 0x23 halves links owner live number n handles holders handed needs remembers needed r ⌝ }
 {
@@ -159,7 +160,7 @@ pub fn allocate<'a>(
     needed: usize,
     k: NeedNumber,
 ) -> Stepped
-    requires { ⌜ NeedsAllots halves links owner live number n handles holders handed needs remembers needed ⌝ }
+    requires { ⌜ StandsAllotsWith halves links owner live number n handles holders handed needs remembers needed ⌝ }
     ensures { λ r. ⌜ AllotsBeside (frame.allocNeed (k .0)) 0x23 halves links owner live number n handles holders handed needs remembers needed r ⌝ }
 {
     let i = k.0 as usize;
@@ -284,7 +285,7 @@ pub fn free_need(
     needed: usize,
     k: NeedNumber,
 ) -> Stepped
-    requires { ⌜ NeedsFrees halves links owner number n handles holders handed needs remembers needed ⌝ }
+    requires { ⌜ StandsFreesWith halves links owner number n handles holders handed needs remembers needed ⌝ }
     ensures { λ r. ⌜ FreesBeside (frame.dropNeed (k .0)) 0x25 halves links owner number n handles holders handed (tableIn needs remembers needed) r (tableOut needs remembers needed) ⌝ }
 {
     let i = k.0 as usize;

@@ -9,7 +9,7 @@ use lib.ListN.{getD}
 use lib.Dec.{eqb}
 use Rattle.rules.specs.Scopes.{Id, Scopes}
 use Rattle.rules.specs.Needs.{Kind, local, dangling, assigned, freed, scope}
-use Rattle.rules.specs.Frames.{Handle, gone, State}
+use Rattle.rules.specs.Frames.{Handle, noNeed, State}
 use Rattle.scopes.specs.declared.ScopeId.{ScopeId}
 use Rattle.needs.specs.declared.AddressKind.{AddressKind}
 use Rattle.needs.specs.declared.AddressKind.the-variants as kind
@@ -50,7 +50,7 @@ handleAt occupied handles holders h =
 
 -- where a script without needs stands
 abbrev pub stateOf : Scopes → List ℕ → List ℕ → ℕ → State
-stateOf c handles holders handed = record { scopes = c; handles = handleAt (c .slots .occupied) handles holders; handed = handed; needs = λ n. gone; needed = 0 }
+stateOf c handles holders handed = record { scopes = c; handles = handleAt (c .slots .occupied) handles holders; handed = handed; needs = λ n. noNeed; needed = 0 }
 
 -- the number b is this handle
 pub record Coded (b : ℕ) (x : Handle′) : Type 0 where

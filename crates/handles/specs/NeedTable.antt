@@ -33,8 +33,8 @@ rememberedAt needs remembers n = record { need = needIn (getD needs n 0); handle
 unfoldable pub belongsIn : List ℕ → List ℕ → ℕ → ℕ → Bool
 belongsIn needs remembers needed h = isSome (first (λ n. keeps (rememberedAt needs remembers n) h) 0 needed)
 
-abbrev pub Table : List ℕ → List ℕ → ℕ → Type 0
-Table needs remembers needed = (length needs ≡ 64) × (length remembers ≡ 64) × (needed ≤ 64)
+abbrev pub SizedNeeds : List ℕ → List ℕ → ℕ → Type 0
+SizedNeeds needs remembers needed = (length needs ≡ 64) × (length remembers ≡ 64) × (needed ≤ 64)
 
 -- both tables, and how many needs there are
 pub record Needing : Type 0 where

@@ -5,7 +5,7 @@ ghost use Rattle.rules.specs.Needs as rule;
 ghost use Rattle.rules.specs.Frames as frame;
 ghost use Rattle.scopes.specs.View.{idOf};
 ghost use Rattle.needs.specs.Kinds.{needOf};
-ghost use Rattle.handles.specs.NeedTable.{needIn, belongsIn, Table};
+ghost use Rattle.handles.specs.NeedTable.{needIn, belongsIn, SizedNeeds};
 use crate::Handle;
 use crate::packed;
 use needs::Address;
@@ -102,7 +102,7 @@ pub fn belongs<'a>(
     needed: usize,
     h: HandleNumber,
 ) -> bool
-    requires { ⌜ Table (now needs) (now remembers) needed ⌝ }
+    requires { ⌜ SizedNeeds (now needs) (now remembers) needed ⌝ }
     ensures { λ r. ⌜ r ≡ belongsIn (now (needs .entry)) (now (remembers .entry)) needed (h .0) ⌝ }
 {
     let mut i: usize = 0;

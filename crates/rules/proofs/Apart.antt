@@ -59,10 +59,6 @@ module _ (needs : ℕ → Remembered) (needed : ℕ) where
   unfolding mapped
   moves-given {A} {a} e = record { is = ap (λ (x : State). given (a, x)) e }
 
-  moves-refused : {A : Type 0} {n : ℕ} → Moves {A = A} (refused n) (refused n)
-  unfolding mapped
-  moves-refused = record { is = refl }
-
   moves-then : {A B : Type 0} (m : Answer A) {f g : A → Answer (B × State)} → ((a : A) → Moves (g a) (f a)) → Moves (m >>= g) (m >>= f)
   unfolding _>>=_ mapped
   moves-then (given a) h = h a

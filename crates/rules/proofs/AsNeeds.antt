@@ -1,5 +1,5 @@
 -- Frames 23 and 25 do to a need what document 01's library calls do to it; what scripts add are handles, and 16 and 14. Assumes nothing.
-use mathlib.Core.Path.{_≡_, refl, ap}
+use mathlib.Core.Path.{_≡_, refl, ap, _∙_}
 use mathlib.Core.Bool.{Bool, true, false, _||_}
 use mathlib.Core.Option.{Option, none, some}
 use Prim.Native.Nat.{ℕ, _+_, _≤_}
@@ -63,30 +63,37 @@ isScripted (at a) = isScopeKind (a .kind) || isAssigned (a .kind)
 isScripted ignore = true
 isScripted freedNeed = true
 
+-- whether its slot goes back
+abbrev pub backs : State → Need → Bool
+backs s (defer id) = false
+backs s (at a) = goesBack (s .scopes) (a .kind)
+backs s ignore = false
+backs s freedNeed = false
+
 unfoldable pub left : Answer State → Answer (Need × Scopes)
 left m = m >>= λ t. given (freedNeed, t .scopes)
 
 module _ (s : State) (h : ℕ) where
   -- where the slot that goes back is held, 25 is 01's call
-  pub need-freed : (d : Need) → NeedAgrees (s .handles) (s .handed) h d → isScripted d ≡ true → s .handles h .held ≡ true → left (freeOwn h s d) ≡ freeNeed d (s .scopes)
+  pub need-freed : (d : Need) → NeedAgrees (s .handles) (s .handed) h d → isScripted d ≡ true → (backs s d ≡ true → s .handles h .held ≡ true) → left (freeOwn h s d) ≡ freeNeed d (s .scopes)
   unfolding left freeOwn freeNeed freeAddress freeAs handBack setHandle goesBack _>>=_ refuse_when_ if_then_else_
   need-freed (defer id) w y e = refl
   need-freed (at a) w y e = kinds (a .kind) refl y
     where
-      given-back : (id : Id) → isScope id (topScope (s .scopes)) ≡ true → (m : Answer Scopes) → giveBack true (a .slot) (s .scopes) ≡ m
+      given-back : (id : Id) → s .handles h .held ≡ true → isScope id (topScope (s .scopes)) ≡ true → (m : Answer Scopes) → giveBack true (a .slot) (s .scopes) ≡ m
           → left (freeOwn h s (at (record { slot = a .slot; kind = scope id }))) ≡ freeNeed (at (record { slot = a .slot; kind = scope id })) (s .scopes)
-      given-back id q (refused x) p = rw (q, e, w .1, p, freeOwn, freeNeed)
-      given-back id q (given c) p = rw (q, e, w .1, p, freeOwn, freeNeed)
+      given-back id held q (refused x) p = rw (q, held, w .1, p, freeOwn, freeNeed)
+      given-back id held q (given c) p = rw (q, held, w .1, p, freeOwn, freeNeed)
 
-      back : (id : Id) (b : Bool) → isScope id (topScope (s .scopes)) ≡ b → left (freeOwn h s (at (record { slot = a .slot; kind = scope id }))) ≡ freeNeed (at (record { slot = a .slot; kind = scope id })) (s .scopes)
-      back id true q = given-back id q (giveBack true (a .slot) (s .scopes)) refl
-      back id false q = rw (q, freeOwn, freeNeed)
+      back : (id : Id) → a .kind ≡ scope id → (b : Bool) → isScope id (topScope (s .scopes)) ≡ b → left (freeOwn h s (at (record { slot = a .slot; kind = scope id }))) ≡ freeNeed (at (record { slot = a .slot; kind = scope id })) (s .scopes)
+      back id k true q = given-back id (e (ap (goesBack (s .scopes)) k ∙ q)) q (giveBack true (a .slot) (s .scopes)) refl
+      back id k false q = rw (q, freeOwn, freeNeed)
 
       kinds : (k : Kind) → a .kind ≡ k → (isScopeKind k || isAssigned k) ≡ true → left (freeOwn h s (at (record { slot = a .slot; kind = k }))) ≡ freeNeed (at (record { slot = a .slot; kind = k })) (s .scopes)
       kinds local q z = clash z refl
       kinds dangling q z = clash z refl
       kinds assigned q z = refl
       kinds freed q z = clash z refl
-      kinds (scope id) q z = back id (isScope id (topScope (s .scopes))) refl
+      kinds (scope id) q z = back id q (isScope id (topScope (s .scopes))) refl
   need-freed ignore w y e = refl
   need-freed freedNeed w y e = refl

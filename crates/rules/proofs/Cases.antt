@@ -11,7 +11,7 @@ use Rattle.rules.specs.Slots.{freshSlots}
 use Rattle.rules.specs.AddressSets.{member, repeatsNothing}
 use Rattle.rules.specs.Scopes.{Scope, Binding, Scopes, slots≔, live≔, top≔, bindings≔, dangling≔, size≔, freshScopes, boundIn}
 use Rattle.rules.specs.Needs.{assigned, freed, scope as inScope, Need, defer, at, ignore}
-use Rattle.rules.specs.Frames.{Handle, kind≔, Remembered, gone, State, needs≔, needed≔}
+use Rattle.rules.specs.Frames.{Handle, kind≔, Remembered, noNeed, State, needs≔, needed≔}
 use Rattle.rules.specs.Sound.{sumBelow, times, soundSlots, soundTop, leads, soundParents, onLists, soundOwners, soundDangling, bindsOnce, soundBindings, soundSize, sound, holders, soundHandles, agreeing, soundNeeds, soundState}
 
 unfoldable pub small : Room
@@ -94,7 +94,7 @@ handle a h = record { address = a; kind = freed; held = h; written = false }
 
 -- three handles at most, n of them handed out, over the scopes c
 unfoldable pub state : Handle → Handle → Handle → ℕ → Scopes → State
-state x y z n c = record { scopes = c; handles = λ h. elim h [ zero ↦ x | suc i ↦ elim i [ zero ↦ y | suc j ↦ z ] ]; handed = n; needs = λ i. gone; needed = 0 }
+state x y z n c = record { scopes = c; handles = λ h. elim h [ zero ↦ x | suc i ↦ elim i [ zero ↦ y | suc j ↦ z ] ]; handed = n; needs = λ i. noNeed; needed = 0 }
 
 -- the handles of `two`, with two needs at most, n of them made
 unfoldable pub whole : Remembered → Remembered → ℕ → State
@@ -126,10 +126,10 @@ states-not =
     ∷ state (handle 130 true) (handle 3 true) (handle 0 false) 2 (two ▹ bindings≔ (bound 1 7 ∷ []))
     -- "the room limits hold"
     ∷ state (handle 3 true) (handle 130 true) (handle 0 false) 5 two
-    ∷ whole gone gone 3
+    ∷ whole noNeed noNeed 3
     -- "needs agree with their handles"
-    ∷ whole (need (at (record { slot = 130; kind = assigned })) 0) gone 1
-    ∷ whole (need (at (record { slot = 0; kind = assigned })) 2) gone 1
+    ∷ whole (need (at (record { slot = 130; kind = assigned })) 0) noNeed 1
+    ∷ whole (need (at (record { slot = 0; kind = assigned })) 2) noNeed 1
     -- a handle belongs to one need at most
     ∷ whole (need (at (record { slot = 3; kind = inScope (record { index = 0; number = 0 }) })) 0) (need (at (record { slot = 3; kind = inScope (record { index = 1; number = 1 }) })) 0) 2
     ∷ []

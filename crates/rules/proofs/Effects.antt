@@ -11,7 +11,7 @@ use Rattle.rules.specs.Sizes.{Room}
 use Rattle.rules.specs.Slots.{Slots, Placement, remove, removeAll}
 use Rattle.rules.specs.Scopes.{Binding, Scopes, Found, closed, getName, drainDangling}
 use Rattle.rules.specs.Needs.{Kind, freed, Need, defer, at, ignore, freedNeed}
-use Rattle.rules.specs.Frames.{Frame, child, pop, dangle, restore, popLast, alloc, allocIn, linear, define, get, takeFrom, free, freeQuietly, forget, drain, write, read, readName, newDefer, newAssigned, newIgnore, allocNeed, outputNeed, dropNeed, Handle, kind≔, held≔, State, scopes≔, handles≔, handed≔, setHandle, grant, allot, close, handBack, freeAs, freeHandle, Remembered, gone, needs≔, needed≔, setNeed, addNeed, allotNeed, freeOwn, Line, loads, shows, step}
+use Rattle.rules.specs.Frames.{Frame, child, pop, dangle, restore, popLast, alloc, allocIn, linear, define, get, takeFrom, free, freeQuietly, forget, drain, write, read, readName, newDefer, newAssigned, newIgnore, allocNeed, outputNeed, dropNeed, Handle, kind≔, held≔, State, scopes≔, handles≔, handed≔, setHandle, grant, allot, close, handBack, freeAs, freeHandle, Remembered, noNeed, needs≔, needed≔, setNeed, addNeed, allotNeed, freeOwn, Line, loads, shows, step}
 use Rattle.rules.specs.Meaning.{Deed, nothing, deed}
 use Rattle.rules.specs.Demand3.{Fair}
 use Rattle.rules.proofs.Chains.{All, all-given, all-then, all-when, all-unless, all-if}
@@ -169,4 +169,4 @@ module _ (room : Room) (place : Placement) (InOrder : Slots → Type 0) (fair : 
     effect newIgnore = all-then λ t e. all-given (add-effect _ 0x22 _ .at t e)
     effect (allocNeed n) = all-when 21 _ λ _. all-then λ r e. all-given (need-effect n (s .needs n .need) 0x23 _ .at r e)
     effect (outputNeed n) = all-when 21 _ λ _. all-then λ o _. all-given (quiet _ _)
-    effect (dropNeed n) = all-when 21 _ λ _. all-then λ t e. all-given (with-needs (put (t .needs) n gone) (t .needed) (own-effect (s .needs n .handle) (s .needs n .need) 0x25 [] .at t e))
+    effect (dropNeed n) = all-when 21 _ λ _. all-then λ t e. all-given (with-needs (put (t .needs) n noNeed) (t .needed) (own-effect (s .needs n .handle) (s .needs n .need) 0x25 [] .at t e))

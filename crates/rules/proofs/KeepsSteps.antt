@@ -11,7 +11,7 @@ use Rattle.rules.specs.Sizes.{Room}
 use Rattle.rules.specs.Slots.{Placement, remove}
 use Rattle.rules.specs.Scopes.{Id, Binding, Scopes, moved≔, Found, byNumber, hasChild, closed, bindIn, takeName, drainDangling}
 use Rattle.rules.specs.Needs.{Kind, local, dangling, assigned, freed, scope, isFreed, allocatedKind, Address, Need, defer, at, ignore, freedNeed}
-use Rattle.rules.specs.Frames.{Frame, child, pop, dangle, restore, popLast, alloc, allocIn, linear, define, get, takeFrom, free, freeQuietly, forget, drain, write, read, readName, newDefer, newAssigned, newIgnore, allocNeed, outputNeed, dropNeed, Handle, kind≔, held≔, Remembered, gone, isScopeKind, owns, State, scopes≔, handles≔, handed≔, needs≔, needed≔, setHandle, unknown, spent, barred, belongs, letGo, grant, allot, close, handBack, freeAs, freeHandle, setNeed, addNeed, lost, allotNeed, freeOwn, step}
+use Rattle.rules.specs.Frames.{Frame, child, pop, dangle, restore, popLast, alloc, allocIn, linear, define, get, takeFrom, free, freeQuietly, forget, drain, write, read, readName, newDefer, newAssigned, newIgnore, allocNeed, outputNeed, dropNeed, Handle, kind≔, held≔, Remembered, noNeed, isScopeKind, owns, State, scopes≔, handles≔, handed≔, needs≔, needed≔, setHandle, unknown, spent, barred, belongs, letGo, grant, allot, close, handBack, freeAs, freeHandle, setNeed, addNeed, lost, allotNeed, freeOwn, step}
 use Rattle.rules.specs.Demand3.{Fair}
 use Rattle.rules.proofs.Chains.{All, all-given, all-then, all-when, all-unless, all-if}
 use Rattle.rules.proofs.Tables.{put-alike}
@@ -122,11 +122,11 @@ module _ (room : Room) (s : State) (ok : StateSound room s) where
   own-needed h ignore = all-given refl
   own-needed h freedNeed = all-given refl
 
-  drop-kept : (n : ℕ) → n < s .needed → All (λ t. StateSound room (t ▹ setNeed n gone)) (freeOwn (s .needs n .handle) s (s .needs n .need))
+  drop-kept : (n : ℕ) → n < s .needed → All (λ t. StateSound room (t ▹ setNeed n noNeed)) (freeOwn (s .needs n .handle) s (s .needs n .need))
   drop-kept n l = record {
     at = λ t e.
         let many : n < t .needed = omega (arith, own-needed (s .needs n .handle) (s .needs n .need) .at t e) in
-        with-need room t (own-kept (s .needs n .handle) (s .needs n .need) (ok .needing .agree n l) .at t e) n many gone tt (λ j _ o _ _ _. clash o refl);
+        with-need room t (own-kept (s .needs n .handle) (s .needs n .need) (ok .needing .agree n l) .at t e) n many noNeed tt (λ j _ o _ _ _. clash o refl);
   }
 
   -- one more need, that has no handle of its own

@@ -12,7 +12,7 @@ use Rattle.rules.specs.Slots.{Placement}
 use Rattle.rules.specs.AddressSets.{member, run}
 use Rattle.rules.specs.Scopes.{Id, Scope, Scopes, live≔, top≔, counter≔, newScope, Found, freshScopes, setScope, byNumber, openChild, allocate, byId, closed, dangleScope, restoreScope, bindIn, takeName, drainDangling}
 use Rattle.rules.specs.Needs.{Kind, local, dangling, assigned, freed, scope, allocatedKind, Address, address, giveBack, Need, defer, at, ignore, freedNeed}
-use Rattle.rules.specs.Frames.{Frame, child, pop, dangle, restore, popLast, alloc, allocIn, linear, define, get, takeFrom, free, freeQuietly, forget, drain, write, read, readName, newDefer, newAssigned, newIgnore, allocNeed, outputNeed, dropNeed, Handle, kind≔, held≔, Remembered, gone, owns, keeps, State, start, scopes≔, handles≔, handed≔, needed≔, setHandle, spent, belongs, barred, grant, letGo, allot, close, handBack, freeAs, freeHandle, setNeed, addNeed, allotNeed, freeOwn, step}
+use Rattle.rules.specs.Frames.{Frame, child, pop, dangle, restore, popLast, alloc, allocIn, linear, define, get, takeFrom, free, freeQuietly, forget, drain, write, read, readName, newDefer, newAssigned, newIgnore, allocNeed, outputNeed, dropNeed, Handle, kind≔, held≔, Remembered, noNeed, owns, keeps, State, start, scopes≔, handles≔, handed≔, needed≔, setHandle, spent, belongs, barred, grant, letGo, allot, close, handBack, freeAs, freeHandle, setNeed, addNeed, allotNeed, freeOwn, step}
 use Rattle.rules.specs.Sound.{ownedBy}
 use Rattle.rules.proofs.Chains.{All, all-as, all-given, all-then, all-when, all-unless, all-if, none-some}
 use Rattle.rules.proofs.Tables.{put-same, put-other, put-cases, put-alike}
@@ -381,12 +381,12 @@ module _ (room : Room) (s : State) (ok : StateSound room s) (own : Owned room s)
   own-carries h freedNeed w = all-given as-it-was
 
   -- a handle belongs to one need at most
-  drop-owned : (n : ℕ) → n < s .needed → All (λ t. Owned room (t ▹ setNeed n gone)) (freeOwn (s .needs n .handle) s (s .needs n .need))
+  drop-owned : (n : ℕ) → n < s .needed → All (λ t. Owned room (t ▹ setNeed n noNeed)) (freeOwn (s .needs n .handle) s (s .needs n .need))
   unfolding setNeed
   drop-owned n l = record {
     at = λ t e.
         let w = own-carries (s .needs n .handle) (s .needs n .need) (ok .needing .agree n l) .at t e in
-        set-owned room t n gone (t .needed) (w .older)
+        set-owned room t n noNeed (t .needed) (w .older)
         (λ j a id m ne p. kept-as w j a id m p (λ k q o same. ne (ok .needing .apart n j l k o (ap owns q) same)))
         (λ a id p. clash (ap owns p) refl);
   }

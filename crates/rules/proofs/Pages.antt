@@ -14,7 +14,7 @@ use Rattle.rules.specs.Slots.{Placement}
 use Rattle.rules.specs.AddressSets.{member, without, added, addedAll, withoutAll, run}
 use Rattle.rules.specs.Scopes.{Scope, Scopes, top≔, dangling≔, owned≔, newScope, Found, found, hasNumber, topScope, byNumber, setScope, openChild, allocate, closed, poppable, lastPoppable, dangleScope, restoreScope, bindIn, getName, takeName, drainDangling}
 use Rattle.rules.specs.Needs.{Kind, giveBack, Need, defer, at, ignore, freedNeed}
-use Rattle.rules.specs.Frames.{State, scopes≔, Frame, child, pop, dangle, restore, popLast, alloc, allocIn, linear, define, get, takeFrom, free, freeQuietly, forget, drain, write, read, readName, newDefer, newAssigned, newIgnore, allocNeed, outputNeed, dropNeed, Line, stores, loads, shows, setHandle, allot, close, handBack, freeAs, freeHandle, Remembered, gone, needs≔, needed≔, setNeed, addNeed, allotNeed, slotShown, freeOwn, step, Step, before, onward, Outcome, accepted, refusedAt, steps}
+use Rattle.rules.specs.Frames.{State, scopes≔, Frame, child, pop, dangle, restore, popLast, alloc, allocIn, linear, define, get, takeFrom, free, freeQuietly, forget, drain, write, read, readName, newDefer, newAssigned, newIgnore, allocNeed, outputNeed, dropNeed, Line, stores, loads, shows, setHandle, allot, close, handBack, freeAs, freeHandle, Remembered, noNeed, needs≔, needed≔, setNeed, addNeed, allotNeed, slotShown, freeOwn, step, Step, before, onward, Outcome, accepted, refusedAt, steps}
 use Rattle.rules.specs.Sound.{sumBelow, ownedBy}
 use Rattle.rules.specs.Text.{operandsOf, lineText, listText}
 use Rattle.rules.proofs.Chains.{All, all-given, all-then, all-when, all-unless, all-if, none-some}
@@ -204,7 +204,7 @@ module _ (room : Room) (place : Placement) (s : State) (sound : StateSound room 
   pays newIgnore = all-then λ t e. all-given (add-pays _ 0x22 _ .at t e)
   pays (allocNeed n) = all-when 21 _ λ _. all-then λ r e. all-given (need-pays n (s .needs n .need) .at r e)
   pays (outputNeed n) = all-when 21 _ λ _. all-then λ o _. all-given (short _ _ (omega arith) (omega arith) refl)
-  pays (dropNeed n) = all-when 21 _ λ _. all-then λ t e. all-given (with-needs (put (t .needs) n gone) (t .needed) (own-pays (s .needs n .handle) (s .needs n .need) .at t e))
+  pays (dropNeed n) = all-when 21 _ λ _. all-then λ t e. all-given (with-needs (put (t .needs) n noNeed) (t .needed) (own-pays (s .needs n .handle) (s .needs n .need) .at t e))
 
 -- ---- a script
 

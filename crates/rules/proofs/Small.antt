@@ -13,7 +13,7 @@ use Rattle.rules.specs.Slots.{Placement}
 use Rattle.rules.specs.AddressSets.{member}
 use Rattle.rules.specs.Scopes.{Scopes, freshScopes, Found, closed, drainDangling}
 use Rattle.rules.specs.Needs.{Kind, freed, Need, defer, at, ignore, freedNeed}
-use Rattle.rules.specs.Frames.{Frame, child, pop, dangle, restore, popLast, alloc, allocIn, linear, define, get, takeFrom, free, freeQuietly, forget, drain, write, read, readName, newDefer, newAssigned, newIgnore, allocNeed, outputNeed, dropNeed, Handle, kind≔, State, start, scopes≔, setHandle, letGo, allot, close, handBack, freeAs, freeHandle, Remembered, gone, needs≔, needed≔, setNeed, addNeed, allotNeed, freeOwn, step}
+use Rattle.rules.specs.Frames.{Frame, child, pop, dangle, restore, popLast, alloc, allocIn, linear, define, get, takeFrom, free, freeQuietly, forget, drain, write, read, readName, newDefer, newAssigned, newIgnore, allocNeed, outputNeed, dropNeed, Handle, kind≔, State, start, scopes≔, setHandle, letGo, allot, close, handBack, freeAs, freeHandle, Remembered, noNeed, needs≔, needed≔, setNeed, addNeed, allotNeed, freeOwn, step}
 use Rattle.rules.specs.Demand3.{Fair}
 use Rattle.rules.proofs.Chains.{All, all-given, all-then, all-when, all-unless, all-if}
 use Rattle.rules.proofs.Tables.{put-alike, grant-cases}
@@ -132,4 +132,4 @@ module _ (room : Room) (place : Placement) (fair : Fair room place (SlotsSound (
   small-step newIgnore = all-then λ t e. all-given (add-small _ .at t e)
   small-step (allocNeed n) = all-when 21 _ λ _. all-then λ r e. all-given (need-small n (s .needs n .need) .at r e)
   small-step (outputNeed n) = all-when 21 _ λ _. all-then λ o _. all-given stays
-  small-step (dropNeed n) = all-when 21 _ λ _. all-then λ t e. all-given (with-needs (put (t .needs) n gone) (t .needed) (own-small (s .needs n .handle) (s .needs n .need) .at t e))
+  small-step (dropNeed n) = all-when 21 _ λ _. all-then λ t e. all-given (with-needs (put (t .needs) n noNeed) (t .needed) (own-small (s .needs n .handle) (s .needs n .need) .at t e))

@@ -27,6 +27,10 @@ pub neither : (a b : Bool) → (a || b) ≡ false → (a ≡ false) × (b ≡ fa
 neither true b q = clash refl q
 neither false b q = (refl, q)
 
+pub or-second : (a b : Bool) → b ≡ true → (a || b) ≡ true
+or-second true b q = refl
+or-second false b q = q
+
 pub tells-as : {r : Bool} {P Q : Type 0} → Tells r P → (P → Q) → (Q → P) → Tells r Q
 tells-as t f g = record { holds = λ e. f (t .holds e); shows = λ q. t .shows (g q) }
 

@@ -10,7 +10,7 @@ use Rattle.rules.specs.Sizes.{Room}
 use Rattle.rules.specs.Slots.{Slots, Placement, removes, remove}
 use Rattle.rules.specs.Scopes.{Scopes, slots≔, Found, byNumber, closed, poppable, lastPoppable}
 use Rattle.rules.specs.Needs.{Kind, freed, Address, address, isFreed, goesBack, giveBack, forgetAddress, Need, defer, at, ignore, freedNeed}
-use Rattle.rules.specs.Frames.{Frame, child, pop, dangle, restore, popLast, alloc, allocIn, linear, define, get, takeFrom, free, freeQuietly, forget, drain, write, read, readName, newDefer, newAssigned, newIgnore, allocNeed, outputNeed, dropNeed, kind≔, held≔, gone, isScopeKind, State, start, scopes≔, setHandle, barred, close, setNeed, lost, shows, Step, oneLine, step, Outcome, accepted, refusedAt, onward}
+use Rattle.rules.specs.Frames.{Frame, child, pop, dangle, restore, popLast, alloc, allocIn, linear, define, get, takeFrom, free, freeQuietly, forget, drain, write, read, readName, newDefer, newAssigned, newIgnore, allocNeed, outputNeed, dropNeed, kind≔, held≔, noNeed, isScopeKind, State, start, scopes≔, setHandle, barred, close, setNeed, lost, shows, Step, oneLine, step, Outcome, accepted, refusedAt, onward}
 use Rattle.rules.specs.Text.{split, Script, frames, unread, scriptFrom}
 use Rattle.rules.specs.Entries.{translated}
 
@@ -144,7 +144,7 @@ module _ (room : Room) (place : Placement) where
   step01 s (dropNeed n) = do
     _ ← refuse 21 when (lost s n)
     t ← freeOwn01 (s .needs n .handle) s (s .needs n .need)
-    oneLine (shows 0x25 []) (t ▹ setNeed n gone)
+    oneLine (shows 0x25 []) (t ▹ setNeed n noNeed)
 
   unfoldable pub steps01 : ℕ → State → List Frame → Outcome
   steps01 i s [] = accepted [] (s .scopes .size)

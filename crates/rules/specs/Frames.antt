@@ -57,8 +57,8 @@ pub record Remembered : Type 0 where
   pub need : Need
   pub handle : ℕ
 
-abbrev pub gone : Remembered
-gone = record { need = freedNeed; handle = 0 }
+abbrev pub noNeed : Remembered
+noNeed = record { need = freedNeed; handle = 0 }
 
 abbrev pub isScopeKind : Kind → Bool
 isScopeKind local = false
@@ -112,7 +112,7 @@ start =
       scopes = freshScopes;
       handles = λ h. record { address = 0; kind = freed; held = false; written = false };
       handed = 0;
-      needs = λ n. gone;
+      needs = λ n. noNeed;
       needed = 0;
     }
 
@@ -206,8 +206,8 @@ addNeed room x s = do
 unfoldable pub lost : State → ℕ → Bool
 lost s n = leb (s .needed) n || isGone (s .needs n .need)
 
--- 01: "Allocating turns Defer into a Scope address by alloc in, acts on an Address as above, and answers none otherwise": the need n,
--- which is the last one given. "on 23 of a deferred need 4 (its scope has closed), 16, 7"
+-- 01: "Allocating turns Defer into a Scope address by alloc in, acts on an Address as above, and answers none otherwise": the last argument
+-- is the need n. "on 23 of a deferred need 4 (its scope has closed), 16, 7"
 unfoldable pub allotNeed : Room → Placement → ℕ → State → Need → Answer (Option ℕ × State)
 allotNeed room place n s (defer id) = do
   k ← refuse 4 unless (byId room (s .scopes) id)
@@ -218,7 +218,8 @@ allotNeed room place n s (at a) =
 allotNeed room place n s ignore = given (none, s)
 allotNeed room place n s freedNeed = given (none, s)
 
--- 01: "free: frees an Address"; the handle h that belongs to a need becomes Freed with it: 14, 12
+-- 01: "free: frees an Address"; the handle h that belongs to a need becomes Freed with it: 14, 12. A script's need has a Scope address or an
+-- Assigned one, of which nothing is freed.
 unfoldable pub freeOwn : ℕ → State → Need → Answer State
 freeOwn h s (defer id) = given s
 freeOwn h s (at a) = if (isScopeKind (a .kind)) then freeAs (a .kind) true h s else given s
@@ -347,7 +348,7 @@ module _ (room : Room) (place : Placement) where
   step s (dropNeed n) = do
     _ ← refuse 21 when (lost s n)
     t ← freeOwn (s .needs n .handle) s (s .needs n .need)
-    oneLine (shows 0x25 []) (t ▹ setNeed n gone)
+    oneLine (shows 0x25 []) (t ▹ setNeed n noNeed)
 
 -- ---- scripts
 

@@ -56,11 +56,12 @@ sessions =
     ∷ session "01\n070000\n0c0000\n06\n" "010001\n070000\n0c\n060001\n900002\n" ""
     ∷ []
 
--- n times the same, then a script that is refused
+-- n times the same
 unfoldable pub repeated : ℕ → List ℕ → List ℕ
 repeated zero l = []
 repeated (suc n) l = l ++ repeated n l
 
+-- n times r, then s; refused by the line l
 abbrev after : ℕ → String → String → String → Session
 after n r s l = record { script = repeated n (bytes r) ++ bytes s; list = bytes l; output = [] }
 

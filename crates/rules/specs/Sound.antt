@@ -12,7 +12,7 @@ use Rattle.rules.specs.Slots.{Slots}
 use Rattle.rules.specs.AddressSets.{repeatsNothing}
 use Rattle.rules.specs.Scopes.{Scope, Binding, Scopes, boundIn}
 use Rattle.rules.specs.Needs.{Need, defer, at, ignore, freedNeed}
-use Rattle.rules.specs.Frames.{Handle, Remembered, owns, State}
+use Rattle.rules.specs.Frames.{Handle, owns, State}
 
 -- ---- counting
 
@@ -138,7 +138,7 @@ needAgrees s h (at a) = ltb h (s .handed) && eqb (s .handles h .address) (a .slo
 needAgrees s h ignore = true
 needAgrees s h freedNeed = true
 
--- i and j are two needs with one handle
+-- the needs i and j have one handle of their own
 abbrev pub sharing : State → ℕ → ℕ → Bool
 sharing s i j = owns (s .needs i .need) && owns (s .needs j .need) && eqb (s .needs i .handle) (s .needs j .handle)
 

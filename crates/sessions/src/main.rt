@@ -160,30 +160,30 @@ fn head_above_read() {
 // Needs (W-201): the three kinds, and a need's handle written, read and named.
 fn needs() {
     case(
-        b"N1   ",
+        b"Na   ",
         b"01\n200001\n22\n06\n210000\n230000\n240000\n1000010009\n110001\n0900070001\n120007\n230001\n240001\n230002\n240002\n250000\n250001\n250002\n0f\n",
         1024,
         2,
     );
     // A second 23 takes no handle: with another one, handle 1 would be the need's, and 0c of it refused.
-    case(b"N2   ", b"200000\n230000\n230000\n06\n0c0001\n", 1024, 2);
+    case(b"Nb   ", b"200000\n230000\n230000\n06\n0c0001\n", 1024, 2);
     // A need of root, allocated while a child is the top. If the child owned it, handle 2 would lie over it, and it would print 33.
     case(
-        b"N3   ",
+        b"Nc   ",
         b"200000\n01\n230000\n1000000011\n06\n020001\n06\n1000020033\n110000\n110002\n",
         1024,
         2,
     );
     // 25 away from its scope keeps the slot. If it went back, handle 1 would lie over it, and it would print 6.
     case(
-        b"N4   ",
+        b"Nd   ",
         b"200000\n230000\n1000000005\n01\n250000\n06\n1000010006\n110000\n",
         1024,
         2,
     );
     // 25 in its scope gives the slot back.
     case(
-        b"N5   ",
+        b"Ne   ",
         b"200000\n230000\n1000000005\n250000\n0f\n06\n1000010006\n110001\n",
         1024,
         1,
@@ -193,7 +193,7 @@ fn needs() {
 // 13 of a need's handle; 4 of a closed scope, whose index was used again; 18, 21.
 fn needs_refused() {
     case(b"N13  ", b"200000\n230000\n0c0000\n", 1024, 1);
-    case(b"N4,4 ", b"01\n200001\n020001\n01\n230000\n", 1024, 0);
+    case(b"N4   ", b"01\n200001\n020001\n01\n230000\n", 1024, 0);
     case(b"N18  ", b"200000\n240000\n", 1024, 0);
     case(b"N21  ", b"22\n250000\n230000\n", 1024, 0);
 }
@@ -208,7 +208,7 @@ fn needs_full() {
         1024,
     );
     case(
-        b"N16+ ",
+        b"N4+  ",
         b"01\n200001\n020001\n01\n080400\n020002\n080400\n230000\n",
         1024,
         1024,

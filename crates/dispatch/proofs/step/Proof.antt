@@ -1,11 +1,10 @@
 -- One step, by its opcode. Assumes nothing.
 use native.Mathlib.Omega.{arith}
-use mathlib.Core.Path.{sym, _∙_}
 use Rattle.rules.proofs.Tells.{clash}
 use Rattle.scopes.specs.Lent.{made}
 use Rattle.scopes.specs.declared.Scopes.{Scopes}
 use Rattle.frames.proofs.Beside.{plain-works}
-use Rattle.dispatch.specs.Dispatched.{isPlain}
+use Rattle.dispatch.specs.Dispatched.{PlainCode}
 use Rattle.dispatch.proofs.Opcodes.{plain-by, plain-code}
 use Rattle.dispatch.proofs.step.Statement.{statement}
 use Rattle.dispatch.proofs.step.Tie as tie
@@ -36,7 +35,7 @@ plain-step-requires c κs =
 returns-3 : tie.Need-returns-3
 returns-3 c =
     let st = c .before .before .before .before .before .before .before .before .before .before .before .before .before .before .before .before in
-    let p : isPlain (st .args .f .opcode) = plain-by (st .args .f .opcode) (λ p. clash (c .before .before .before .before .before .before .before .before .before .before .before .before .before .before .is-freeing .ensures .shows p) (c .before .before .before .before .before .before .before .before .before .before .before .before .before .if2 .left)) (omega (arith, c .before .before .before .before .before .before .before .before .before .before .before .before .before .before .before .if1 .left)) in
+    let p : PlainCode (st .args .f .opcode) = plain-by (st .args .f .opcode) (λ p. clash (c .before .before .before .before .before .before .before .before .before .before .before .before .before .before .is-freeing .ensures .shows p) (c .before .before .before .before .before .before .before .before .before .before .before .before .before .if2 .left)) (omega (arith, c .before .before .before .before .before .before .before .before .before .before .before .before .before .before .before .if1 .left)) in
     (λ g q. plain-works _ _ _ _ _ (st .pre .0) g (st .args .f .opcode) _ _ _ _ (plain-code (st .args .f) g p q) (c .before .plain-step .ensures .0 g q), c .before .plain-step .ensures .1)
 
 pub step-spec : {M : Type 1} → statement M

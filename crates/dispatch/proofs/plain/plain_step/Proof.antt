@@ -10,7 +10,7 @@ use Rattle.text.specs.Shapes.{shapeOf, frameShapes}
 use Rattle.scopes.specs.Lent.{made}
 use Rattle.scopes.specs.declared.Scopes.{Scopes}
 use Rattle.frames.proofs.Reading.{drain-works}
-use Rattle.dispatch.specs.Dispatched.{isPlain}
+use Rattle.dispatch.specs.Dispatched.{PlainCode}
 use Rattle.dispatch.proofs.Opcodes.{works-as}
 use Rattle.dispatch.proofs.plain.plain_step.Statement.{statement}
 use Rattle.dispatch.proofs.plain.plain_step.Tie as tie
@@ -19,7 +19,7 @@ abbrev state : tie.Start → Scopes
 state st = made (st .args .halves .now) (st .args .links .now) (st .args .owner .now) (st .args .live .now) (st .args .dangled .now) (st .args .parent .now) (st .args .number .now) (st .args .bindings .now) (st .args .n)
 
 -- a plain opcode past the names' is a drain's or a cell's
-past : (o : ℕ) → isPlain o → 12 ≤ o → 15 ≤ o
+past : (o : ℕ) → PlainCode o → 12 ≤ o → 15 ≤ o
 past o p l = ⊎-elim (λ a. absurd (omega arith)) (λ a. a) (p .0)
 
 scope-step-requires : tie.Need-scope-step-requires

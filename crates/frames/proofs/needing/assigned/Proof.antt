@@ -1,13 +1,14 @@
 -- 21 assigned: 13, 22. Assumes nothing.
 use native.Mathlib.Omega.{arith}
-use mathlib.Core.Path.{sym, _∙_}
+use mathlib.Core.Path.{refl, sym, _∙_}
 use borrow.Author.Needs.{needs}
 use Rattle.rules.specs.Needs as rule
 use Rattle.rules.specs.Frames as frame
 use Rattle.rules.specs.Frames.{step}
 use Rattle.rules.proofs.Chains.{when-true, when-false}
 use Rattle.frames.proofs.Handling.{is-unknown, is-known}
-use Rattle.frames.proofs.NeedSteps.{makes, makes-refused}
+use Rattle.frames.proofs.Beside.{refused-with}
+use Rattle.frames.proofs.NeedSteps.{makes}
 use Rattle.frames.proofs.needing.assigned.Statement.{statement}
 use Rattle.frames.proofs.needing.assigned.Tie as tie
 
@@ -18,7 +19,7 @@ returns : tie.Need-returns
 unfolding step
 returns c = λ s holders stands drained.
     let h = c .before .before .args .h .0 in
-    makes-refused _ _ _ _ _ stands (frame.newAssigned h) 0x21 13 (when-true 13 _ (is-unknown _ h (c .if1 .taken))) drained
+    refused-with _ _ _ _ _ stands (frame.newAssigned h) 0x21 13 _ refl (when-true 13 _ (is-unknown _ h (c .if1 .taken))) drained
 
 mul-unpacked : tie.Need-mul-unpacked
 mul-unpacked c = search needs

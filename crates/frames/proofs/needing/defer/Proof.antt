@@ -1,7 +1,8 @@
 -- `defer` meets its contract. Assumes nothing.
-use mathlib.Core.Path.{ap, _∙_}
+use mathlib.Core.Path.{refl, ap, _∙_}
 use borrow.Author.Needs.{needs}
-use Rattle.frames.proofs.NeedSteps.{nowhere, makes, makes-refused}
+use Rattle.frames.proofs.Beside.{refused-with}
+use Rattle.frames.proofs.NeedSteps.{none-meant, makes}
 use Rattle.rules.specs.Frames as frame
 use Rattle.rules.specs.Frames.{step}
 use Rattle.rules.proofs.Chains.{unless-none, unless-some}
@@ -26,7 +27,7 @@ unfolding step
 returns c = λ s handles holders handed stands drained.
     let m = c .before .before in
     let e = m .meant .ensures s in
-    makes-refused _ _ _ _ _ stands (frame.newDefer (m .before .args .k)) 0x20 4 (unless-none 4 _ (nowhere (view (state (m .before) s)) (m .before .args .k) (m .meant .result) (e .is) (c .if1 .taken))) drained
+    refused-with _ _ _ _ _ stands (frame.newDefer (m .before .args .k)) 0x20 4 _ refl (unless-none 4 _ (none-meant (view (state (m .before) s)) (m .before .args .k) (m .meant .result) (e .is) (c .if1 .taken))) drained
 
 deferred-requires : tie.Need-deferred-requires
 deferred-requires c κs = tt

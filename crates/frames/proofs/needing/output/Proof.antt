@@ -1,10 +1,11 @@
 -- 24 output of need: 21, 18. Assumes nothing.
-use mathlib.Core.Path.{sym, ap, _∙_}
+use mathlib.Core.Path.{refl, sym, ap, _∙_}
 use Rattle.rules.specs.Needs.{outputOf}
 use Rattle.rules.specs.Frames as frame
 use Rattle.rules.specs.Frames.{isGone, step}
 use Rattle.rules.proofs.Chains.{when-true}
-use Rattle.frames.proofs.NeedSteps.{makes-refused, lost-unknown, lost-gone, output-works}
+use Rattle.frames.proofs.Beside.{refused-with}
+use Rattle.frames.proofs.NeedSteps.{lost-unknown, lost-gone, output-works}
 use borrow.Author.Needs.{needs}
 use Rattle.frames.proofs.needing.output.Statement.{statement}
 use Rattle.frames.proofs.needing.output.Tie as tie
@@ -16,7 +17,7 @@ returns : tie.Need-returns
 unfolding step
 returns c = λ s remembers handles holders handed stands drained.
     let k = c .before .before .args .k .0 in
-    makes-refused _ _ _ _ _ stands (frame.outputNeed k) 0x24 21 (when-true 21 _ (lost-unknown _ k (c .if1 .taken))) drained
+    refused-with _ _ _ _ _ stands (frame.outputNeed k) 0x24 21 _ refl (when-true 21 _ (lost-unknown _ k (c .if1 .taken))) drained
 
 mul-need-in : tie.Need-mul-need-in
 mul-need-in c = search needs
@@ -34,7 +35,7 @@ returns-2 : tie.Need-returns-2
 unfolding step
 returns-2 c = λ s remembers handles holders handed stands drained.
     let k = c .before .before .before .before .before .before .args .k .0 in
-    makes-refused _ _ _ _ _ stands (frame.outputNeed k) 0x24 21
+    refused-with _ _ _ _ _ stands (frame.outputNeed k) 0x24 21 _ refl
     (when-true 21 _ (lost-gone _ k (c .before .before .before .before .if1 .left) (sym (ap isGone (c .before .before .need-in .ensures)) ∙ sym (c .before .is-gone .ensures) ∙ c .if2 .taken))) drained
 
 output-requires : tie.Need-output-requires

@@ -5,27 +5,21 @@ use borrow.Author.Needs.{needs}
 use Rattle.frames.proofs.needing.shown.Statement.{statement}
 use Rattle.frames.proofs.needing.shown.Tie as tie
 
--- src/needing.rt:199:28
 enum-known-answer : tie.Need-enum-known-answer
 enum-known-answer c = search needs
 
--- src/needing.rt:200:34
 enum-told : tie.Need-enum-told
 enum-told c = search needs
 
--- src/needing.rt:201:31
 enum-known-answer-2 : tie.Need-enum-known-answer-2
 enum-known-answer-2 c = search needs
 
--- src/needing.rt:195:1
 returns : tie.Need-returns
 returns c = sym (ap shownOf (c .before .answer .given .1))
 
--- src/needing.rt:195:1
 returns-2 : tie.Need-returns-2
 returns-2 c = search needs
 
--- src/needing.rt:195:1
 returns-3 : tie.Need-returns-3
 returns-3 c = sym (ap shownOf (c .before .answer2 .given .1))
 

@@ -4,55 +4,42 @@ use borrow.Author.Needs.{needs}
 use Rattle.frames.proofs.steps.adds_of.Statement.{statement}
 use Rattle.frames.proofs.steps.adds_of.Tie as tie
 
--- src/steps.rt:36:24
 enum-told : tie.Need-enum-told
 enum-told c = search needs
 
--- src/steps.rt:37:19
 enum-known-reply : tie.Need-enum-known-reply
 enum-known-reply c = search needs
 
--- src/steps.rt:38:25
 enum-told-2 : tie.Need-enum-told-2
 enum-told-2 c = search needs
 
--- src/steps.rt:39:23
 enum-known-reply-2 : tie.Need-enum-known-reply-2
 enum-known-reply-2 c = search needs
 
--- src/steps.rt:39:40
 cast-t9 : tie.Need-cast-t9
 cast-t9 c = search needs
 
--- src/steps.rt:40:22
 enum-known-reply-3 : tie.Need-enum-known-reply-3
 enum-known-reply-3 c = search needs
 
--- src/steps.rt:44:24
 enum-known-reply-4 : tie.Need-enum-known-reply-4
 enum-known-reply-4 c = search needs
 
--- src/steps.rt:32:1
 returns : tie.Need-returns
 returns c = search needs
 
--- src/steps.rt:32:1
 returns-2 : tie.Need-returns-2
 returns-2 c = sym (ap addsOf (c .before .reply .given .1))
 
--- src/steps.rt:32:1
 returns-3 : tie.Need-returns-3
 returns-3 c = search needs
 
--- src/steps.rt:32:1
 returns-4 : tie.Need-returns-4
 returns-4 c = sym (ap addsOf (c .before .before .reply2 .given .1))
 
--- src/steps.rt:32:1
 returns-5 : tie.Need-returns-5
 returns-5 c = sym (ap addsOf (c .before .before .reply3 .given .1))
 
--- src/steps.rt:32:1
 returns-6 : tie.Need-returns-6
 returns-6 c = sym (ap addsOf (c .before .reply4 .given .1))
 

@@ -1,11 +1,9 @@
 use Rattle.frames.proofs.steps.ended.Statement.{statement}
 use Rattle.frames.proofs.steps.ended.Tie as tie
 
--- src/steps.rt:67:15
 adds-of-requires : tie.Need-adds-of-requires
 adds-of-requires c κs = tt
 
--- src/steps.rt:59:1
 returns : tie.Need-returns
 returns c = λ t. record { numbers = c .before .before .args .o .numbers; handed = c .before .before .args .handed; adds = c .adds-of .ensures t }
 

@@ -5,35 +5,27 @@ use borrow.Author.Needs.{needs}
 use Rattle.handles.proofs.remembered.need_in.Statement.{statement}
 use Rattle.handles.proofs.remembered.need_in.Tie as tie
 
--- src/remembered.rt:60:16
 cast-t7 : tie.Need-cast-t7
 cast-t7 c = search needs
 
--- src/remembered.rt:61:17
 cast-t10 : tie.Need-cast-t10
 cast-t10 c = search needs
 
--- src/remembered.rt:63:28
 cast-t11 : tie.Need-cast-t11
 cast-t11 c = search needs
 
--- src/remembered.rt:65:9
 returns : tie.Need-returns
 returns c = sym (rw (eq-eqb _ 5 (c .if1 .taken)))
 
--- src/remembered.rt:68:9
 returns-2 : tie.Need-returns-2
 returns-2 c = sym (rw (ne-eqb _ 5 (c .before .if1 .left), eq-eqb _ 6 (c .if2 .taken)))
 
--- src/remembered.rt:71:9
 returns-3 : tie.Need-returns-3
 returns-3 c = sym (rw (ne-eqb _ 5 (c .before .before .if1 .left), ne-eqb _ 6 (c .before .if2 .left), eq-eqb _ 3 (c .if3 .taken)))
 
--- src/remembered.rt:77:9
 returns-4 : tie.Need-returns-4
 returns-4 c = sym (rw (ne-eqb _ 5 (c .before .before .before .if1 .left), ne-eqb _ 6 (c .before .before .if2 .left), ne-eqb _ 3 (c .before .if3 .left), eq-eqb _ 4 (c .if4 .taken)))
 
--- src/remembered.rt:55:1
 returns-5 : tie.Need-returns-5
 returns-5 c = sym (rw (ne-eqb _ 5 (c .before .before .before .if1 .left), ne-eqb _ 6 (c .before .before .if2 .left), ne-eqb _ 3 (c .before .if3 .left), ne-eqb _ 4 (c .if4 .left)))
 
