@@ -35,7 +35,8 @@ pub record StandsWith (s : Scopes) (handles holders : List ℕ) (handed : ℕ) (
   pub needs-length : length (t .needs) ≡ 64
   pub remembers-length : length (t .remembers) ≡ 64
 
--- The frame f, of opcode o, leads from the state and the tables before it to r and the tables after it, as the rules say.
+-- The frame f, of opcode o, leads from the state and the tables before it to r and the tables after it, as the rules say. After a refusal
+-- nothing is said of them: the translation ends.
 pub record WorksWith (f : rules.Frame) (o : ℕ) (s : Scopes) (handles holders : List ℕ) (handed : ℕ) (t : Needing) (r : Reached) (handles′ holders′ : List ℕ) (t′ : Needing) (drained : List ℕ) : Type 0 where
   pub does : rules.step base (edition1 (base .segments)) (stateWith (view s) handles holders handed t) f
       ≡ stepped o (r .adds) (stateWith (view (r .state)) handles′ holders′ (r .handed) t′) drained
