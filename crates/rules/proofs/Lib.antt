@@ -47,5 +47,6 @@ pub mod Fits
 pub mod Scripts
 pub mod Bytes
 pub mod FirstWording
+pub mod LiveBefore
 pub mod OwnHandles
 pub mod Drops
