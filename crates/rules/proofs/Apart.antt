@@ -1,4 +1,4 @@
--- Frames that don't look at needs do the same whatever needs there are, and leave them: 01 to 0b and 0f to 12; and 0c, 0d, 0e of a handle
+-- Frames that don't look at needs do the same whatever needs there are, and leave them: 01 to 0b, 0f to 12 and 14; and 0c, 0d, 0e of a handle
 -- that belongs to no need. Freeing a handle leaves the needs too. Assumes nothing.
 use mathlib.Core.Path.{_≡_, refl, ap, _∙_}
 use mathlib.Core.Bool.{Bool, true, false, _||_}

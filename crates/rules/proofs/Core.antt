@@ -5,15 +5,15 @@ use mathlib.Core.Bool.{Bool, true, false, true≢false}
 use mathlib.Core.Option.{none}
 use mathlib.Core.List.{List, [], _∷_}
 use Prim.Native.Nat.{ℕ, suc, _+_, _-_, _≤_, _<_}
-use native.Mathlib.Nat.{le-refl, le-trans}
+use native.Mathlib.Nat.{zero-add, le-refl, le-trans}
 use native.Mathlib.Omega.{arith}
 use borrow.Author.Tests.{lt-ltb}
 use lib.ListN.{length, getD, set, length-set}
 use lib.Seq.{getD-set-same, getD-set-other}
 use Rattle.rules.specs.Notation.{_▹_, put}
 use Rattle.rules.specs.Needs.{Kind}
-use Rattle.rules.specs.Frames.{Handle, kind≔, written≔, grant, Line, stores, loads, shows}
-use Rattle.rules.specs.Meaning.{Deed, nothing, fill, show, filled, shown, obey, high}
+use Rattle.rules.specs.Frames.{Handle, kind≔, written≔, grant, Source, Line, stores, loads, shows}
+use Rattle.rules.specs.Meaning.{Deed, nothing, fill, show, worth, later, filled, unused, shown, obey, high, takes, listTakes}
 use Rattle.rules.proofs.Tables.{by-eqb, put-same, put-other, put-alike, grant-cases}
 
 -- what it looks at
@@ -53,7 +53,7 @@ pub data Effect (v : View) : Deed → Line → View → Type 0 where
       → w .handles ≡ grant next n a k (v .handles)
       → Effect v nothing (shows o l) w
   -- a held handle's cell and box are filled, or a held and written one's are shown
-  storing : (h x : ℕ) (k : Kind) → v .handles h .held ≡ true
+  storing : (h : ℕ) (x : Source) (k : Kind) → v .handles h .held ≡ true
       → Effect v (fill h x) (stores (v .handles h .address) x) (record { occupied = v .occupied; size = v .size; handles = put (v .handles) h (v .handles h ▹ written≔ true ▹ kind≔ k) })
   loading : {o : ℕ} (h : ℕ) → v .handles h .held ≡ true → v .handles h .written ≡ true → Effect v (show h) (loads o (v .handles h .address)) v
 
@@ -64,16 +64,16 @@ pub record Inv (v : View) (boxes : ℕ → ℕ) (cells : List ℕ) : Type 0 wher
   pub apart : (g h : ℕ) → v .handles g .held ≡ true → v .handles h .held ≡ true → v .handles g .address ≡ v .handles h .address → g ≡ h
   pub same : (h : ℕ) → v .handles h .held ≡ true → v .handles h .written ≡ true → getD cells (v .handles h .address) 0 ≡ boxes h
 
--- what a line does to the cells
-abbrev pub stored : Line → List ℕ → List ℕ
-stored (shows o l) cells = cells
-stored (stores a x) cells = set cells a x
-stored (loads o a) cells = cells
+-- what a line does to the cells, with the samples vs to come
+abbrev pub stored : Line → List ℕ → List ℕ → List ℕ
+stored (shows o l) vs cells = cells
+stored (stores a x) vs cells = set cells a (worth x vs)
+stored (loads o a) vs cells = cells
 
-length-stored : (l : Line) (cells : List ℕ) → length (stored l cells) ≡ length cells
-length-stored (shows o x) cells = refl
-length-stored (stores a x) cells = length-set cells a x
-length-stored (loads o a) cells = refl
+length-stored : (l : Line) (vs cells : List ℕ) → length (stored l vs cells) ≡ length cells
+length-stored (shows o x) vs cells = refl
+length-stored (stores a x) vs cells = length-set cells a (worth x vs)
+length-stored (loads o a) vs cells = refl
 
 module _ (v : View) (boxes : ℕ → ℕ) (cells : List ℕ) (inv : Inv v boxes cells) where
   keep-still : (w : View) → v .size ≤ w .size → ((h : ℕ) → w .handles h .held ≡ true → Still v w h)
@@ -137,25 +137,26 @@ module _ (v : View) (boxes : ℕ → ℕ) (cells : List ℕ) (inv : Inv v boxes 
             (λ q. rw q (inv .same h (was h q r) (ap (λ (y : Handle). y .written) (sym q) ∙ w)));
       }
 
-  keep : (d : Deed) (l : Line) (w : View) → Effect v d l w → w .size ≤ length cells → Inv w (filled d boxes) (stored l cells)
-  keep _ _ w (fewer up still occ) fits = keep-still w up still (λ h p. occ h p (inv .occupied h (still h p .held)))
-  keep _ _ w (back k hk up still occ) fits =
+  keep : (vs : List ℕ) (d : Deed) (l : Line) (w : View) → Effect v d l w → w .size ≤ length cells → Inv w (filled d vs boxes) (stored l vs cells)
+  keep vs _ _ w (fewer up still occ) fits = keep-still w up still (λ h p. occ h p (inv .occupied h (still h p .held)))
+  keep vs _ _ w (back k hk up still occ) fits =
       keep-still w up (λ h p. still h p .1)
       (λ h p. let c = still h p in occ (v .handles h .address) (λ e. c .0 (inv .apart k h hk (c .1 .held) e)) (inv .occupied h (c .1 .held)))
-  keep _ _ w (placing next n a k up room clear taken kept e) fits =
+  keep vs _ _ w (placing next n a k up room clear taken kept e) fits =
       subst (λ (g : ℕ → Handle). Inv (record { occupied = w .occupied; size = w .size; handles = g }) boxes cells) (sym e)
       (keep-placing next n a k (w .occupied) (w .size) up room clear taken kept)
-  keep _ _ _ (storing h x k e) fits = keep-storing h x k e fits
-  keep _ _ _ (loading h e w) fits = inv
+  keep vs _ _ _ (storing h x k e) fits = keep-storing h (worth x vs) k e fits
+  keep vs _ _ _ (loading h e w) fits = inv
 
   -- one line, and what is printed after it
-  line : (d : Deed) (l : Line) (w : View) → Effect v d l w → (ls : List Line) → obey cells (l ∷ ls) .loaded ≡ shown d boxes (obey (stored l cells) ls .loaded)
+  line : (vs : List ℕ) (d : Deed) (l : Line) (w : View) → Effect v d l w → (ls : List Line)
+      → obey cells vs (l ∷ ls) .loaded ≡ shown d boxes (obey (stored l vs cells) (unused d vs) ls .loaded)
   unfolding obey
-  line _ _ _ (fewer up still occ) ls = refl
-  line _ _ _ (back k hk up still occ) ls = refl
-  line _ _ _ (placing next n a k up room clear taken kept e) ls = refl
-  line _ _ _ (storing h x k e) ls = refl
-  line _ _ _ (loading h e w) ls = rw (inv .same h e w)
+  line vs _ _ _ (fewer up still occ) ls = refl
+  line vs _ _ _ (back k hk up still occ) ls = refl
+  line vs _ _ _ (placing next n a k up room clear taken kept e) ls = refl
+  line vs _ _ _ (storing h x k e) ls = refl
+  line vs _ _ _ (loading h e w) ls = rw (inv .same h e w)
 
   low : (d : Deed) (l : Line) (w : View) → Effect v d l w → (size : ℕ) → v .size ≤ size → (ls : List Line) → ((i : ℕ) → high size i ls ≡ none) → (i : ℕ) → high size i (l ∷ ls) ≡ none
   unfolding high
@@ -177,27 +178,47 @@ pub data Trace : View → List Deed → List Line → ℕ → Type 0 where
   ends : {v : View} → Trace v [] [] (v .size)
   goes : {v w : View} {d : Deed} {l : Line} {ds : List Deed} {ls : List Line} {size : ℕ} → Effect v d l w → Trace w ds ls size → Trace v (d ∷ ds) (l ∷ ls) size
 
--- what deeds print
-abbrev pub told : List Deed → (ℕ → ℕ) → List ℕ
-told [] boxes = []
-told (d ∷ ds) boxes = shown d boxes (told ds (filled d boxes))
+-- what deeds print, with these samples, and how many they take
+abbrev pub told : List Deed → List ℕ → (ℕ → ℕ) → List ℕ
+told [] vs boxes = []
+told (d ∷ ds) vs boxes = shown d boxes (told ds (unused d vs) (filled d vs boxes))
+
+abbrev pub deedTakes : Deed → ℕ
+deedTakes nothing = 0
+deedTakes (fill h x) = takes x
+deedTakes (show h) = 0
+
+abbrev pub deedsTake : List Deed → ℕ
+deedsTake [] = 0
+deedsTake (d ∷ ds) = deedTakes d + deedsTake ds
 
 grown : (v : View) (ds : List Deed) (ls : List Line) (size : ℕ) → Trace v ds ls size → v .size ≤ size
 grown v _ _ _ ends = le-refl _
 grown v _ _ size (goes {w = w} {d = d} {l = l} {ds = ds} {ls = ls} e t) = le-trans (grows v d l w e) (grown w ds ls size t)
 
-pub prints : (v : View) (ds : List Deed) (ls : List Line) (size : ℕ) → Trace v ds ls size → (boxes : ℕ → ℕ) (cells : List ℕ) → Inv v boxes cells → size ≤ length cells
-    → obey cells ls .loaded ≡ told ds boxes
+pub prints : (v : View) (ds : List Deed) (ls : List Line) (size : ℕ) → Trace v ds ls size → (boxes : ℕ → ℕ) (vs cells : List ℕ) → Inv v boxes cells → size ≤ length cells
+    → obey cells vs ls .loaded ≡ told ds vs boxes
 unfolding obey
-prints v _ _ _ ends boxes cells inv fits = refl
-prints v _ _ size (goes {w = w} {d = d} {l = l} {ds = ds} {ls = ls} e t) boxes cells inv fits =
-    line v boxes cells inv d l w e ls
-    ∙ ap (shown d boxes) (prints w ds ls size t (filled d boxes) (stored l cells) (keep v boxes cells inv d l w e (le-trans (grown w ds ls size t) fits)) (rw (length-stored l cells) fits))
+prints v _ _ _ ends boxes vs cells inv fits = refl
+prints v _ _ size (goes {w = w} {d = d} {l = l} {ds = ds} {ls = ls} e t) boxes vs cells inv fits =
+    line v boxes cells inv vs d l w e ls
+    ∙ ap (shown d boxes)
+    (prints w ds ls size t (filled d vs boxes) (unused d vs) (stored l vs cells) (keep v boxes cells inv vs d l w e (le-trans (grown w ds ls size t) fits)) (rw (length-stored l vs cells) fits))
 
-pub touches : (v : View) (ds : List Deed) (ls : List Line) (size : ℕ) → Trace v ds ls size → (boxes : ℕ → ℕ) (cells : List ℕ) → Inv v boxes cells → size ≤ length cells
+-- a line takes as many samples as its deed
+pub samples : (v : View) (ds : List Deed) (ls : List Line) (size : ℕ) → Trace v ds ls size → listTakes ls ≡ deedsTake ds
+unfolding listTakes
+samples v _ _ _ ends = refl
+samples v _ _ size (goes {w = w} {ds = ds} {ls = ls} (fewer up still occ) t) = samples w ds ls size t ∙ sym (zero-add _)
+samples v _ _ size (goes {w = w} {ds = ds} {ls = ls} (back k hk up still occ) t) = samples w ds ls size t ∙ sym (zero-add _)
+samples v _ _ size (goes {w = w} {ds = ds} {ls = ls} (placing next n a k up room clear taken kept e) t) = samples w ds ls size t ∙ sym (zero-add _)
+samples v _ _ size (goes {w = w} {ds = ds} {ls = ls} (storing h x k e) t) = ap (λ (n : ℕ). takes x + n) (samples w ds ls size t)
+samples v _ _ size (goes {w = w} {ds = ds} {ls = ls} (loading h e q) t) = samples w ds ls size t ∙ sym (zero-add _)
+
+pub touches : (v : View) (ds : List Deed) (ls : List Line) (size : ℕ) → Trace v ds ls size → (boxes : ℕ → ℕ) (vs cells : List ℕ) → Inv v boxes cells → size ≤ length cells
     → (i : ℕ) → high size i ls ≡ none
 unfolding high
-touches v _ _ _ ends boxes cells inv fits = λ i. refl
-touches v _ _ size (goes {w = w} {d = d} {l = l} {ds = ds} {ls = ls} e t) boxes cells inv fits =
+touches v _ _ _ ends boxes vs cells inv fits = λ i. refl
+touches v _ _ size (goes {w = w} {d = d} {l = l} {ds = ds} {ls = ls} e t) boxes vs cells inv fits =
     low v boxes cells inv d l w e size (le-trans (grows v d l w e) (grown w ds ls size t)) ls
-    (touches w ds ls size t (filled d boxes) (stored l cells) (keep v boxes cells inv d l w e (le-trans (grown w ds ls size t) fits)) (rw (length-stored l cells) fits))
+    (touches w ds ls size t (filled d vs boxes) (unused d vs) (stored l vs cells) (keep v boxes cells inv vs d l w e (le-trans (grown w ds ls size t) fits)) (rw (length-stored l vs cells) fits))

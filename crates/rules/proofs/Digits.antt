@@ -14,7 +14,7 @@ use Rattle.rules.proofs.Tells.{tells-true, tells-below}
 
 -- ---- written
 
-value-digit : (n : ℕ) → n < 16 → value (digit n) ≡ n
+pub value-digit : (n : ℕ) → n < 16 → value (digit n) ≡ n
 unfolding value digit allBelow
 value-digit n h = eqb-true (value (digit n)) n (tells-below {f = λ k. eqb (value (digit k)) k} 16 (λ k _. tells-true _) .holds refl n h)
 

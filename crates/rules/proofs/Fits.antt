@@ -12,7 +12,7 @@ use Rattle.rules.specs.Sizes.{Room, base}
 use Rattle.rules.specs.Slots.{Placement}
 use Rattle.rules.specs.Scopes.{Binding, Found, openChild, drainDangling}
 use Rattle.rules.specs.Needs.{Kind, Need, defer, at, ignore, freedNeed, outputOf}
-use Rattle.rules.specs.Frames.{Frame, child, pop, dangle, restore, popLast, alloc, allocIn, linear, define, get, takeFrom, free, freeQuietly, forget, drain, write, read, readName, newDefer, newAssigned, newIgnore, allocNeed, outputNeed, dropNeed, Remembered, State, addNeed, lost, allot, allotNeed, slotShown, outputShown, Line, loads, shows, step}
+use Rattle.rules.specs.Frames.{Frame, child, pop, dangle, restore, popLast, alloc, allocIn, linear, define, get, takeFrom, free, freeQuietly, forget, drain, Source, constant, nextSample, write, read, readName, newDefer, newAssigned, newIgnore, allocNeed, outputNeed, dropNeed, Remembered, State, addNeed, lost, allot, allotNeed, slotShown, outputShown, Line, loads, shows, step}
 use Rattle.rules.specs.Text.{rowed, lineTable, counted}
 use Rattle.rules.specs.Demand3.{Fair}
 use Rattle.rules.proofs.Chains.{All, all-as, all-given, all-then, all-when, all-unless}
@@ -39,6 +39,10 @@ unfolding base
 base-wide = record { segments = lit< tt; scopes = lit< tt; slots = omega arith; size = lit< tt; lines = lit< tt; needs = lit< tt }
 
 -- "values are 16 bits"
+abbrev pub FitSource : Source → Type 0
+FitSource (constant v) = v < 65536
+FitSource nextSample = Unit {0}
+
 abbrev pub FitFrame : Frame → Type 0
 FitFrame child = Unit {0}
 FitFrame (pop n) = Unit {0}
@@ -55,7 +59,7 @@ FitFrame (free h) = Unit {0}
 FitFrame (freeQuietly h) = Unit {0}
 FitFrame (forget h) = Unit {0}
 FitFrame drain = Unit {0}
-FitFrame (write h v) = v < 65536
+FitFrame (write h x) = FitSource x
 FitFrame (read h) = Unit {0}
 FitFrame (readName name) = Unit {0}
 FitFrame (newDefer n) = Unit {0}
@@ -171,7 +175,8 @@ module _ (room : Room) (place : Placement) (fair : Fair room place (SlotsSound (
   fits-step (freeQuietly h) ff = all-then λ t _. all-given (line0 0x0d (lit< tt) refl refl)
   fits-step (forget h) ff = all-when 13 _ λ _. all-given (line0 0x0e (lit< tt) refl refl)
   fits-step drain ff = all-given drain-fits
-  fits-step (write h v) ff = all-when 13 _ λ _. all-when 14 _ λ _. all-given (one-fit (record { small = lit< tt; fits = fit (small .addresses h) (fit ff fit-nil); reads = refl; other = refl }))
+  fits-step (write h (constant v)) ff = all-when 13 _ λ _. all-when 14 _ λ _. all-given (one-fit (record { small = lit< tt; fits = fit (small .addresses h) (fit ff fit-nil); reads = refl; other = refl }))
+  fits-step (write h nextSample) ff = all-when 13 _ λ _. all-when 14 _ λ _. all-given (one-fit (record { small = lit< tt; fits = fit (small .addresses h) fit-nil; reads = refl; other = refl }))
   fits-step (read h) ff = all-when 13 _ λ _. all-when 14 _ λ _. all-when 15 _ λ _. all-given (load 0x11 _ (lit< tt) (small .addresses h) refl refl)
   fits-step (readName name) ff = all-then λ b _. all-when 14 _ λ _. all-when 15 _ λ _. all-given (load 0x12 _ (lit< tt) (small .addresses (b .handle)) refl refl)
   fits-step (newDefer n) ff = all-unless 4 λ k _. all-then λ t e. all-given (line1 0x20 (s .needed) (lit< tt) (add-fits _ .at t e) refl refl)

@@ -13,6 +13,8 @@ pub mod Placing
 pub mod Editions
 pub mod Leaves
 pub mod Core
+pub mod Taking
+pub mod RunTold
 pub mod Effects
 pub mod Demand3
 pub mod Refusals
@@ -50,3 +52,10 @@ pub mod FirstWording
 pub mod LiveBefore
 pub mod OwnHandles
 pub mod Drops
+pub mod Readers
+pub mod Cuts
+pub mod SampleLines
+pub mod Recorded
+pub mod SampleCells
+pub mod PartsTell
+pub mod SomeBytes

@@ -14,7 +14,7 @@ use Rattle.rules.specs.Slots.{Placement}
 use Rattle.rules.specs.AddressSets.{member, without, added, addedAll, withoutAll, run}
 use Rattle.rules.specs.Scopes.{Scope, Scopes, top≔, dangling≔, owned≔, newScope, Found, found, hasNumber, topScope, byNumber, setScope, openChild, allocate, closed, poppable, lastPoppable, dangleScope, restoreScope, bindIn, getName, takeName, drainDangling}
 use Rattle.rules.specs.Needs.{Kind, giveBack, Need, defer, at, ignore, freedNeed}
-use Rattle.rules.specs.Frames.{State, scopes≔, Frame, child, pop, dangle, restore, popLast, alloc, allocIn, linear, define, get, takeFrom, free, freeQuietly, forget, drain, write, read, readName, newDefer, newAssigned, newIgnore, allocNeed, outputNeed, dropNeed, Line, stores, loads, shows, setHandle, allot, close, handBack, freeAs, freeHandle, Remembered, noNeed, needs≔, needed≔, setNeed, addNeed, allotNeed, slotShown, freeOwn, step, Step, before, onward, Outcome, accepted, refusedAt, steps}
+use Rattle.rules.specs.Frames.{State, scopes≔, Frame, child, pop, dangle, restore, popLast, alloc, allocIn, linear, define, get, takeFrom, free, freeQuietly, forget, drain, constant, nextSample, write, read, readName, newDefer, newAssigned, newIgnore, allocNeed, outputNeed, dropNeed, Line, stores, loads, shows, setHandle, allot, close, handBack, freeAs, freeHandle, Remembered, noNeed, needs≔, needed≔, setNeed, addNeed, allotNeed, slotShown, freeOwn, step, Step, before, onward, Outcome, accepted, refusedAt, steps}
 use Rattle.rules.specs.Sound.{sumBelow, ownedBy}
 use Rattle.rules.specs.Text.{operandsOf, lineText, listText}
 use Rattle.rules.proofs.Chains.{All, all-given, all-then, all-when, all-unless, all-if, none-some}
@@ -196,7 +196,8 @@ module _ (room : Room) (place : Placement) (s : State) (sound : StateSound room 
   pays (freeQuietly h) = all-then λ t e. all-given (free-pays false h 0x0d .at t e)
   pays (forget h) = all-when 13 _ λ _. all-given (short _ _ (omega arith) (omega arith) refl)
   pays drain = all-given drain-pays
-  pays (write h v) = all-when 13 _ λ _. all-when 14 _ λ _. all-given (short _ _ (omega arith) (omega arith) refl)
+  pays (write h (constant v)) = all-when 13 _ λ _. all-when 14 _ λ _. all-given (short _ _ (omega arith) (omega arith) refl)
+  pays (write h nextSample) = all-when 13 _ λ _. all-when 14 _ λ _. all-given (short _ _ (omega arith) (omega arith) refl)
   pays (read h) = all-when 13 _ λ _. all-when 14 _ λ _. all-when 15 _ λ _. all-given (short _ _ (omega arith) (omega arith) refl)
   pays (readName name) = all-then λ b _. all-when 14 _ λ _. all-when 15 _ λ _. all-given (short _ _ (omega arith) (omega arith) refl)
   pays (newDefer n) = all-unless 4 λ k _. all-then λ t e. all-given (add-pays _ 0x20 _ .at t e)

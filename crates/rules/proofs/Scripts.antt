@@ -9,7 +9,7 @@ use lib.Dec.{eqb}
 use lib.ListN.{length}
 use borrow.Author.Tests.{eqb-false}
 use Rattle.rules.specs.Sizes.{Room}
-use Rattle.rules.specs.Frames.{Frame, child, pop, dangle, restore, popLast, alloc, allocIn, linear, define, get, takeFrom, free, freeQuietly, forget, drain, write, read, readName, newDefer, newAssigned, newIgnore, allocNeed, outputNeed, dropNeed}
+use Rattle.rules.specs.Frames.{Frame, child, pop, dangle, restore, popLast, alloc, allocIn, linear, define, get, takeFrom, free, freeQuietly, forget, drain, constant, nextSample, write, read, readName, newDefer, newAssigned, newIgnore, allocNeed, outputNeed, dropNeed}
 use Rattle.rules.specs.Text.{Raw, raw, Split, Row, rowed, lineOf, with0, with1, with2, frameTable, Script, frames, unread, frameBefore, scriptFrom}
 use Rattle.rules.proofs.Chains.{none-some}
 use Rattle.rules.proofs.Digits.{Fit, fit, raw-fits}
@@ -82,9 +82,10 @@ frame-rows =
     ⨾ one-fits freeQuietly (λ a. tt)
     ⨾ one-fits forget (λ a. tt)
     ⨾ none-fits drain tt
-    ⨾ two-fit write (λ a b h. h)
+    ⨾ two-fit (λ h v. write h (constant v)) (λ a b h. h)
     ⨾ one-fits read (λ a. tt)
     ⨾ one-fits readName (λ a. tt)
+    ⨾ one-fits (λ h. write h nextSample) (λ a. tt)
     ⨾ one-fits newDefer (λ a. tt)
     ⨾ one-fits newAssigned (λ a. tt)
     ⨾ none-fits newIgnore tt

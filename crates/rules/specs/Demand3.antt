@@ -4,14 +4,15 @@ use mathlib.Core.Path.{_≡_}
 use mathlib.Core.Bool.{Bool, true, false}
 use mathlib.Core.Option.{Option, none, some}
 use mathlib.Core.List.{List, [], _∷_}
-use Prim.Native.Nat.{ℕ, zero, suc, _+_, _*_, _≤_, _<_}
+use Prim.Native.Nat.{ℕ, zero, suc, _+_, _*_, _-_, _≤_, _<_}
 use lib.ListN.{length, drop}
 use Rattle.rules.specs.Sizes.{Room}
 use Rattle.rules.specs.Slots.{Slots, Placed, Placement, freshSlots, remove}
 use Rattle.rules.specs.Frames.{State, start, Frame, Line, accepted, steps}
-use Rattle.rules.specs.Meaning.{Ran, obey, high, meaning}
+use Rattle.rules.specs.Meaning.{Ran, obey, high, meaning, listTakes, framesTake, lacking}
 use Rattle.rules.specs.Text.{split, Script, frames, unread, scriptFrom, listText, listed, listFrom}
-use Rattle.rules.specs.Entries.{translated, RunOutcome, ran, ranOn}
+use Rattle.rules.specs.Recordings.{Recording, recorded}
+use Rattle.rules.specs.Entries.{translated, RunOutcome, ran, stopped, recordedOn}
 
 -- ---- fair placements
 
@@ -32,9 +33,11 @@ pub record Fair (room : Room) (place : Placement) (InOrder : Slots → Type 0) :
 
 -- ---- on decoded lists
 
--- On cells, as many as the size at least, the list loads what the script means, and every address is below the size.
+-- With any samples, on cells as many as the size at least, the list loads what the script means with those samples; it takes as many as
+-- the script; and every address is below the size.
 pub record Holds (room : Room) (place : Placement) (fs : List Frame) (ls : List Line) (size : ℕ) : Type 0 where
-  pub prints : (cells : List ℕ) → size ≤ length cells → obey cells ls .loaded ≡ meaning room place start (λ h. 0) fs
+  pub prints : (vs cells : List ℕ) → size ≤ length cells → obey cells vs ls .loaded ≡ meaning room place start (λ h. 0) vs fs
+  pub samples : listTakes ls ≡ framesTake fs
   pub inside : high size 0 ls ≡ none
 
 unfoldable pub Demand3 : Room → Placement → Type 0
@@ -42,20 +45,40 @@ Demand3 room place = (fs : List Frame) (ls : List Line) (size : ℕ) → steps r
 
 -- ---- on bytes
 
-unfoldable pub scriptMeaning : Room → Placement → List ℕ → List ℕ
-scriptMeaning room place script =
-    elim (scriptFrom room 0 (split script)) [ frames fs ↦ meaning room place start (λ h. 0) fs | unread n i ↦ [] ]
+-- what a script means with these samples, and how many it takes
+unfoldable pub scriptMeaning : Room → Placement → List ℕ → List ℕ → List ℕ
+scriptMeaning room place script vs =
+    elim (scriptFrom room 0 (split script)) [ frames fs ↦ meaning room place start (λ h. 0) vs fs | unread n i ↦ [] ]
 
--- The frame machine accepts the list's bytes on these cells and loads these values; the cells from `size` on stay.
-pub record Runs (room : Room) (size : ℕ) (cells list values : List ℕ) : Type 0 where
+unfoldable pub scriptTakes : Room → List ℕ → ℕ
+scriptTakes room script = elim (scriptFrom room 0 (split script)) [ frames fs ↦ framesTake fs | unread n i ↦ 0 ]
+
+-- The frame machine accepts the list's bytes on these cells with this recording, loads these values and leaves so many samples over; the
+-- cells from `size` on stay.
+pub record Runs (room : Room) (size : ℕ) (cells : List ℕ) (r : Recording) (list values : List ℕ) (left : ℕ) : Type 0 where
   pub last : List ℕ
-  pub runs : ranOn room cells list ≡ ran (record { cells = last; loaded = values })
+  pub runs : recordedOn room cells r list ≡ ran (record { cells = last; loaded = values }) left
   pub above : drop size last ≡ drop size cells
 
+-- W-205: "For every recording with samples enough, what is printed equals the meaning with those samples in order, each used once. The
+-- number of samples left over is reported."
 unfoldable pub Demand3Bytes : Room → Placement → Type 0
 Demand3Bytes room place =
     (script : List ℕ) (ls : List Line) (size : ℕ) → translated room place script ≡ accepted ls size
-    → (cells : List ℕ) → size ≤ length cells → Runs room size cells (listText ls size) (scriptMeaning room place script)
+    → (cells : List ℕ) → size ≤ length cells
+    → (n : ℕ) (vs : List ℕ) → scriptTakes room script ≤ n → scriptTakes room script ≤ length vs
+    → Runs room size cells (recorded n vs) (listText ls size) (scriptMeaning room place script vs) (n - scriptTakes room script)
+
+-- "23 when there are too few samples", whatever the cells and what was kept; it shows "the first 14 line without a sample"
+pub record Lacks (room : Room) (cells : List ℕ) (r : Recording) (list : List ℕ) (first : Option ℕ) : Type 0 where
+  pub line : ℕ
+  pub is-first : first ≡ some line
+  pub stops : recordedOn room cells r list ≡ stopped 23 line
+
+unfoldable pub TooFew : Room → Placement → Type 0
+TooFew room place =
+    (script : List ℕ) (ls : List Line) (size : ℕ) → translated room place script ≡ accepted ls size
+    → (cells : List ℕ) (n : ℕ) (vs : List ℕ) → n < scriptTakes room script → Lacks room cells (recorded n vs) (listText ls size) (lacking 0 n ls)
 
 -- a list that we wrote reads back as the same lines and size
 unfoldable pub RoundTrip : Room → Placement → Type 0

@@ -1,5 +1,5 @@
--- Document 01, "Script frames" and "Numbers given back", and W-201 of document 02, "Needs in scripts": one frame, and a script. Refusals
--- stand in the order of "Order" and of W-201.
+-- Document 01, "Script frames" and "Numbers given back", and of document 02 W-201, "Needs in scripts", and the frame of W-205, "Recorded
+-- counters through a script": one frame, and a script. Refusals stand in the order of "Order" and of W-201.
 -- Assumes nothing.
 use mathlib.Core.Bool.{Bool, true, false, not, _&&_, _||_}
 use mathlib.Core.Option.{Option, none, some}
@@ -16,7 +16,12 @@ use Rattle.rules.specs.Needs.{Kind, local, dangling, assigned, freed, sc
 
 -- ---- frames
 
--- "One frame a line": 01, 02, .. 12 in this order; then 20 to 25 of W-201
+-- what a write stores: 10 the value that stands in the frame, 14 of W-205 "the next recorded sample"
+pub data Source : Type 0 where
+  constant : ℕ → Source
+  nextSample : Source
+
+-- "One frame a line": 01, 02, .. 12 in this order, where `write` is 10 and 14; then 20 to 25 of W-201
 pub data Frame : Type 0 where
   child : Frame
   pop dangle restore : ℕ → Frame
@@ -25,7 +30,7 @@ pub data Frame : Type 0 where
   define : ℕ → ℕ → Frame
   get takeFrom free freeQuietly forget : ℕ → Frame
   drain : Frame
-  write : ℕ → ℕ → Frame
+  write : ℕ → Source → Frame
   read readName : ℕ → Frame
   newDefer newAssigned : ℕ → Frame
   newIgnore : Frame
@@ -236,9 +241,9 @@ outputShown discard = 0xffff
 
 -- ---- lines of the list
 
--- 10 stores a value at an address; 11 and 12 load; any other opcode shows what it adds
+-- 10 and 14 store at an address; 11 and 12 load; any other opcode shows what it adds
 pub data Line : Type 0 where
-  stores : ℕ → ℕ → Line
+  stores : ℕ → Source → Line
   loads : ℕ → ℕ → Line
   shows : ℕ → List ℕ → Line
 
@@ -306,11 +311,11 @@ module _ (room : Room) (place : Placement) where
   step s drain =
       let r : List ℕ × Scopes = drainDangling (s .scopes) in
       oneLine (shows 0x0f (length (r .0) ∷ r .0)) (s ▹ scopes≔ (r .1))
-  -- "A write makes a Dangling handle Local."
-  step s (write h v) = do
+  -- "A write makes a Dangling handle Local."; W-205: 14 "is refused as 10 is; its list line is `14` and the address"
+  step s (write h x) = do
     _ ← refuse 13 when (unknown s h)
     _ ← refuse 14 when (not (s .handles h .held))
-    oneLine (stores (s .handles h .address) v) (s ▹ setHandle h (s .handles h ▹ written≔ true ▹ kind≔ (allocatedKind (s .handles h .kind))))
+    oneLine (stores (s .handles h .address) x) (s ▹ setHandle h (s .handles h ▹ written≔ true ▹ kind≔ (allocatedKind (s .handles h .kind))))
   step s (read h) = do
     _ ← refuse 13 when (unknown s h)
     _ ← refuse 14 when (not (s .handles h .held))

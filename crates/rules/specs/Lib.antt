@@ -9,7 +9,9 @@ pub mod Frames
 pub mod Sound
 pub mod Meaning
 pub mod Text
+pub mod Recordings
 pub mod Entries
+pub mod Cuts
 pub mod Demand3
 pub mod Sessions
 pub mod FirstWording

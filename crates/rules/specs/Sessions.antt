@@ -1,5 +1,5 @@
--- Document 01, "Sessions to hold", A to K: one list, and the statement over it; and a list of sessions for needs (W-201 of document 02).
--- Assumes nothing.
+-- Document 01, "Sessions to hold", A to K: one list, and the statement over it; and of document 02 lists of sessions for needs (W-201) and
+-- for recordings (W-205). Assumes nothing.
 use mathlib.Core.Path.{_≡_}
 use mathlib.Core.List.{List, [], _∷_, _++_, map}
 use Prim.Native.Nat.{ℕ, zero, suc}
@@ -11,7 +11,8 @@ use Rattle.rules.specs.Sizes.{Room, base}
 use Rattle.rules.specs.Slots.{edition1}
 use Rattle.rules.specs.Frames.{Outcome, accepted, refusedAt}
 use Rattle.rules.specs.Text.{listText}
-use Rattle.rules.specs.Entries.{translated, ranOn, outcomeText, runText}
+use Rattle.rules.specs.Recordings.{recording}
+use Rattle.rules.specs.Entries.{translated, recordedOn, ranOn, outcomeText, runText, recordedText}
 
 -- a text's characters as bytes
 unfoldable pub bytes : String → List ℕ
@@ -144,6 +145,49 @@ noHandle =
 unfoldable pub oneHandle : List Session
 oneHandle = session "080080\n200000\n230000\n" "ee070002\n" "" ∷ []
 
+-- W-205: 14 is refused as 10 is, and its list without a recording by 23
+unfoldable pub sampleSessions : List Session
+sampleSessions =
+    session "06\n140000\n110000\n" "060000\n140000\n110000\n900001\n" "ee170001\n"
+    ∷ session "140000\n" "ee0d0000\n" ""
+    ∷ session "01\n06\n020001\n140000\n" "ee0e0003\n" ""
+    -- a Freed handle that is still held may be written
+    ∷ session "06\n0e0000\n140000\n110000\n" "060000\n0e\n140000\n110000\n900001\n" "ee170002\n"
+    ∷ []
+
+-- a list, a recording, so many cells, and what is printed for them
+pub record RecordedSession : Type 0 where
+  pub list : List ℕ
+  pub samples : List ℕ
+  pub cells : ℕ
+  pub output : List ℕ
+
+abbrev beside : String → String → ℕ → String → RecordedSession
+beside l s n o = record { list = bytes l; samples = bytes s; cells = n; output = bytes o }
+
+unfoldable pub recordedSessions : List RecordedSession
+recordedSessions =
+    -- the samples in order, each used once; one is left over
+    beside "140000\n110000\n140000\n110000\n900001\n" "300001\n30beef\n300003\n" 1 "a00001\na0beef\na100000001\n"
+    -- no 14: all are left over
+    ∷ beside "900000\n" "300001\n300002\n" 0 "a100000002\n"
+    -- 1 and 2 before 20, 20 before 24
+    ∷ beside "14\n900000\n" "x" 0 "ee010000\n"
+    ∷ beside "140001\n900001\n" "x" 1 "ee140000\n"
+    -- 24 beside a list without 14
+    ∷ beside "900000\n" "x" 0 "ee1800000000\n"
+    -- 24 before 23, wherever the malformed line stands
+    ∷ beside "140000\n140000\n900001\n" "300001\n30000\n" 1 "ee1800000001\n"
+    ∷ beside "900000\n" "300001\n300002\n30000a\n310000\n" 0 "ee1800000003\n"
+    -- a torn last line; digits are lowercase
+    ∷ beside "140000\n900001\n" "300001" 1 "ee1800000000\n"
+    ∷ beside "140000\n900001\n" "30000A\n" 1 "ee1800000000\n"
+    -- 23 before 17, at the first 14 without a sample
+    ∷ beside "140000\n900001\n" "" 0 "ee170000\n"
+    ∷ beside "140000\n0f0000\n140000\n900001\n" "300001\n" 1 "ee170002\n"
+    ∷ beside "140000\n900001\n" "300001\n" 0 "ee110000\n"
+    ∷ []
+
 -- what an accepted script's list prints; nothing is run where it was refused
 abbrev pub runOf : Room → Outcome → List ℕ
 runOf room (accepted ls size) = runText (ranOn room (replicate size 0) (listText ls size))
@@ -154,6 +198,15 @@ held room script =
     let o : Outcome = translated room (edition1 (room .segments)) script in
     record { script = script; list = outcomeText o; output = runOf room o }
 
+abbrev pub heldBeside : RecordedSession → RecordedSession
+heldBeside s =
+    record {
+      list = s .list;
+      samples = s .samples;
+      cells = s .cells;
+      output = recordedText (recordedOn base (replicate (s .cells) 0) (recording (s .samples)) (s .list));
+    }
+
 -- each session is as the rules say
 abbrev pub Hold : Room → List Session → Type 0
 Hold room l = map (λ s. held room (s .script)) l ≡ l
@@ -163,3 +216,6 @@ SessionsHold = Hold base sessions
 
 unfoldable pub NeedSessionsHold : Type 0
 NeedSessionsHold = Hold base needSessions × Hold (narrow 128) noHandle × Hold (narrow 129) oneHandle
+
+unfoldable pub RecordedSessionsHold : Type 0
+RecordedSessionsHold = Hold base sampleSessions × (map heldBeside recordedSessions ≡ recordedSessions)

@@ -6,7 +6,7 @@ use Prim.Native.Nat.{ℕ, zero, suc, _+_, _*_, _-_, _/_, _%_}
 use lib.ListN.{length}
 use lib.Dec.{eqb, ltb, leb}
 use Rattle.rules.specs.Sizes.{Room}
-use Rattle.rules.specs.Frames.{Frame, child, pop, dangle, restore, popLast, alloc, allocIn, linear, define, get, takeFrom, free, freeQuietly, forget, drain, write, read, readName, newDefer, newAssigned, newIgnore, allocNeed, outputNeed, dropNeed, Line, stores, loads, shows}
+use Rattle.rules.specs.Frames.{Frame, child, pop, dangle, restore, popLast, alloc, allocIn, linear, define, get, takeFrom, free, freeQuietly, forget, drain, Source, constant, nextSample, write, read, readName, newDefer, newAssigned, newIgnore, allocNeed, outputNeed, dropNeed, Line, stores, loads, shows}
 
 -- ---- "lowercase hex"
 
@@ -111,7 +111,7 @@ with2 f (a ∷ b ∷ c ∷ l) = none
 
 -- ---- scripts
 
--- "01 child; 02 pop s; .. 12 read name"; W-201: "20 defer s, 21 assigned handle, 22 ignore, 23 allocate need, 24 output of need, 25 free need"
+-- "01 child; 02 pop s; .. 12 read name"; W-205: "frame 14 handle"; W-201: "20 defer s, 21 assigned handle, 22 ignore, 23 allocate need, 24 output of need, 25 free need"
 unfoldable pub frameTable : List (Row Frame)
 frameTable =
     row 0x01 (with0 child)
@@ -129,9 +129,10 @@ frameTable =
     ∷ row 0x0d (with1 freeQuietly)
     ∷ row 0x0e (with1 forget)
     ∷ row 0x0f (with0 drain)
-    ∷ row 0x10 (with2 write)
+    ∷ row 0x10 (with2 (λ h v. write h (constant v)))
     ∷ row 0x11 (with1 read)
     ∷ row 0x12 (with1 readName)
+    ∷ row 0x14 (with1 (λ h. write h nextSample))
     ∷ row 0x20 (with1 newDefer)
     ∷ row 0x21 (with1 newAssigned)
     ∷ row 0x22 (with0 newIgnore)
@@ -163,12 +164,14 @@ hexes [] = []
 hexes (a ∷ l) = hex4 a ++ hexes l
 
 abbrev pub opcodeOf : Line → ℕ
-opcodeOf (stores a v) = 0x10
+opcodeOf (stores a (constant v)) = 0x10
+opcodeOf (stores a nextSample) = 0x14
 opcodeOf (loads o a) = o
 opcodeOf (shows o l) = o
 
 abbrev pub operandsOf : Line → List ℕ
-operandsOf (stores a v) = a ∷ v ∷ []
+operandsOf (stores a (constant v)) = a ∷ v ∷ []
+operandsOf (stores a nextSample) = a ∷ []
 operandsOf (loads o a) = a ∷ []
 operandsOf (shows o l) = l
 
@@ -210,9 +213,10 @@ lineTable =
     ∷ row 0x0d (bare 0x0d)
     ∷ row 0x0e (bare 0x0e)
     ∷ row 0x0f (counted 0x0f)
-    ∷ row 0x10 (with2 stores)
+    ∷ row 0x10 (with2 (λ a v. stores a (constant v)))
     ∷ row 0x11 (with1 (loads 0x11))
     ∷ row 0x12 (with1 (loads 0x12))
+    ∷ row 0x14 (with1 (λ a. stores a nextSample))
     ∷ row 0x20 (adding 0x20)
     ∷ row 0x21 (adding 0x21)
     ∷ row 0x22 (adding 0x22)
