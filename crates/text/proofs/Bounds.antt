@@ -13,8 +13,9 @@ use Rattle.rules.specs.Sizes.{Room}
 use Rattle.rules.specs.Frames as rules
 use Rattle.rules.specs.Frames.{Line}
 use Rattle.rules.specs.Text.{Split, split, lineOf, frameTable, lineTable, sizeTable, Script, frames, unread, frameBefore, scriptFrom, Listed, listed, unlisted, lineBefore, sizeOr, listFrom}
-use Rattle.text.specs.Whole.{ofScript, ofListed, scriptChecked, listChecked}
+use Rattle.text.specs.Whole.{ofScript, ofListed, scriptChecked, listing}
 use Rattle.text.specs.declared.whole.Checked.the-variants.{Good, Refused}
+use Rattle.text.specs.declared.whole.Listing.the-variants.{Read, Unread}
 
 abbrev pub Refusal : Room → ℕ → ℕ → Type 0
 Refusal room n j = (1 ≤ n) × (n ≤ 2) × (j ≤ room .lines)
@@ -72,6 +73,9 @@ list-in room (k ∷ ls) i l = go (lineOf sizeTable k) ls (eqb i (room .lines)) r
 not-good : {P : Type 0} {n m j : ℕ} → Good n ≡ Refused m j → P
 not-good e = absurd (let z : _≡_ {A = ℕ} 0 1 = cc in omega arith)
 
+not-read : {P : Type 0} {size n m j : ℕ} → Read size n ≡ Unread m j → P
+not-read e = absurd (let z : _≡_ {A = ℕ} 0 1 = cc in omega arith)
+
 module _ (room : Room) (s : List ℕ) where
   pub script-refused : (n j : ℕ) → scriptChecked room s ≡ Refused n j → Refusal room n j
   unfolding scriptChecked
@@ -89,18 +93,18 @@ module _ (room : Room) (s : List ℕ) where
       go (frames fs) e h = let a : 0 + length fs ≡ n = cc in omega (arith, h)
       go (unread m i) e h = not-good (sym e)
 
-  pub list-refused : (n j : ℕ) → listChecked room s ≡ Refused n j → Refusal room n j
-  unfolding listChecked
+  pub list-refused : (n j : ℕ) → listing room s ≡ Unread n j → Refusal room n j
+  unfolding listing
   list-refused n j e = go (listFrom room 0 (split s)) e (list-in room (split s) 0 (omega arith))
     where
-      go : (r : Listed) → ofListed r ≡ Refused n j → ListIn room 0 r → Refusal room n j
-      go (listed ls m) e h = not-good e
+      go : (r : Listed) → ofListed 0 r ≡ Unread n j → ListIn room 0 r → Refusal room n j
+      go (listed ls m) e h = not-read e
       go (unlisted m i) e h = let a : m ≡ n = cc in let b : i ≡ j = cc in (omega (arith, h .0), omega (arith, h .1), omega (arith, h .2))
 
-  pub list-good : (n : ℕ) → listChecked room s ≡ Good n → n ≤ room .size
-  unfolding listChecked
-  list-good n e = go (listFrom room 0 (split s)) e (list-in room (split s) 0 (omega arith))
+  pub list-good : (size n : ℕ) → listing room s ≡ Read size n → (size ≤ room .size) × (n ≤ room .lines)
+  unfolding listing
+  list-good size n e = go (listFrom room 0 (split s)) e (list-in room (split s) 0 (omega arith))
     where
-      go : (r : Listed) → ofListed r ≡ Good n → ListIn room 0 r → n ≤ room .size
-      go (listed ls m) e h = let a : m ≡ n = cc in omega (arith, h .1)
-      go (unlisted m i) e h = not-good (sym e)
+      go : (r : Listed) → ofListed 0 r ≡ Read size n → ListIn room 0 r → (size ≤ room .size) × (n ≤ room .lines)
+      go (listed ls m) e h = let a : m ≡ size = cc in let b : 0 + length ls ≡ n = cc in (omega (arith, h .1), omega (arith, h .0))
+      go (unlisted m i) e h = not-read (sym e)

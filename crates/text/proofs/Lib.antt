@@ -9,3 +9,4 @@ pub mod Texts
 pub mod Bounds
 pub mod Over
 pub mod Halves
+pub mod Tabling

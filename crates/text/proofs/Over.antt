@@ -9,7 +9,7 @@ use lib.ListN.{length, getD, set, take, drop, length-append, take-append-drop}
 use lib.Seq.{take-suc, sets, sets-eq, take-at, drop-at, drop-drop, length-take-le}
 use Rattle.rules.specs.Text.{digit, hex2, hex4, hexes, lineText}
 use Rattle.rules.specs.Frames.{shows}
-use Rattle.rules.specs.Entries.{eeText}
+use Rattle.rules.specs.Entries.{eeText, malformedText}
 use Rattle.text.specs.Writing.{over}
 
 pub over-sets : (out : List ℕ) (w : ℕ) (t : List ℕ) → w + length t ≤ length out → sets out w t ≡ over out w t
@@ -120,3 +120,8 @@ refusal-put out out1 out2 out3 out4 w w1 w2 w3 n i h e1 e2 e3 p1 p2 p3 p4 =
     let a = next out out1 out2 w w1 (hex2 0xee) (hex2 n) h e1 p1 p2 in
     let b = next out out2 out3 w w2 (hex2 0xee ++ hex2 n) (hex4 i) h (omega arith) a p3 in
     next out out3 out4 w w3 ((hex2 0xee ++ hex2 n) ++ hex4 i) (10 ∷ []) h (omega arith) b p4
+
+pub malformed-put : (out out1 out2 : List ℕ) (w w1 i : ℕ) → w ≤ length out → w1 ≡ w + 2 → out1 ≡ over out w (hex2 0xee) → out2 ≡ over out1 w1 (lineText (shows 24 (i / 65536 ∷ i % 65536 ∷ [])))
+    → out2 ≡ over out w (malformedText i)
+unfolding hex2 hex4 hexes lineText malformedText
+malformed-put out out1 out2 w w1 i h e p q = next out out1 out2 w w1 (hex2 0xee) (lineText (shows 24 (i / 65536 ∷ i % 65536 ∷ []))) h e p q

@@ -11,7 +11,7 @@ use lib.Dec.{eqb, eqb·suc-suc}
 use lib.ListN.{length, getD, take}
 use borrow.Author.Tests.{ne-eqb, eqb-true}
 use Rattle.rules.specs.Frames as rules
-use Rattle.rules.specs.Frames.{child, pop, dangle, restore, popLast, alloc, allocIn, linear, define, get, takeFrom, free, freeQuietly, forget, drain, write, read, readName, newDefer, newAssigned, newIgnore, allocNeed, outputNeed, dropNeed, stores, loads, shows}
+use Rattle.rules.specs.Frames.{child, pop, dangle, restore, popLast, alloc, allocIn, linear, define, get, takeFrom, free, freeQuietly, forget, drain, constant, nextSample, write, read, readName, newDefer, newAssigned, newIgnore, allocNeed, outputNeed, dropNeed, stores, loads, shows}
 use Rattle.rules.specs.Text.{Raw, raw, Row, rowed, lineOf, frameTable, lineTable, sizeTable, with0, with1, with2, counted, bare, adding}
 use Rattle.text.specs.Shapes.{pick, Shaped, column, shapeIn, frameShapes, sizeShape, shapes, shapeOf, frame, fit, readAs}
 use Rattle.text.specs.Lines.{ended, codeOf, frameOf, framed, frameReading, lined, sizedOr, lineReading, readingOf}
@@ -121,13 +121,14 @@ script-rows =
     (rows refl (two-of framed refl 0x10 _ (λ a b. refl))
     (rows refl (frame-of-one 0x11 _ (λ a. refl))
     (rows refl (frame-of-one 0x12 _ (λ a. refl))
+    (rows refl (frame-of-one 0x14 _ (λ a. refl))
     (rows refl (frame-of-one 0x20 _ (λ a. refl))
     (rows refl (frame-of-one 0x21 _ (λ a. refl))
     (rows refl (bare-frame 0x22 _ refl)
     (rows refl (frame-of-one 0x23 _ (λ a. refl))
     (rows refl (frame-of-one 0x24 _ (λ a. refl))
     (rows refl (frame-of-one 0x25 _ (λ a. refl))
-    no-rows))))))))))))))))))))))))
+    no-rows)))))))))))))))))))))))))
 
 -- ---- lists
 
@@ -163,16 +164,17 @@ line-rows =
     (rows refl (bare-line 0x0d)
     (rows refl (bare-line 0x0e)
     (rows refl (counted-line 0x0f)
-    (rows refl (two-of lined refl 0x10 stores (λ a b. refl))
+    (rows refl (two-of lined refl 0x10 _ (λ a b. refl))
     (rows refl (one-of lined refl 0x11 (loads 0x11) (λ a. refl))
     (rows refl (one-of lined refl 0x12 (loads 0x12) (λ a. refl))
+    (rows refl (one-of lined refl 0x14 _ (λ a. refl))
     (rows refl (adding-line 0x20)
     (rows refl (adding-line 0x21)
     (rows refl (adding-line 0x22)
     (rows refl (adding-line 0x23)
     (rows refl (adding-line 0x24)
     (rows refl (bare-line 0x25)
-    no-rows)))))))))))))))))))))))
+    no-rows))))))))))))))))))))))))
 
 -- the size line, whose opcode is no other's
 abbrev showSize : Option ℕ → Reading
@@ -222,7 +224,7 @@ unfolding frameReading lineReading lineOf
 reading-open false t = refl
 reading-open true t = refl
 
--- ---- records of frames: each of the 24 opcodes is one frame of the rules
+-- ---- records of frames: each of the 25 opcodes is one frame of the rules
 
 pub frame-code : (f : rules.Frame) → frameOf (codeOf f) ≡ some f
 unfolding frameOf rowed frameTable shapeOf frameShapes
@@ -241,7 +243,8 @@ frame-code (free h) = refl
 frame-code (freeQuietly h) = refl
 frame-code (forget h) = refl
 frame-code drain = refl
-frame-code (write h v) = refl
+frame-code (write h (constant v)) = refl
+frame-code (write h nextSample) = refl
 frame-code (read h) = refl
 frame-code (readName name) = refl
 frame-code (newDefer s) = refl

@@ -12,12 +12,15 @@ use borrow.Author.Tests.{eq-eqb, ne-eqb, eqb-true, eqb-false, ltb-true, ltb-fals
 use Rattle.rules.specs.Text.{value, Split, split, onto}
 use Rattle.rules.proofs.Tables.{by-eqb}
 use Rattle.text.specs.Shapes.{pick}
-use Rattle.text.specs.Lines.{Ends, NextLine, DigitsFrom, ended, readingBy, readingOf, width, Took}
+use Rattle.text.specs.Lines.{Ends, NextLine, DigitsFrom, ended, readingBy, decoded, takenOf, readingOf, width, Took}
 use Rattle.text.specs.declared.lines.Digits.{Digits}
 use Rattle.text.specs.declared.lines.Reading.{Reading}
-use Rattle.text.specs.declared.lines.Reading.the-variants.{Malformed}
+use Rattle.text.specs.declared.lines.Frame.{Frame}
+use Rattle.text.specs.declared.lines.Reading.the-variants.{Malformed, One}
 use Rattle.text.specs.declared.lines.Taken.{Taken}
-use Rattle.text.proofs.Rows.{reading-open}
+use Rattle.text.specs.declared.lines.Coded.{Coded}
+use Rattle.text.proofs.Rows.{reading-open, reading-none}
+use Rattle.text.proofs.Words.{raw-short}
 use Rattle.text.proofs.Numbers.{line-reads, line-bad}
 
 -- a line that LF ends
@@ -159,6 +162,10 @@ module _ (list : Bool) (s : List ℕ) (p : ℕ) (l : p < length s) (d : Digits) 
           took-ended list s p (w .end) ends (eqb-false _ _ u) Malformed
           (line-bad s p (w .end) (ends .from) (ends .to) list (d .end) (h .from) past (h .stop (omega (arith, h .to, n))))
 
+-- the reading of a line's number
+pub took-as : (f : Split → Reading) (s : List ℕ) (p : ℕ) (t : Coded) → Took f s p (takenOf t) → (x : Reading) → x ≡ decoded (t .code) → Took f s p (record { reading = x; next = t .next })
+took-as f s p t k x e = record { line = k .line; here = k .here; as-read = e ∙ k .as-read; place = k .place; forward = k .forward; within = k .within }
+
 -- any two readings of the line at p are equal
 pub took-one : {f : Split → Reading} {s : List ℕ} {p : ℕ} {r r′ : Taken} → Took f s p r → Took f s p r′ → r ≡ r′
 took-one {f} {s} {p} {r} {r′} t t′ =
@@ -166,3 +173,19 @@ took-one {f} {s} {p} {r} {r′} t t′ =
     let a : r .reading ≡ r′ .reading = t .as-read ∙ ap f l ∙ sym (t′ .as-read) in
     let b : r .next ≡ r′ .next = t .place ∙ ap (λ (x : Split). p + width x) l ∙ sym (t′ .place) in
     λ u. record { reading = a u; next = b u }
+
+-- ---- a line that is read has three bytes at least
+
+not-one : {P : Type 0} {f : Frame} → Malformed ≡ One f → P
+not-one e = absurd (let z : _≡_ {A = ℕ} 0 1 = cc in omega arith)
+
+wide : (list : Bool) (t : List ℕ) (b : Bool) (f : Frame) → readingOf list (record { text = t; ended = b }) ≡ One f → 3 ≤ width (record { text = t; ended = b })
+wide list t false f e = not-one (sym (reading-open list t) ∙ e)
+wide list t true f e = go (ltb (length t) 2) refl
+  where
+    go : (x : Bool) → ltb (length t) 2 ≡ x → 3 ≤ length t + 1
+    go true q = not-one (sym (reading-none list t (raw-short t (ltb-true (length t) 2 q))) ∙ e)
+    go false q = omega (arith, ltb-false (length t) 2 q)
+
+pub took-wide : (list : Bool) (s : List ℕ) (p : ℕ) (t : Taken) → Took (readingOf list) s p t → (f : Frame) → t .reading ≡ One f → p + 3 ≤ t .next
+took-wide list s p t k f e = omega (arith, wide list (k .line .text) (k .line .ended) f (sym (k .as-read) ∙ e), k .place)

@@ -1,4 +1,4 @@
--- Which opcode a list line can have: `10` stores, `11` and `12` load, and neither they nor the size line's `90` show. Assumes nothing.
+-- Which opcode a list line can have: `10` and `14` store, `11` and `12` load, and neither they nor the size line's `90` show. Assumes nothing.
 use mathlib.Core.Path.{_≡_, refl, sym, ap, _∙_}
 use mathlib.Core.Bool.{Bool, true, false, true≢false}
 use mathlib.Core.List.{List, [], _∷_}
@@ -7,7 +7,7 @@ use Prim.Native.Nat.{ℕ}
 use lib.Dec.{eqb}
 use lib.ListN.{length}
 use borrow.Author.Tests.{eqb-true}
-use Rattle.rules.specs.Frames.{Line, stores, loads, shows}
+use Rattle.rules.specs.Frames.{constant, nextSample, Line, stores, loads, shows}
 use Rattle.rules.specs.Text.{Raw, raw, Row, rowed, Split, lineOf, lineTable, opcodeOf, with0, with1, with2, counted}
 use Rattle.text.specs.Shapes.{pick}
 
@@ -15,10 +15,10 @@ abbrev pub isLoad : ℕ → Bool
 isLoad o = pick (eqb o 0x11) true (eqb o 0x12)
 
 abbrev pub isPlain : ℕ → Bool
-isPlain o = pick (eqb o 0x10) false (pick (eqb o 0x11) false (pick (eqb o 0x12) false (pick (eqb o 0x90) false true)))
+isPlain o = pick (eqb o 0x10) false (pick (eqb o 0x11) false (pick (eqb o 0x12) false (pick (eqb o 0x14) false (pick (eqb o 0x90) false true))))
 
 abbrev pub told : Line → Bool
-told (stores a v) = true
+told (stores a x) = true
 told (loads o a) = isLoad o
 told (shows o l) = isPlain o
 
@@ -89,8 +89,9 @@ table-told =
     (rows (one-of _ (λ a. refl))
     (rows (one-of _ (λ a. refl))
     (rows (one-of _ (λ a. refl))
+    (rows (one-of _ (λ a. refl))
     (rows (none-of _ refl)
-    no-rows)))))))))))))))))))))))
+    no-rows))))))))))))))))))))))))
 
 pub told-line : (l : Split) (x : Line) → lineOf lineTable l ≡ some x → told x ≡ true
 unfolding lineOf
@@ -103,14 +104,15 @@ told-line l x e = sym (ap allTold e) ∙ go (l .ended) (raw (l .text))
 
 -- a list line's opcode is not the size line's
 plain-other : (o : ℕ) → isPlain o ≡ true → eqb o 0x90 ≡ false
-plain-other o e = go (eqb o 0x10) (eqb o 0x11) (eqb o 0x12) (eqb o 0x90) e
+plain-other o e = go (eqb o 0x10) (eqb o 0x11) (eqb o 0x12) (eqb o 0x14) (eqb o 0x90) e
   where
-    go : (a b c d : Bool) → pick a false (pick b false (pick c false (pick d false true))) ≡ true → d ≡ false
-    go a b c false e = refl
-    go true b c true e = absurd (true≢false (sym e))
-    go false true c true e = absurd (true≢false (sym e))
-    go false false true true e = absurd (true≢false (sym e))
-    go false false false true e = absurd (true≢false (sym e))
+    go : (a b c s d : Bool) → pick a false (pick b false (pick c false (pick s false (pick d false true)))) ≡ true → d ≡ false
+    go a b c s false e = refl
+    go true b c s true e = absurd (true≢false (sym e))
+    go false true c s true e = absurd (true≢false (sym e))
+    go false false true s true e = absurd (true≢false (sym e))
+    go false false false true true e = absurd (true≢false (sym e))
+    go false false false false true e = absurd (true≢false (sym e))
 
 load-other : (o : ℕ) → isLoad o ≡ true → eqb o 0x90 ≡ false
 load-other o e = go (eqb o 0x11) refl
@@ -120,6 +122,7 @@ load-other o e = go (eqb o 0x11) refl
     go false q = rw (eqb-true o 0x12 (rw q at e))
 
 pub told-other : (x : Line) → told x ≡ true → eqb (opcodeOf x) 0x90 ≡ false
-told-other (stores a v) e = refl
+told-other (stores a (constant v)) e = refl
+told-other (stores a nextSample) e = refl
 told-other (loads o a) e = load-other o e
 told-other (shows o l) e = plain-other o e

@@ -2,3 +2,4 @@ pub mod Shapes
 pub mod Lines
 pub mod Writing
 pub mod Whole
+pub mod Table

@@ -7,12 +7,13 @@ use Prim.Native.Nat.{ℕ, zero, suc, _+_, _*_, _/_, _%_, _-_, _≤_, _<_}
 use lib.ListN.{length, getD, take, drop}
 use lib.Dec.{eqb, ltb, leb}
 use Rattle.rules.specs.Frames as rules
-use Rattle.rules.specs.Frames.{child, pop, dangle, restore, popLast, alloc, allocIn, linear, define, get, takeFrom, free, freeQuietly, forget, drain, write, read, readName, newDefer, newAssigned, newIgnore, allocNeed, outputNeed, dropNeed, Line, stores, loads, shows}
+use Rattle.rules.specs.Frames.{child, pop, dangle, restore, popLast, alloc, allocIn, linear, define, get, takeFrom, free, freeQuietly, forget, drain, constant, nextSample, write, read, readName, newDefer, newAssigned, newIgnore, allocNeed, outputNeed, dropNeed, Line, stores, loads, shows}
 use Rattle.rules.specs.Text.{value, Split, split, rowed, lineOf, frameTable, lineTable, sizeTable, opcodeOf, operandsOf}
 use Rattle.text.specs.declared.lines.Frame.{Frame}
 use Rattle.text.specs.declared.lines.Reading.{Reading}
 use Rattle.text.specs.declared.lines.Reading.the-variants.{Malformed, One}
 use Rattle.text.specs.declared.lines.Taken.{Taken}
+use Rattle.text.specs.declared.lines.Coded.{Coded}
 use Rattle.text.specs.declared.lines.Digits.{Digits}
 use Rattle.text.specs.Shapes.{pick, frame, shapeOf, readAs}
 
@@ -46,6 +47,20 @@ weight (suc k) = weight k / 16
 unfoldable pub numberOf : List ℕ → ℕ → ℕ → ℕ
 numberOf s p zero = 0
 numberOf s p (suc k) = numberOf s p k + value (getD s (p + k) 0) * weight k
+
+-- e is where the digits from p on end
+pub record DigitsEnd (s : List ℕ) (p e : ℕ) : Type 0 where
+  pub from : p ≤ e
+  pub to : e ≤ length s
+  pub all : (k : ℕ) → p ≤ k → k < e → value (getD s k 0) < 16
+  pub stop : e < length s → 16 ≤ value (getD s e 0)
+
+-- t is ten places after p, or the end of a text of n bytes
+pub record Tenth (n p t : ℕ) : Type 0 where
+  pub from : p ≤ t
+  pub to : t ≤ n
+  pub near : t ≤ p + 10
+  pub full : t < n → t ≡ p + 10
 
 pub record DigitsFrom (s : List ℕ) (p : ℕ) (d : Digits) : Type 0 where
   pub from : p ≤ d .end
@@ -85,7 +100,8 @@ codeOf (free h) = frame 0x0c h 0
 codeOf (freeQuietly h) = frame 0x0d h 0
 codeOf (forget h) = frame 0x0e h 0
 codeOf drain = frame 0x0f 0 0
-codeOf (write h v) = frame 0x10 h v
+codeOf (write h (constant v)) = frame 0x10 h v
+codeOf (write h nextSample) = frame 0x14 h 0
 codeOf (read h) = frame 0x11 h 0
 codeOf (readName name) = frame 0x12 name 0
 codeOf (newDefer s) = frame 0x20 s 0
@@ -122,6 +138,18 @@ lineReading l = sizedOr (lineOf sizeTable l) (lined (lineOf lineTable l))
 abbrev pub readingOf : Bool → Split → Reading
 readingOf false = frameReading
 readingOf true = lineReading
+
+-- ---- a line as one number
+
+-- its opcode, then its two operands
+abbrev pub unpacked : ℕ → Frame
+unpacked code = frame (code / 0x100000000 % 0x100) (code / 0x10000 % 0x10000) (code % 0x10000)
+
+abbrev pub decoded : ℕ → Reading
+decoded code = pick (ltb code 0x10000000000) (One (unpacked code)) Malformed
+
+abbrev pub takenOf : Coded → Taken
+takenOf r = record { reading = decoded (r .code); next = r .next }
 
 -- ---- a line that was taken at p, by the reading f, and where the next begins
 

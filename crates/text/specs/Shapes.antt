@@ -3,7 +3,7 @@ use mathlib.Core.Path.{_≡_}
 use mathlib.Core.Bool.{Bool, true, false}
 use mathlib.Core.List.{List, [], _∷_}
 use Prim.Native.Nat.{ℕ, zero, suc, _+_, _-_}
-use lib.Dec.{eqb, ltb}
+use lib.Dec.{eqb}
 use Rattle.text.specs.declared.lines.Frame.{Frame}
 use Rattle.text.specs.declared.lines.Reading.{Reading}
 use Rattle.text.specs.declared.lines.Reading.the-variants.{Malformed, One}
@@ -51,6 +51,7 @@ frameShapes =
     ∷ shaped 0x10 3 3
     ∷ shaped 0x11 2 2
     ∷ shaped 0x12 2 2
+    ∷ shaped 0x14 2 2
     ∷ shaped 0x20 2 2
     ∷ shaped 0x21 2 2
     ∷ shaped 0x22 1 2
@@ -70,9 +71,12 @@ shapes = sizeShape ∷ frameShapes
 unfoldable pub shapeOf : Bool → ℕ → ℕ
 shapeOf list o = shapeIn list shapes o
 
--- the opcode's row in the code's table
-unfoldable pub rowOf : ℕ → ℕ
-rowOf o = pick (ltb o 0x26) o (pick (eqb o 0x90) 0x26 0)
+-- the code's row of the opcodes with this first digit: a digit for each, the last for the first
+unfoldable pub rowOf : Bool → ℕ → ℕ
+rowOf list h =
+    pick (eqb h 1) 0x20223
+    (pick list (pick (eqb h 0) 0x4111221222111120 (pick (eqb h 2) 0x122222 (pick (eqb h 9) 0x2 0)))
+    (pick (eqb h 0) 0x1222223221122210 (pick (eqb h 2) 0x222122 0)))
 
 -- ---- what a line comes to, of its opcode, how many operands it has and the first two
 

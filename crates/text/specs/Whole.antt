@@ -11,8 +11,8 @@ use Rattle.text.specs.declared.lines.Reading.{Reading}
 use Rattle.text.specs.declared.lines.Reading.the-variants.{Malformed, One}
 use Rattle.text.specs.declared.whole.Checked.{Checked}
 use Rattle.text.specs.declared.whole.Checked.the-variants.{Good, Refused}
-use Rattle.text.specs.declared.whole.Verdict.{Verdict}
-use Rattle.text.specs.declared.whole.Verdict.the-variants.{Go, Size, Refuse}
+use Rattle.text.specs.declared.whole.Listing.{Listing}
+use Rattle.text.specs.declared.whole.Listing.the-variants.{Read, Unread}
 use Rattle.text.specs.Shapes.{pick}
 
 -- a script that is read: how many frames it has after those before line i
@@ -20,25 +20,22 @@ abbrev pub ofScript : ℕ → Script → Checked
 ofScript i (frames fs) = Good (i + length fs)
 ofScript i (unread n j) = Refused n j
 
--- a list that is read: its size
-abbrev pub ofListed : Listed → Checked
-ofListed (listed ls size) = Good size
-ofListed (unlisted n j) = Refused n j
+-- a list that is read: its size, and how many lines it has after those before line i
+abbrev pub ofListed : ℕ → Listed → Listing
+ofListed i (listed ls size) = Read size (i + length ls)
+ofListed i (unlisted n j) = Unread n j
 
 unfoldable pub scriptChecked : Room → List ℕ → Checked
 scriptChecked room s = ofScript 0 (scriptFrom room 0 (split s))
 
-unfoldable pub listChecked : Room → List ℕ → Checked
-listChecked room s = ofListed (listFrom room 0 (split s))
+unfoldable pub listing : Room → List ℕ → Listing
+listing room s = ofListed 0 (listFrom room 0 (split s))
 
--- ---- line i of a list: 2, 1, its size, or on
+-- ---- line i of a list: 2, 1, its size, or the rest
 
-abbrev pub sizeVerdict : Room → ℕ → Bool → Verdict
-sizeVerdict room n last = pick last (pick (leb n (room .size)) (Size n) (Refuse 1)) (Refuse 1)
+abbrev pub sizeListing : Room → ℕ → Bool → ℕ → Listing
+sizeListing room n last i = pick last (pick (leb n (room .size)) (Read n i) (Unread 1 i)) (Unread 1 i)
 
-abbrev pub lateOr : Room → ℕ → Verdict → Verdict
-lateOr room i other = pick (eqb i (room .lines)) (Refuse 2) other
-
-abbrev pub verdictOf : Room → ℕ → Bool → Reading → Verdict
-verdictOf room i last Malformed = lateOr room i (Refuse 1)
-verdictOf room i last (One f) = pick (eqb (f .opcode) 0x90) (sizeVerdict room (f .a) last) (lateOr room i Go)
+abbrev pub lineThen : Room → ℕ → Bool → Reading → Listing → Listing
+lineThen room i last Malformed rest = pick (eqb i (room .lines)) (Unread 2 i) (Unread 1 i)
+lineThen room i last (One f) rest = pick (eqb (f .opcode) 0x90) (sizeListing room (f .a) last i) (pick (eqb i (room .lines)) (Unread 2 i) rest)

@@ -1,12 +1,13 @@
-// A line of a script or of a list: an opcode of two digits, then operands of four. One table says which operands an opcode has in
-// each of the two.
+// A line of a script or of a list: an opcode of two digits, then operands of four. Rows of digits say which operands an opcode
+// has in each of the two.
 use crate::digits::is_other;
 use crate::digits::value_of;
+use crate::table::unpack;
 ghost use mathlib.Core.Path.{_≡_};
 ghost use Prim.Native.Nat.{_≤_, _<_};
 ghost use lib.ListN.{length};
-ghost use Rattle.text.specs.Lines.{Ends, NextLine, DigitsFrom, readingBy, readingOf, frameReading, lineReading, Took};
-ghost use Rattle.text.specs.Shapes.{rowOf, shapeOf, fit, readAs};
+ghost use Rattle.text.specs.Lines.{Ends, NextLine, DigitsEnd, Tenth, DigitsFrom, decoded, takenOf, readingBy, readingOf, frameReading, lineReading, Took};
+ghost use Rattle.text.specs.Shapes.{rowOf, shapeOf, fit};
 
 // A frame, or a line of a list: its opcode and its first two operands, 0 where it has fewer.
 pub struct Frame {
@@ -25,6 +26,15 @@ pub struct Taken {
     pub reading: Reading,
     pub next: usize,
 }
+
+// The same, as one number: the opcode, then the two operands; NONE where the line is malformed.
+pub struct Coded {
+    pub code: u64,
+    pub next: usize,
+}
+
+// No line's number is so large.
+pub const NONE: u64 = 0x100_0000_0000;
 
 // The digits from a place on: where they end, and the number that the first ten make, with zeros after them where there are fewer.
 struct Digits {
@@ -47,78 +57,97 @@ fn line_end(s: &[u8], p: usize) -> usize
     e
 }
 
-// The digits from p on, in one walk: a line's LF stands where they end. What digit k counts for is 0 from the eleventh on.
+// Where the digits from a place on end.
+fn digits_end(s: &[u8], from: usize) -> usize
+    requires { ⌜ from ≤ length (now s) ⌝ }
+    ensures { λ r. ⌜ DigitsEnd (now (s .entry)) from r ⌝ }
+{
+    let mut e = from;
+    while e < s.len() {
+        if is_other(s[e]) {
+            return e;
+        }
+        e += 1;
+    }
+    e
+}
+
+// Ten places after p, or the end of a text of n bytes.
+fn tenth(n: usize, p: usize) -> usize
+    requires { ⌜ p ≤ n ⌝ }
+    ensures { λ r. ⌜ Tenth n p r ⌝ }
+{
+    if n - p < 10 {
+        return n;
+    }
+    p + 10
+}
+
+// The digits from p on, in one walk: a line's LF stands where they end. Past the tenth they are only passed over.
 fn digits_from(s: &[u8], p: usize) -> Digits
     requires { ⌜ p ≤ length (now s) ⌝ }
     ensures { λ r. ⌜ DigitsFrom (now (s .entry)) p r ⌝ }
 {
+    let stop = tenth(s.len(), p);
     let mut e = p;
     let mut number: u64 = 0;
-    let mut weight: u64 = 0x10_0000_0000;
-    while e < s.len() {
+    while e < stop {
         let c = s[e];
         if is_other(c) {
-            return Digits { end: e, number };
+            let left = 40 - 4 * ((e - p) as u64);
+            return Digits {
+                end: e,
+                number: number << left,
+            };
         }
-        number += value_of(c) * weight;
-        weight /= 16;
+        number = number * 16 + value_of(c);
         e += 1;
     }
-    Digits { end: e, number }
+    let left = 40 - 4 * ((e - p) as u64);
+    Digits {
+        end: digits_end(s, e),
+        number: number << left,
+    }
 }
 
-// A row for each opcode: the shape of its operands in scripts, then in lists. 0: no such opcode; 1: no operand; 2: one; 3: two; 4: a
-// count and as many operands. The first row is for all other opcodes.
-const SHAPES: [u8; 39] = [
-    0x00, //
-    0x12, // 01 child
-    0x21, // 02 pop
-    0x21, // 03 dangle
-    0x21, // 04 restore
-    0x11, // 05 pop last
-    0x12, // 06 alloc
-    0x22, // 07 alloc in
-    0x22, // 08 linear
-    0x31, // 09 define
-    0x22, // 0a get
-    0x22, // 0b take
-    0x21, // 0c free
-    0x21, // 0d free without dangling
-    0x21, // 0e forget
-    0x14, // 0f drain
-    0x33, // 10 write
-    0x22, // 11 read
-    0x22, // 12 read name
-    0x00, //
-    0x00, //
-    0x00, //
-    0x00, //
-    0x00, //
-    0x00, //
-    0x00, //
-    0x00, //
-    0x00, //
-    0x00, //
-    0x00, //
-    0x00, //
-    0x00, //
-    0x22, // 20 defer
-    0x22, // 21 assigned
-    0x12, // 22 ignore
-    0x22, // 23 allocate need
-    0x22, // 24 output of need
-    0x21, // 25 free need
-    0x02, // 90 the size
-];
+// The shape of each opcode's operands, a digit for each of 16 opcodes, the last for the first. 0: no such opcode; 1: no operand; 2: one;
+// 3: two; 4: a count and as many operands. A number for a row, since an array would be made anew for each line.
+const SCRIPT_0: u64 = 0x1222_2232_2112_2210; // 0f drain, .., 01 child
 
-fn row_of(opcode: u8) -> usize
-    ensures { λ r. ⌜ r ≡ rowOf opcode ⌝ }
+const LIST_0: u64 = 0x4111_2212_2211_1120;
+
+const BOTH_1: u64 = 0x2_0223; // 14 write a sample, 12 read name, 11 read, 10 write
+
+const SCRIPT_2: u64 = 0x22_2122; // 25 free need, 24 output of need, 23 allocate need, 22 ignore, 21 assigned, 20 defer
+
+const LIST_2: u64 = 0x12_2222;
+
+const LIST_9: u64 = 0x2; // 90 the size
+
+// The row of the opcodes with this first digit.
+fn row_of(high: u8, list: bool) -> u64
+    ensures { λ r. ⌜ r ≡ rowOf list high ⌝ }
 {
-    if opcode < 0x26 {
-        return opcode as usize;
+    if high == 1 {
+        return BOTH_1;
     }
-    if opcode == 0x90 {
-        return 0x26;
+    if list {
+        if high == 0 {
+            return LIST_0;
+        }
+        if high == 2 {
+            return LIST_2;
+        }
+        if high == 9 {
+            return LIST_9;
+        }
+        return 0;
+    }
+    if high == 0 {
+        return SCRIPT_0;
+    }
+    if high == 2 {
+        return SCRIPT_2;
     }
     0
 }
@@ -126,11 +155,9 @@ fn row_of(opcode: u8) -> usize
 fn shape_of(opcode: u8, list: bool) -> u8
     ensures { λ r. ⌜ r ≡ shapeOf list opcode ⌝ }
 {
-    let both = SHAPES[row_of(opcode)];
-    if list {
-        return both % 16;
-    }
-    both / 16
+    let row = row_of(opcode / 16, list);
+    let place = 4 * ((opcode % 16) as u64);
+    ((row >> place) % 16) as u8
 }
 
 // Whether a line of so many operands, a the first, has the shape.
@@ -146,31 +173,24 @@ fn fits(shape: u8, count: usize, a: u16) -> bool
     count == ((shape - 1) as usize)
 }
 
-fn read_as(shape: u8, opcode: u8, count: usize, a: u16, b: u16) -> Reading
-    ensures { λ r. ⌜ r ≡ readAs shape opcode count a b ⌝ }
-{
-    if fits(shape, count, a) {
-        return Reading::One(Frame { opcode, a, b });
-    }
-    Reading::Malformed
-}
-
 // The line of n digits whose number it is.
-fn line_of(number: u64, n: usize, list: bool) -> Reading
+fn code_of(number: u64, n: usize, list: bool) -> u64
     requires { ⌜ number < 0x10000000000 ⌝ }
-    ensures { λ r. ⌜ r ≡ readingBy list n number ⌝ }
+    ensures { λ r. ⌜ decoded r ≡ readingBy list n number ⌝ }
 {
     if n < 2 {
-        return Reading::Malformed;
+        return NONE;
     }
     let m = n - 2;
     if m % 4 != 0 {
-        return Reading::Malformed;
+        return NONE;
     }
     let opcode = (number / 0x1_0000_0000) as u8;
     let a = (number / 0x1_0000 % 0x1_0000) as u16;
-    let b = (number % 0x1_0000) as u16;
-    read_as(shape_of(opcode, list), opcode, m / 4, a, b)
+    if fits(shape_of(opcode, list), m / 4, a) {
+        return number;
+    }
+    NONE
 }
 
 // Where the line after the one that holds e begins.
@@ -186,29 +206,35 @@ fn next_line(s: &[u8], e: usize) -> usize
 }
 
 // The line at p. One that holds another byte than digits, or that no LF ends, is malformed.
-fn line_at(s: &[u8], p: usize, list: bool) -> Taken
+fn line_at(s: &[u8], p: usize, list: bool) -> Coded
     requires { ⌜ p < length (now s) ⌝ }
-    ensures { λ r. ⌜ Took (readingOf list) (now (s .entry)) p r ⌝ }
+    ensures { λ r. ⌜ Took (readingOf list) (now (s .entry)) p (takenOf r) ⌝ }
 {
     let d = digits_from(s, p);
     let e = d.end;
     let number = d.number;
     if e == s.len() {
-        return Taken {
-            reading: Reading::Malformed,
+        return Coded {
+            code: NONE,
             next: e,
         };
     }
     if s[e] == 10 {
-        let reading = line_of(number, e - p, list);
+        let code = code_of(number, e - p, list);
         let next = e + 1;
-        return Taken { reading, next };
+        return Coded { code, next };
     }
     let next = next_line(s, e);
-    Taken {
-        reading: Reading::Malformed,
-        next,
+    Coded { code: NONE, next }
+}
+
+fn reading_of(code: u64) -> Reading
+    ensures { λ r. ⌜ r ≡ decoded code ⌝ }
+{
+    if code < NONE {
+        return Reading::One(unpack(code));
     }
+    Reading::Malformed
 }
 
 // The line of a script at p.
@@ -216,13 +242,16 @@ pub fn frame_at(s: &[u8], p: usize) -> Taken
     requires { ⌜ p < length (now s) ⌝ }
     ensures { λ r. ⌜ Took frameReading (now (s .entry)) p r ⌝ }
 {
-    line_at(s, p, false)
+    let t = line_at(s, p, false);
+    let next = t.next;
+    let reading = reading_of(t.code);
+    Taken { reading, next }
 }
 
 // The line of a list at p; the size line is one too, with opcode 90.
-pub fn list_line_at(s: &[u8], p: usize) -> Taken
+pub fn list_line_at(s: &[u8], p: usize) -> Coded
     requires { ⌜ p < length (now s) ⌝ }
-    ensures { λ r. ⌜ Took lineReading (now (s .entry)) p r ⌝ }
+    ensures { λ r. ⌜ Took lineReading (now (s .entry)) p (takenOf r) ⌝ }
 {
     line_at(s, p, true)
 }

@@ -1,27 +1,28 @@
 // The check of a whole text before any step: the first line with 1 or 2.
-use crate::lines::Frame;
+use crate::lines::NONE;
 use crate::lines::Reading;
 use crate::lines::frame_at;
 use crate::lines::list_line_at;
 ghost use mathlib.Core.Path.{_≡_};
 ghost use Rattle.rules.specs.Sizes.{base};
-ghost use Rattle.text.specs.Whole.{scriptChecked, listChecked, lateOr, sizeVerdict, verdictOf};
+ghost use Rattle.text.specs.Whole.{scriptChecked, listing, sizeListing};
+ghost use Rattle.text.specs.Table.{RowsFor, Tabled};
 
 // Frame lines of a text, and the greatest size.
 const LINES: usize = 2048;
 
-const MOST: u16 = 1024;
+const MOST: usize = 1024;
 
-// Of a script how many frames it has, of a list its size; or the number and the line of a refusal.
+// Of a script how many frames it has; or the number and the line of a refusal.
 pub enum Checked {
     Good(usize),
     Refused(u8, usize),
 }
 
-enum Verdict {
-    Go,
-    Size(u16),
-    Refuse(u8),
+// Of a list its size, and how many lines stand before the size line; or the number and the line of a refusal.
+pub enum Listing {
+    Read(usize, usize),
+    Unread(u8, usize),
 }
 
 pub fn check_script(s: &[u8]) -> Checked
@@ -47,63 +48,44 @@ pub fn check_script(s: &[u8]) -> Checked
     Checked::Good(i)
 }
 
-// Line i gives 2, or what it gives otherwise.
-fn late(i: usize, other: Verdict) -> Verdict
-    ensures { λ r. ⌜ r ≡ lateOr base i other ⌝ }
-{
-    if i == LINES {
-        return Verdict::Refuse(2);
-    }
-    other
-}
-
-fn sized(n: u16, last: bool) -> Verdict
-    ensures { λ r. ⌜ r ≡ sizeVerdict base n last ⌝ }
+// The size line, which is line i.
+fn sized(n: usize, last: bool, i: usize) -> Listing
+    ensures { λ r. ⌜ r ≡ sizeListing base n last i ⌝ }
 {
     if last {
         if n <= MOST {
-            return Verdict::Size(n);
+            return Listing::Read(n, i);
         }
-        return Verdict::Refuse(1);
+        return Listing::Unread(1, i);
     }
-    Verdict::Refuse(1)
+    Listing::Unread(1, i)
 }
 
-fn lined(f: Frame, i: usize, last: bool) -> Verdict
-    ensures { λ r. ⌜ r ≡ verdictOf base i last (Reading.One f) ⌝ }
-{
-    if f.opcode == 0x90 {
-        return sized(f.a, last);
-    }
-    late(i, Verdict::Go)
-}
-
-fn judge(x: Reading, i: usize, last: bool) -> Verdict
-    ensures { λ r. ⌜ r ≡ verdictOf base i last x ⌝ }
-{
-    match x {
-        Reading::Malformed => late(i, Verdict::Refuse(1)),
-        Reading::One(f) => lined(f, i, last),
-    }
-}
-
-pub fn check_list(s: &[u8]) -> Checked
-    ensures { λ r. ⌜ r ≡ listChecked base (now (s .entry)) ⌝ }
+// Reads a list once: the table has its lines afterwards.
+pub fn check_list(s: &[u8], table: &mut [u64]) -> Listing
+    requires { ⌜ RowsFor (now s) (now table) ⌝ }
+    ensures { λ r. ⌜ r ≡ listing base (now (s .entry)) ⌝ }
+    ensures tabled { λ r. ⌜ Tabled (now (s .entry)) (now (table .exit)) r ⌝ }
 {
     let mut p: usize = 0;
     let mut i: usize = 0;
     while p < s.len() {
         let t = list_line_at(s, p);
-        let x = t.reading;
+        let code = t.code;
         let q = t.next;
-        match judge(x, i, q == s.len()) {
-            Verdict::Refuse(m) => return Checked::Refused(m, i),
-            Verdict::Size(n) => return Checked::Good(n as usize),
-            Verdict::Go => {
-                p = q;
-                i += 1;
-            }
+        if code / 0x1_0000_0000 == 0x90 {
+            let n = (code / 0x1_0000 % 0x1_0000) as usize;
+            return sized(n, q == s.len(), i);
         }
+        if i == LINES {
+            return Listing::Unread(2, i);
+        }
+        if NONE <= code {
+            return Listing::Unread(1, i);
+        }
+        table[i] = code;
+        p = q;
+        i += 1;
     }
-    Checked::Refused(1, i)
+    Listing::Unread(1, i)
 }

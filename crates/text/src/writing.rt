@@ -6,7 +6,7 @@ ghost use Prim.Native.Nat.{ℕ, _+_, _*_, _≤_, _<_};
 ghost use lib.ListN.{length, take};
 ghost use Rattle.rules.specs.Frames.{shows};
 ghost use Rattle.rules.specs.Text.{hex2, hex4, hexes, lineText};
-ghost use Rattle.rules.specs.Entries.{eeText};
+ghost use Rattle.rules.specs.Entries.{eeText, malformedText};
 ghost use Rattle.text.specs.Writing.{over};
 
 pub fn put_byte(out: &mut [u8], w: usize, n: u8) -> usize
@@ -110,4 +110,14 @@ pub fn put_refusal(out: &mut [u8], w: usize, number: u8, line: u16) -> usize
     let w2 = put_byte(out, w1, number);
     let w3 = put_word(out, w2, line);
     put_end(out, w3)
+}
+
+// The line of a malformed recording: ee, 18, the recording's line in eight digits, LF.
+pub fn put_malformed(out: &mut [u8], w: usize, line: u32) -> usize
+    requires { ⌜ w + 13 ≤ length (now out) ⌝ }
+    ensures { λ r. ⌜ r ≡ w + 13 ⌝ }
+    ensures { λ _. ⌜ now (out .exit) ≡ over (now (out .entry)) w (malformedText line) ⌝ }
+{
+    let w1 = put_byte(out, w, 0xee);
+    put_line(out, w1, 24, 2, (line / 65536) as u16, (line % 65536) as u16)
 }

@@ -15,11 +15,11 @@ returns c =
 shared-slice-read-if2 : tie.Need-shared-slice-read-if2
 shared-slice-read-if2 c = search needs
 
-sub-line-of : tie.Need-sub-line-of
-sub-line-of c = search needs
+sub-code-of : tie.Need-sub-code-of
+sub-code-of c = search needs
 
-line-of-requires : tie.Need-line-of-requires
-line-of-requires c κs = search needs
+code-of-requires : tie.Need-code-of-requires
+code-of-requires c κs = search needs
 
 add-next : tie.Need-add-next
 add-next c = search needs
@@ -28,7 +28,7 @@ returns-2 : tie.Need-returns-2
 returns-2 c =
     let c4 = c .before .before .before .before in
     let c6 = c4 .before .before in
-    took-digits (c6 .args .list) (c6 .args .s .now) (c6 .args .p) (search needs) _ (c4 .digits-from .ensures) (c .before .before .before .if1 .left) (c .before .if2 .taken) _ (c .line-of .ensures)
+    took-digits (c6 .args .list) (c6 .args .s .now) (c6 .args .p) (search needs) _ (c4 .digits-from .ensures) (c .before .before .before .if1 .left) (c .before .if2 .taken) _ (c .code-of .ensures)
 
 next-line-requires : tie.Need-next-line-requires
 next-line-requires c κs = search needs
@@ -46,8 +46,8 @@ line-at-spec =
     digits-from-requires
     returns
     shared-slice-read-if2
-    sub-line-of
-    line-of-requires
+    sub-code-of
+    code-of-requires
     add-next
     returns-2
     next-line-requires

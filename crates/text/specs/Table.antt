@@ -1,0 +1,28 @@
+-- A table of a list's lines, a number for each. Assumes nothing.
+use mathlib.Core.Path.{_≡_}
+use mathlib.Core.List.{List, map}
+use Prim.Native.Nat.{ℕ, _*_, _≤_, _<_}
+use lib.ListN.{length, getD}
+use Rattle.rules.specs.Text.{split}
+use Rattle.text.specs.Lines.{lineReading, unpacked}
+use Rattle.text.specs.declared.lines.Reading.{Reading}
+use Rattle.text.specs.declared.lines.Reading.the-variants.{Malformed, One}
+use Rattle.text.specs.declared.whole.Listing.{Listing}
+use Rattle.text.specs.declared.whole.Listing.the-variants.{Read}
+
+-- what the lines of a list come to
+unfoldable pub readings : List ℕ → List Reading
+readings s = map lineReading (split s)
+
+-- a row for each line that a text so long can have: a line has three bytes at least
+abbrev pub RowsFor : List ℕ → List ℕ → Type 0
+RowsFor s t = (k : ℕ) → k < 2048 → 3 * k < length s → k < length t
+
+-- the table has the first n lines
+abbrev pub Rows : List ℕ → List ℕ → ℕ → Type 0
+Rows s t n = (j : ℕ) → j < n → One (unpacked (getD t j 0)) ≡ getD (readings s) j Malformed
+
+-- the table has the lines of a list that is read
+pub record Tabled (s t : List ℕ) (r : Listing) : Type 0 where
+  pub rows : (size n : ℕ) → r ≡ Read size n → Rows s t n
+  pub fits : (size n : ℕ) → r ≡ Read size n → n ≤ length t
