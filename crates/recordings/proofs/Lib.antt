@@ -1,0 +1,6 @@
+pub mod Four
+pub mod Turns
+pub mod WholeLines
+pub mod Limits
+pub mod Results
+pub mod ReadOn
