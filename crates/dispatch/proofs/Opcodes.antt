@@ -63,10 +63,10 @@ unfolding frameOf rowed frameTable shapeOf frameShapes
 is-freeing f true q l h = (eqb-true (f .opcode) 0x0c q, refl)
 is-freeing f false q l h = (omega (arith, eqb-false (f .opcode) 0x0c q), refl)
 
--- no frame has an opcode between 12 and 20, or past 25
-pub is-between : (f : Code) → 19 ≤ f .opcode → f .opcode < 32 → frameOf f ≡ none
+-- no frame has an opcode between 12 and 20 but 14, or past 25
+pub is-between : (f : Code) → 19 ≤ f .opcode → (f .opcode ≡ 0x14 → ⊥) → f .opcode < 32 → frameOf f ≡ none
 unfolding frameOf frameTable allOf
-is-between f l h = none-of (λ o. ltb o 19 || leb 32 o) frameTable _ refl (rw (le-ltb (f .opcode) 19 l) (lt-leb 32 (f .opcode) h))
+is-between f l ne h = none-of (λ o. ltb o 19 || (eqb o 0x14 || leb 32 o)) frameTable _ refl (rw (le-ltb (f .opcode) 19 l, ne-eqb (f .opcode) 0x14 ne) (lt-leb 32 (f .opcode) h))
 
 is-past : (f : Code) → 38 ≤ f .opcode → frameOf f ≡ none
 unfolding frameOf frameTable allOf

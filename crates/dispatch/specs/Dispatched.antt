@@ -7,16 +7,17 @@ use mathlib.Core.List.{List}
 use Prim.Native.Nat.{ℕ, _≤_, _<_}
 use lib.ListN.{length}
 use denote.Ref.{RefT, now}
-use Rattle.rules.specs.Frames.{Frame}
+use Rattle.rules.specs.Frames.{Frame, write}
 use Rattle.scopes.specs.declared.Numbers.{Numbers}
 use Rattle.scopes.specs.declared.Scopes.{Scopes}
 use Rattle.scopes.specs.Lent.{made}
 use Rattle.handles.specs.NeedTable.{table}
 use Rattle.text.specs.Lines.{frameOf}
 use Rattle.text.specs.declared.lines.Frame.{Frame as Code}
-use Rattle.frames.specs.Steps.{LentArray, onNames, onCells, numberedIn, allotsIn, allotsOut, Works, Leads, Stays, LeadsAllots}
+use Rattle.frames.specs.Steps.{LentArray, sourceOf, onNames, onCells, numberedIn, allotsIn, allotsOut, Works, Leads, Stays, LeadsAllots}
 use Rattle.frames.specs.Needing.{StandsWith, WorksWith, Makes, FreesBeside, tableIn, tableOut}
 use Rattle.frames.specs.declared.needing.Noted.{Noted}
+use Rattle.frames.specs.declared.steps.Source.{Source}
 use Rattle.frames.specs.declared.steps.Adds.{Adds}
 use Rattle.frames.specs.declared.steps.Stepped.{Stepped}
 use Rattle.dispatch.specs.declared.beside.Advance.{Advance}
@@ -24,6 +25,13 @@ use Rattle.dispatch.specs.declared.beside.Advance.{Advance}
 -- an opcode of a frame that doesn't look at needs
 abbrev pub PlainCode : ℕ → Type 0
 PlainCode o = ((o < 12) ⊎ (15 ≤ o)) × (o < 32)
+
+-- 10 or 14, and what the frame writes
+abbrev pub WriteCode : ℕ → Type 0
+WriteCode o = (o ≡ 0x10) ⊎ (o ≡ 0x14)
+
+abbrev pub Writes : Code → Source → Type 0
+Writes f x = frameOf f ≡ some (write (f .a) (sourceOf x))
 
 -- the state that the lent arrays are, as they came in and as they are left
 abbrev pub wholeIn : (halves links owner : LentArray ℕ) (live dangled : LentArray Bool) (parent number bindings : LentArray ℕ) → Numbers → Scopes
@@ -72,7 +80,7 @@ NameStep f live parent bindings n handles handed r =
     (g : Frame) → frameOf f ≡ some g → (s : Scopes) (holders : List ℕ)
     → Leads g (f .opcode) (onNames s (now (live .entry)) (now (parent .entry)) (now (bindings .entry)) n) (onNames s (now (live .entry)) (now (parent .entry)) (now (bindings .exit)) (r .numbers)) (now (handles .entry)) holders handed r (now (handles .entry)) holders
 
--- 10 to 12
+-- 10 to 12, and 14
 abbrev pub CellStep : Code → LentArray ℕ → LentArray Bool → (parent bindings : LentArray ℕ) → Numbers → (handles holders : LentArray ℕ) → ℕ → Adds → Type 0
 CellStep f halves live parent bindings n handles holders handed adds =
     (g : Frame) → frameOf f ≡ some g → (s : Scopes)

@@ -11,7 +11,7 @@ use plain::plain_step;
 use scopes::Numbers;
 use text::lines::Frame;
 
-pub mod plain; // 01 to 0b, 0f to 12
+pub mod plain; // 01 to 0b, 0f to 12, 14
 pub mod beside; // 0c to 0e, 20 to 25
 
 // 0c to 0e: frees or forgets a handle.

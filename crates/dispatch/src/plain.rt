@@ -5,12 +5,14 @@ ghost use Prim.Native.Nat.{ℕ, _≤_, _<_};
 ghost use lib.ListN.{length};
 ghost use Rattle.scopes.specs.Lent.{made, Whole};
 ghost use Rattle.frames.specs.Steps.{onNames, onCells, Stands, StandsAllots};
-ghost use Rattle.dispatch.specs.Dispatched.{PlainCode, ScopeStep, AllotStep, NameStep, CellStep, PlainOn};
+ghost use Rattle.rules.specs.Tells.{Tells};
+ghost use Rattle.dispatch.specs.Dispatched.{PlainCode, WriteCode, Writes, ScopeStep, AllotStep, NameStep, CellStep, PlainOn};
 use frames::allots;
 use frames::cells;
 use frames::named;
 use frames::scoped;
 use frames::steps::Adds;
+use frames::steps::Source;
 use frames::steps::Stepped;
 use frames::steps::refused;
 use scopes::HandleNumber;
@@ -143,7 +145,27 @@ fn name_step<'a>(
     named::take(live, parent, bindings, n, handed, f.a)
 }
 
-// 10 to 12.
+fn is_write(op: u8) -> bool
+    ensures { λ r. ⌜ Tells r (WriteCode op) ⌝ }
+{
+    if op == 0x10 {
+        return true;
+    }
+    op == 0x14
+}
+
+// 10 has the value in the frame; 14 takes the next sample.
+fn source_of(f: Frame) -> Source
+    requires { ⌜ WriteCode (f .opcode) ⌝ }
+    ensures { λ r. ⌜ Writes f r ⌝ }
+{
+    if f.opcode == 0x10 {
+        return Source::Constant(f.b);
+    }
+    Source::NextSample
+}
+
+// 10 to 12, and 14.
 fn cell_step<'a>(
     halves: &[u64; 16],
     live: &'a [bool; 64],
@@ -159,8 +181,9 @@ fn cell_step<'a>(
     ensures { λ r. ⌜ CellStep f halves live parent bindings n handles holders handed r ⌝ }
 {
     let op = f.opcode;
-    if op == 0x10 {
-        return cells::write(halves, handles, holders, handed, HandleNumber(f.a), f.b);
+    if is_write(op) {
+        let x = source_of(f);
+        return cells::write(halves, handles, holders, handed, HandleNumber(f.a), x);
     }
     if op == 0x11 {
         return cells::read(halves, handles, holders, handed, HandleNumber(f.a));
@@ -181,7 +204,7 @@ fn cell_step<'a>(
     Adds::Refused(1)
 }
 
-// 01 to 0b and 0f to 12: the frames that don't look at needs. `drained` gets the addresses of a drain.
+// 01 to 0b, 0f to 12 and 14: the frames that don't look at needs. `drained` gets the addresses of a drain.
 pub fn plain_step(
     halves: &mut [u64; 16],
     links: &mut [u16; 2178],

@@ -1,4 +1,4 @@
--- A step beside needs: what is done over the scopes and the handles alone, then what becomes of the needs. 01 to 0b and 0f to 12, and 0c, 0d, 0e of
+-- A step beside needs: what is done over the scopes and the handles alone, then what becomes of the needs. 01 to 0b, 0f to 12 and 14, and 0c, 0d, 0e of
 -- a handle that belongs to no need, leave them. Assumes nothing.
 use mathlib.Core.Path.{_≡_, refl, sym, ap, subst, _∙_}
 use mathlib.Core.Bool.{Bool, true, false}
@@ -82,7 +82,7 @@ module _ (s : Scopes) (handles holders : List ℕ) (handed : ℕ) (t : Needing) 
       (record { does = w .does; whole = w .whole; few = w .few; handles-length = w .handles-length; holders-length = w .holders-length })
       t (λ _. refl) (stands .needs-length) (stands .remembers-length)
 
-  -- 01 to 0b, 0f to 12
+  -- 01 to 0b, 0f to 12, 14
   pub plain-works : (f : Frame) (o : ℕ) (r : Reached) (handles′ holders′ drained : List ℕ) → plain f ≡ true
       → Works f o s handles holders handed r handles′ holders′ drained → WorksWith f o s handles holders handed t r handles′ holders′ t drained
   plain-works f o r handles′ holders′ drained p w = left f o r handles′ holders′ drained (apart needs (t .needed) base (edition1 (base .segments)) bare f p) w

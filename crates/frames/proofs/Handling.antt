@@ -13,7 +13,7 @@ use Rattle.rules.specs.Sizes.{base}
 use Rattle.rules.specs.Slots.{edition1}
 use Rattle.rules.specs.Scopes as rule
 use Rattle.rules.specs.Needs.{Kind, Address, address, freed, allocatedKind, isFreed}
-use Rattle.rules.specs.Frames.{noNeed, State, Handle, kind≔, written≔, Frame, define, forget, write, read, shows, stores, loads, oneLine, unknown, spent, belongs, barred, setHandle, step}
+use Rattle.rules.specs.Frames.{noNeed, State, Handle, kind≔, written≔, Frame, define, forget, Source, write, read, shows, stores, loads, oneLine, unknown, spent, belongs, barred, setHandle, step}
 use Rattle.rules.proofs.Chains.{when-true, when-false}
 use Rattle.rules.proofs.Tells.{or-second}
 use Rattle.slots.specs.Halves.{occ}
@@ -21,8 +21,9 @@ use Rattle.scopes.specs.View.{view}
 use Rattle.scopes.specs.declared.Scopes.{Scopes}
 use Rattle.needs.specs.Kinds.{kindOf, addressOf}
 use Rattle.handles.specs.Handles.{slotIn, kindIn, handleAt, stateOf, Coded, freedAs}
-use Rattle.frames.specs.Steps.{stepped, loading, LoadsOf, Stands, Works}
+use Rattle.frames.specs.Steps.{sourceOf, stepped, loading, LoadsOf, Stands, Works}
 use Rattle.handles.specs.declared.Handle.{Handle as Known}
+use Rattle.frames.specs.declared.steps.Source.{Source as Kept}
 use Rattle.frames.specs.declared.steps.Adds.the-variants.{Nothing, Store, Load}
 use Rattle.handles.proofs.Changes.{recoding}
 
@@ -134,14 +135,14 @@ module _ (s : Scopes) (handles holders : List ℕ) (handed : ℕ) (stands : Stan
 
   -- ---- written
 
-  module _ (v b : ℕ) (y : Known) (new : Coded b y) (is : addressOf (y .address) ≡ address slot (allocatedKind (kindOf (x .address .kind)))) (written : y .written ≡ true) (l : h < handed) (known : h < length handles)
+  module _ (o : ℕ) (v : Kept) (b : ℕ) (y : Known) (new : Coded b y) (is : addressOf (y .address) ≡ address slot (allocatedKind (kindOf (x .address .kind)))) (written : y .written ≡ true) (l : h < handed) (known : h < length handles)
       (held : standing .handles h .held ≡ true) where
-    pub write-works : (drained : List ℕ) → Works (write h v) 0x10 s handles holders handed (record { state = s; handed = handed; adds = Store (x .address .slot) v }) (set handles h b) holders drained
+    pub write-works : (drained : List ℕ) → Works (write h (sourceOf v)) o s handles holders handed (record { state = s; handed = handed; adds = Store (x .address .slot) v }) (set handles h b) holders drained
     unfolding step
     write-works drained = record {
       does =
           when-false 13 _ (is-known standing h l) ∙ when-false 14 _ (ap not held)
-          ∙ λ t. oneLine (stores (coded .slot t) v) (set-changed b y new (ap (λ (a : Address). a .slot) is) known (allocatedKind (standing .handles h .kind)) true
+          ∙ λ t. oneLine (stores (coded .slot t) (sourceOf v)) (set-changed b y new (ap (λ (a : Address). a .slot) is) known (allocatedKind (standing .handles h .kind)) true
           (ap (λ (a : Address). a .kind) is ∙ ap allocatedKind (sym (coded .kind))) written t);
       whole = stands .whole;
       few = tt;
@@ -149,7 +150,7 @@ module _ (s : Scopes) (handles holders : List ℕ) (handed : ℕ) (stands : Stan
       holders-length = stands .holders-length;
     }
 
-  pub write-14 : (v : ℕ) → h < handed → standing .handles h .held ≡ false → step base (edition1 (base .segments)) standing (write h v) ≡ refused 14
+  pub write-14 : (v : Source) → h < handed → standing .handles h .held ≡ false → step base (edition1 (base .segments)) standing (write h v) ≡ refused 14
   unfolding step
   write-14 v l e = when-false 13 _ (is-known standing h l) ∙ when-true 14 _ (ap not e)
 
@@ -178,7 +179,7 @@ module _ (t : State) (h : ℕ) (l : t .handed ≤ h) where
   unfolding step
   forget-unknown = when-true 13 _ (barred-spent t h (spent-unknown t h l))
 
-  pub write-unknown : (v : ℕ) → step base (edition1 (base .segments)) t (write h v) ≡ refused 13
+  pub write-unknown : (v : Source) → step base (edition1 (base .segments)) t (write h v) ≡ refused 13
   unfolding step
   write-unknown v = when-true 13 _ (is-unknown t h l)
 

@@ -27,16 +27,22 @@ use Rattle.needs.specs.Kinds.{kindOf}
 use Rattle.needs.specs.declared.AddressKind.{AddressKind}
 use Rattle.handles.specs.Handles.{kindIn, stateOf, Coded, Hands}
 use Rattle.handles.specs.declared.Handle.{Handle}
+use Rattle.frames.specs.declared.steps.Source.{Source}
+use Rattle.frames.specs.declared.steps.Source.the-variants.{Constant, NextSample}
 use Rattle.frames.specs.declared.steps.Adds.{Adds}
 use Rattle.frames.specs.declared.steps.Adds.the-variants.{Nothing, One, Store, Load, Drained, Refused}
 use Rattle.frames.specs.declared.steps.Stepped.{Stepped}
 
 -- ---- what a step adds to the list, of opcode o; a drain's addresses are the first of `drained`
 
+abbrev pub sourceOf : Source → rules.Source
+sourceOf (Constant v) = rules.constant v
+sourceOf NextSample = rules.nextSample
+
 abbrev pub stepped : ℕ → Adds → rules.State → List ℕ → rules.Step
 stepped o Nothing t drained = oneLine (shows o []) t
 stepped o (One a) t drained = oneLine (shows o (a ∷ [])) t
-stepped o (Store a v) t drained = oneLine (stores (a .0) v) t
+stepped o (Store a x) t drained = oneLine (stores (a .0) (sourceOf x)) t
 stepped o (Load a) t drained = oneLine (loads o (a .0)) t
 stepped o (Drained n) t drained = oneLine (shows 0x0f (n ∷ take n drained)) t
 stepped o (Refused n) t drained = refused n
@@ -71,7 +77,7 @@ handleOr (reply.Refused n) = 65535
 abbrev pub isRefused : Adds → Bool
 isRefused Nothing = false
 isRefused (One a) = false
-isRefused (Store a v) = false
+isRefused (Store a x) = false
 isRefused (Load a) = false
 isRefused (Drained n) = false
 isRefused (Refused n) = true
@@ -80,7 +86,7 @@ isRefused (Refused n) = true
 abbrev pub Few : Adds → Type 0
 Few Nothing = Unit {0}
 Few (One a) = Unit {0}
-Few (Store a v) = Unit {0}
+Few (Store a x) = Unit {0}
 Few (Load a) = Unit {0}
 Few (Drained n) = n ≤ 1024
 Few (Refused n) = Unit {0}

@@ -1,9 +1,10 @@
-// 10 write, 11 read, 12 read name: frames that leave the state alone.
+// 10 and 14 write, 11 read, 12 read name: frames that leave the state alone.
 ghost use mathlib.Core.Path.{_≡_};
 ghost use Prim.Native.Nat.{ℕ, _<_};
 ghost use Rattle.rules.specs.Frames as frame;
-ghost use Rattle.frames.specs.Steps.{handleOr, onHalves, onCells, Stands, Stays, LoadsOf};
+ghost use Rattle.frames.specs.Steps.{handleOr, sourceOf, onHalves, onCells, Stands, Stays, LoadsOf};
 use crate::steps::Adds;
+use crate::steps::Source;
 use crate::steps::adds_of;
 use handles::Handle;
 use handles::is_held;
@@ -23,17 +24,17 @@ pub fn write(
     holders: &[u16; 1024],
     handed: usize,
     h: HandleNumber,
-    v: u16,
+    x: Source,
 ) -> Adds
     requires { ⌜ ((s : Scopes) × Stands (onHalves s (now halves)) (now handles) (now holders) handed) ⌝ }
-    ensures { λ r. ⌜ ((s : Scopes) → Stays (frame.write (h .0) v) 0x10 (onHalves s (now (halves .entry))) (now (handles .entry)) (now (holders .entry)) handed r (now (handles .exit))) ⌝ }
+    ensures { λ r. ⌜ ((o : ℕ) (s : Scopes) → Stays (frame.write (h .0) (sourceOf x)) o (onHalves s (now (halves .entry))) (now (handles .entry)) (now (holders .entry)) handed r (now (handles .exit))) ⌝ }
 {
     let i = h.0 as usize;
     if handed <= i {
         return Adds::Refused(13);
     }
-    let x = unpacked(handles[i]);
-    let address = x.address;
+    let known = unpacked(handles[i]);
+    let address = known.address;
     let slot = address.slot;
     let a = slot.0 as usize;
     let holder = holders[a];
@@ -44,7 +45,7 @@ pub fn write(
         address: allocated(address),
         written: true,
     });
-    Adds::Store(slot, v)
+    Adds::Store(slot, x)
 }
 
 // The load of handle h, which is known: 14, 15.

@@ -4,6 +4,6 @@ pub mod scoped; // 01 to 05
 pub mod allots; // 06 to 08
 pub mod named; // 09 to 0b
 pub mod frees; // 0c to 0e
-pub mod cells; // 10 to 12
+pub mod cells; // 10 to 12, 14
 pub mod needing; // 20, 21, 22, 24
 pub mod owned; // 23, 25, and 0c to 0e beside needs

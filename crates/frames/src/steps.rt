@@ -9,11 +9,17 @@ use scopes::Scopes;
 use scopes::open;
 use slots::SlotAddress;
 
+// What a write stores: 10 has it in the frame, 14 takes the next sample.
+pub enum Source {
+    Constant(u16),
+    NextSample,
+}
+
 // What a frame's line has besides its opcode; or the number of a refusal.
 pub enum Adds {
     Nothing,
     One(u16),
-    Store(SlotAddress, u16),
+    Store(SlotAddress, Source),
     Load(SlotAddress),
     Drained(usize), // the count; the addresses stand in the table of drained slots
     Refused(u8),

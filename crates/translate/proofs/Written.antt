@@ -11,8 +11,9 @@ use Rattle.rules.proofs.Lengths.{line-length}
 use Rattle.rules.proofs.Pages.{linesLength}
 use Rattle.text.specs.Writing.{over}
 use Rattle.text.proofs.Over.{over-nothing}
-use Rattle.frames.specs.Steps.{Few}
+use Rattle.frames.specs.Steps.{sourceOf, Few}
 use Rattle.translate.specs.Whole.{linesOf, linesText}
+use Rattle.frames.specs.declared.steps.Source.{Source}
 use Rattle.frames.specs.declared.steps.Adds.{Adds}
 use Rattle.frames.specs.declared.steps.Adds.the-variants.{Drained, Refused}
 
@@ -40,10 +41,6 @@ pub alone : (l : Line) → linesText (l ∷ []) ≡ lineText l
 unfolding linesText
 alone l = append-nil (lineText l)
 
-pub stored : (a v : ℕ) → linesText (stores a v ∷ []) ≡ lineText (shows 0x10 (a ∷ v ∷ []))
-unfolding lineText
-stored a v = alone (stores a v)
-
 pub loaded : (o a : ℕ) → linesText (loads o a ∷ []) ≡ lineText (shows o (a ∷ []))
 unfolding lineText
 loaded o a = alone (loads o a)
@@ -52,29 +49,51 @@ loaded o a = alone (loads o a)
 abbrev pub Put : ℕ → Adds → List ℕ → List ℕ → ℕ → ℕ → List ℕ → Type 0
 Put o adds drained page w w′ page′ = (w′ ≡ w + length (linesText (linesOf o adds drained))) × (page′ ≡ over page w (linesText (linesOf o adds drained)))
 
--- a line of at most two operands
+-- a text that is a line of at most two operands
+module _ (t : List ℕ) (op n a b : ℕ) (q : t ≡ lineText (shows op (take n (a ∷ b ∷ [])))) (few : n ≤ 2) where
+  short : length t ≡ 3 + 4 * n
+  short = ap length q ∙ line-length (shows op (take n (a ∷ b ∷ []))) ∙ omega (arith, length-take-le n (a ∷ b ∷ []) few)
+
+  text-room : (w m : ℕ) → w + length t ≤ m → (n ≤ 2) × (w + 3 + 4 * n ≤ m)
+  text-room w m h = (few, omega (arith, short))
+
+  text-put : (page : List ℕ) (w w′ : ℕ) (page′ : List ℕ) → w′ ≡ w + 3 + 4 * n → page′ ≡ over page w (lineText (shows op (take n (a ∷ b ∷ [])))) → (w′ ≡ w + length t) × (page′ ≡ over page w t)
+  text-put page w w′ page′ h k = (omega (arith, short), k ∙ ap (over page w) (sym q))
+
+-- a write's line
+module _ {x y : Source} (e : x ≡ y) (op n a b : ℕ) (q : lineText (stores a (sourceOf y)) ≡ lineText (shows op (take n (a ∷ b ∷ [])))) (few : n ≤ 2) where
+  abbrev write : List ℕ
+  write = lineText (stores a (sourceOf x))
+
+  as-shown : write ≡ lineText (shows op (take n (a ∷ b ∷ [])))
+  as-shown = ap (λ (z : Source). lineText (stores a (sourceOf z))) e ∙ q
+
+  pub write-room : (w m : ℕ) → w + length write ≤ m → (n ≤ 2) × (w + 3 + 4 * n ≤ m)
+  write-room = text-room write op n a b as-shown few
+
+  pub write-put : (page : List ℕ) (w w′ : ℕ) (page′ : List ℕ) → w′ ≡ w + 3 + 4 * n → page′ ≡ over page w (lineText (shows op (take n (a ∷ b ∷ [])))) → (w′ ≡ w + length write) × (page′ ≡ over page w write)
+  write-put = text-put write op n a b as-shown few
+
+-- a frame's line of at most two operands
 module _ {adds y : Adds} (o : ℕ) (drained : List ℕ) (e : adds ≡ y) (op n a b : ℕ) (q : linesText (linesOf o y drained) ≡ lineText (shows op (take n (a ∷ b ∷ [])))) (few : n ≤ 2) where
   same : linesText (linesOf o adds drained) ≡ lineText (shows op (take n (a ∷ b ∷ [])))
   same = ap (λ (x : Adds). linesText (linesOf o x drained)) e ∙ q
 
-  short : length (linesText (linesOf o adds drained)) ≡ 3 + 4 * n
-  short = ap length same ∙ line-length (shows op (take n (a ∷ b ∷ []))) ∙ omega (arith, length-take-le n (a ∷ b ∷ []) few)
-
   pub short-room : (w m : ℕ) → w + length (linesText (linesOf o adds drained)) ≤ m → (n ≤ 2) × (w + 3 + 4 * n ≤ m)
-  short-room w m h = (few, omega (arith, short))
+  short-room = text-room (linesText (linesOf o adds drained)) op n a b same few
 
   pub short-put : (page : List ℕ) (w w′ : ℕ) (page′ : List ℕ) → w′ ≡ w + 3 + 4 * n → page′ ≡ over page w (lineText (shows op (take n (a ∷ b ∷ [])))) → Put o adds drained page w w′ page′
-  short-put page w w′ page′ h k = (omega (arith, short), k ∙ ap (over page w) (sym same))
+  short-put = text-put (linesText (linesOf o adds drained)) op n a b same few
 
 -- a line of any operands
 module _ {adds y : Adds} (o : ℕ) (drained : List ℕ) (e : adds ≡ y) (l : Line) (q : linesOf o y drained ≡ l ∷ []) where
   line : linesText (linesOf o adds drained) ≡ lineText l
   line = ap (λ (x : Adds). linesText (linesOf o x drained)) e ∙ ap linesText q ∙ alone l
 
-  line-room : (w m : ℕ) → w + length (linesText (linesOf o adds drained)) ≤ m → w + length (lineText l) ≤ m
+  pub line-room : (w m : ℕ) → w + length (linesText (linesOf o adds drained)) ≤ m → w + length (lineText l) ≤ m
   line-room w m h = omega (arith, ap length line)
 
-  line-put : (page : List ℕ) (w w′ : ℕ) (page′ : List ℕ) → w′ ≡ w + length (lineText l) → page′ ≡ over page w (lineText l) → Put o adds drained page w w′ page′
+  pub line-put : (page : List ℕ) (w w′ : ℕ) (page′ : List ℕ) → w′ ≡ w + length (lineText l) → page′ ≡ over page w (lineText l) → Put o adds drained page w w′ page′
   line-put page w w′ page′ h k = (omega (arith, ap length line), k ∙ ap (over page w) (sym line))
 
 -- a refusal writes nothing

@@ -12,6 +12,7 @@ use Rattle.text.specs.Shapes.{frame}
 use Rattle.text.specs.declared.lines.Frame.{Frame}
 use Rattle.text.specs.declared.lines.Reading.{Reading}
 use Rattle.text.specs.declared.lines.Reading.the-variants as reading
+use Rattle.frames.specs.Steps.{sourceOf}
 use Rattle.frames.specs.declared.steps.Adds.{Adds}
 use Rattle.frames.specs.declared.steps.Adds.the-variants.{Nothing, One, Store, Load, Drained, Refused}
 use Rattle.translate.specs.declared.whole.Onward.{Onward}
@@ -36,7 +37,7 @@ frameIn (reading.One f) = f
 abbrev pub linesOf : ℕ → Adds → List ℕ → List Line
 linesOf o Nothing drained = shows o [] ∷ []
 linesOf o (One a) drained = shows o (a ∷ []) ∷ []
-linesOf o (Store a v) drained = stores (a .0) v ∷ []
+linesOf o (Store a x) drained = stores (a .0) (sourceOf x) ∷ []
 linesOf o (Load a) drained = loads o (a .0) ∷ []
 linesOf o (Drained n) drained = shows 0x0f (n ∷ take n drained) ∷ []
 linesOf o (Refused n) drained = []
@@ -48,7 +49,7 @@ linesText (l ∷ ls) = lineText l ++ linesText ls
 abbrev pub onwardOf : Adds → Onward
 onwardOf Nothing = onward.Go
 onwardOf (One a) = onward.Go
-onwardOf (Store a v) = onward.Go
+onwardOf (Store a x) = onward.Go
 onwardOf (Load a) = onward.Go
 onwardOf (Drained n) = onward.Go
 onwardOf (Refused n) = onward.Stop n

@@ -4,12 +4,15 @@ ghost use Prim.Native.Nat.{_+_, _≤_};
 ghost use lib.ListN.{length};
 ghost use Rattle.rules.specs.Sizes.{base};
 ghost use Rattle.rules.specs.Slots.{edition1};
+ghost use Rattle.rules.specs.Frames.{stores};
+ghost use Rattle.rules.specs.Text.{lineText};
 ghost use Rattle.rules.specs.Entries.{translated};
 ghost use Rattle.text.specs.Writing.{over};
-ghost use Rattle.frames.specs.Steps.{Few};
+ghost use Rattle.frames.specs.Steps.{Few, sourceOf};
 ghost use Rattle.translate.specs.Whole.{frameIn, linesOf, linesText, onwardOf, Read, Ends};
 use dispatch::step;
 use frames::steps::Adds;
+use frames::steps::Source;
 use text::lines::Frame;
 use text::lines::Reading;
 use text::lines::frame_at;
@@ -55,6 +58,18 @@ fn onward_of(adds: Adds) -> Onward
     }
 }
 
+// A write's line at w of the page: 10 shows its value, 14 the address alone.
+fn put_store(page: &mut [u8], w: usize, a: u16, x: Source) -> usize
+    requires { ⌜ w + length (lineText (stores a (sourceOf x))) ≤ length (now page) ⌝ }
+    ensures { λ r. ⌜ r ≡ w + length (lineText (stores a (sourceOf x))) ⌝ }
+    ensures { λ _. ⌜ now (page .exit) ≡ over (now (page .entry)) w (lineText (stores a (sourceOf x))) ⌝ }
+{
+    match x {
+        Source::Constant(v) => put_line(page, w, 0x10, 2, a, v),
+        Source::NextSample => put_line(page, w, 0x14, 1, a, 0),
+    }
+}
+
 // The line of a frame at w of the page.
 fn put_adds(page: &mut [u8], w: usize, opcode: u8, adds: Adds, drained: &[u16]) -> usize
     requires { ⌜ Few adds × (length (now drained) ≡ 1024) × (w + length (linesText (linesOf opcode adds (now drained))) ≤ length (now page)) ⌝ }
@@ -64,7 +79,7 @@ fn put_adds(page: &mut [u8], w: usize, opcode: u8, adds: Adds, drained: &[u16]) 
     match adds {
         Adds::Nothing => put_line(page, w, opcode, 0, 0, 0),
         Adds::One(a) => put_line(page, w, opcode, 1, a, 0),
-        Adds::Store(a, v) => put_line(page, w, 0x10, 2, a.0, v),
+        Adds::Store(a, x) => put_store(page, w, a.0, x),
         Adds::Load(a) => put_line(page, w, opcode, 1, a.0, 0),
         Adds::Drained(n) => put_drain(page, w, drained, n as u16),
         Adds::Refused(_) => w,

@@ -1,4 +1,4 @@
--- 10 write. Assumes nothing.
+-- 10 and 14 write. Assumes nothing.
 use native.Mathlib.Omega.{arith}
 use mathlib.Core.Path.{refl, sym, ap, subst, _∙_}
 use borrow.Author.Tests.{not-true, not-false}
@@ -8,6 +8,7 @@ use Prim.Native.Nat.{ℕ, _<_}
 use Rattle.rules.specs.Needs.{Address}
 use Rattle.frames.proofs.Allocations.{works-refused}
 use Rattle.frames.proofs.Handling.{write-unknown, write-14, write-works, held-is, slot-low}
+use Rattle.frames.specs.Steps.{sourceOf}
 use borrow.Author.Needs.{needs}
 use Rattle.frames.proofs.cells.write.Statement.{statement}
 use Rattle.frames.proofs.cells.write.Tie as tie
@@ -19,7 +20,7 @@ cast-i : tie.Need-cast-i
 cast-i c = search needs
 
 returns : tie.Need-returns
-returns c = λ s stands. let a = c .before .before .args in works-refused _ _ _ _ stands (frame.write (a .h .0) (a .v)) 0x10 13 _ refl (write-unknown _ (a .h .0) (c .if1 .taken) (a .v))
+returns c = λ o s stands. let a = c .before .before .args in works-refused _ _ _ _ stands (frame.write (a .h .0) (sourceOf (a .x))) o 13 _ refl (write-unknown _ (a .h .0) (c .if1 .taken) (sourceOf (a .x)))
 
 mul-unpacked : tie.Need-mul-unpacked
 mul-unpacked c = search needs
@@ -44,11 +45,11 @@ is-held-requires : tie.Need-is-held-requires
 is-held-requires c κs = search needs
 
 returns-2 : tie.Need-returns-2
-returns-2 c = λ s stands.
+returns-2 c = λ o s stands.
     let st = start (c .before) in
     let k = c .before .before .before .before .before .before in
-    works-refused _ _ _ _ stands (frame.write (st .args .h .0) (st .args .v)) 0x10 14 _ refl
-    (write-14 _ _ _ _ stands (st .args .h .0) (k .unpacked .result) (k .unpacked .ensures) (st .args .v) (k .before .before .if1 .left)
+    works-refused _ _ _ _ stands (frame.write (st .args .h .0) (sourceOf (st .args .x))) o 14 _ refl
+    (write-14 _ _ _ _ stands (st .args .h .0) (k .unpacked .result) (k .unpacked .ensures) (sourceOf (st .args .x)) (k .before .before .if1 .left)
     (held-is _ _ _ _ stands (st .args .h .0) (k .unpacked .result) (k .unpacked .ensures) _ (c .before .is-held .result) refl (c .before .is-held .ensures) ∙ not-true _ (c .if2 .taken)))
 
 allocated-requires : tie.Need-allocated-requires
@@ -69,10 +70,10 @@ element-write-handles c = omega (arith, start (c .before .before .before) .pre .
 
 returns-3 : tie.Need-returns-3
 unfolding base
-returns-3 c = λ s stands.
+returns-3 c = λ o s stands.
     let st = start (c .before .before .before) in
     let k = c .before .before .before .before .before .before .before .before in
-    write-works _ _ _ _ stands (st .args .h .0) (k .unpacked .result) (k .unpacked .ensures) (st .args .v) (c .packed .result) _ (c .packed .ensures) (c .before .allocated .ensures) refl (k .before .before .if1 .left)
+    write-works _ _ _ _ stands (st .args .h .0) (k .unpacked .result) (k .unpacked .ensures) o (st .args .x) (c .packed .result) _ (c .packed .ensures) (c .before .allocated .ensures) refl (k .before .before .if1 .left)
     (omega (arith, stands .state .handles .few, stands .handles-length))
     (held-is _ _ _ _ stands (st .args .h .0) (k .unpacked .result) (k .unpacked .ensures) _ (c .before .before .before .is-held .result) refl (c .before .before .before .is-held .ensures) ∙ not-false _ (c .before .before .if2 .left))
 

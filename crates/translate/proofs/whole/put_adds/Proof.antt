@@ -1,6 +1,7 @@
 -- `put_adds` meets its contract. Assumes nothing.
+use mathlib.Core.Path.{refl}
 use native.Mathlib.Omega.{arith}
-use Rattle.translate.proofs.Written.{alone, stored, loaded, short-room, short-put, none-put, few, drain-room, drain-put}
+use Rattle.translate.proofs.Written.{alone, loaded, short-room, short-put, line-room, line-put, none-put, few, drain-room, drain-put}
 use borrow.Author.Needs.{needs}
 use Rattle.translate.proofs.whole.put_adds.Statement.{statement}
 use Rattle.translate.proofs.whole.put_adds.Tie as tie
@@ -24,16 +25,16 @@ put-line-requires-2 c κs =
 enum-known-adds-2 : tie.Need-enum-known-adds-2
 enum-known-adds-2 c = search needs
 
-put-line-requires-3 : tie.Need-put-line-requires-3
-put-line-requires-3 c κs =
+put-store-requires : tie.Need-put-store-requires
+put-store-requires c κs =
     let a = c .before .before .before .before .before .before in
-    short-room (a .args .opcode) (a .args .drained .now) (c .before .before .adds2 .given .1) 16 2 _ _ (stored _ _) (omega arith) _ _ (a .pre .2)
+    line-room (a .args .opcode) (a .args .drained .now) (c .before .before .adds2 .given .1) _ refl _ _ (a .pre .2)
 
 enum-known-adds-3 : tie.Need-enum-known-adds-3
 enum-known-adds-3 c = search needs
 
-put-line-requires-4 : tie.Need-put-line-requires-4
-put-line-requires-4 c κs =
+put-line-requires-3 : tie.Need-put-line-requires-3
+put-line-requires-3 c κs =
     let a = c .before .before .before .before .before .before in
     short-room (a .args .opcode) (a .args .drained .now) (c .before .before .adds3 .given .1) (a .args .opcode) 1 _ 0 (loaded _ _) (omega arith) _ _ (a .pre .2)
 
@@ -78,7 +79,7 @@ returns-3 : tie.Need-returns-3
 returns-3 c =
     let a = c .before .before .before .before .before .before .before .before .before in
     let r = c .before .before in
-    short-put (a .args .opcode) (a .args .drained .now) (c .before .before .before .before .before .adds2 .given .1) 16 2 _ _ (stored _ _) (omega arith) (a .args .page .now) _ _ _ (r .put-line3 .ensures .0) (r .put-line3 .ensures .1)
+    line-put (a .args .opcode) (a .args .drained .now) (c .before .before .before .before .before .adds2 .given .1) _ refl (a .args .page .now) _ _ _ (r .put-store .ensures .0) (r .put-store .ensures .1)
 
 same-length-4 : tie.Need-same-length-4
 same-length-4 c = search needs
@@ -87,7 +88,7 @@ returns-4 : tie.Need-returns-4
 returns-4 c =
     let a = c .before .before .before .before .before .before .before .before .before in
     let r = c .before .before in
-    short-put (a .args .opcode) (a .args .drained .now) (c .before .before .before .before .before .adds3 .given .1) (a .args .opcode) 1 _ 0 (loaded _ _) (omega arith) (a .args .page .now) _ _ _ (r .put-line4 .ensures .0) (r .put-line4 .ensures .1)
+    short-put (a .args .opcode) (a .args .drained .now) (c .before .before .before .before .before .adds3 .given .1) (a .args .opcode) 1 _ 0 (loaded _ _) (omega arith) (a .args .page .now) _ _ _ (r .put-line3 .ensures .0) (r .put-line3 .ensures .1)
 
 same-length-5 : tie.Need-same-length-5
 same-length-5 c = search needs
@@ -112,9 +113,9 @@ put-adds-spec =
     enum-known-adds
     put-line-requires-2
     enum-known-adds-2
-    put-line-requires-3
+    put-store-requires
     enum-known-adds-3
-    put-line-requires-4
+    put-line-requires-3
     enum-known-adds-4
     cast-put-drain
     put-drain-requires
