@@ -1,30 +1,12 @@
 -- Cells as two bytes, high first, and an odd last byte. Assumes nothing.
-use mathlib.Core.Path.{_≡_, refl, sym, ap, subst, _∙_}
-use mathlib.Core.Bool.{Bool, true, false, true≢false}
-use mathlib.Core.Option.{Option, none, some}
-use mathlib.Core.List.{List, [], _∷_, _++_, map}
+use mathlib.Core.Path.{_≡_, refl, ap}
+use mathlib.Core.List.{List, [], _∷_, _++_}
 use Prim.Native.Nat.{ℕ, zero, suc, _+_, _*_, _/_, _%_, _≤_, _<_}
 use native.Mathlib.Omega.{arith}
-use native.Mathlib.Numerals.{add-one}
-use lib.Dec.{eqb, leb, ltb}
-use lib.ListN.{length, getD, set, drop, replicate, length-append, length-set, length-replicate}
-use borrow.Author.Tests.{eqb-true, leb-false, leb-true, lt-leb, le-leb, ltb-true, ltb-false, lt-ltb, le-ltb}
-use Rattle.rules.specs.Notation.{if_then_else_}
-use Rattle.rules.specs.Sizes.{Room}
-use Rattle.rules.specs.Frames.{Line, stores, loads, shows}
-use Rattle.rules.specs.Meaning.{obey, high}
-use Rattle.rules.specs.Text.{hex2, hex4, Split, split, lineOf, lineTable, sizeTable, Listed, listed, unlisted, lineBefore, sizeOr, listFrom}
-use Rattle.rules.specs.Entries.{ran, stopped, runListed, ranOn, loadText, loadsText, cellsOf, oddByte, bytesOf, runLeft, runEntry}
-use Rattle.text.specs.Shapes.{pick}
-use Rattle.text.specs.Lines.{lineReading, lined, sizedOr}
-use Rattle.text.specs.Whole.{ofListed, listChecked}
-use Rattle.text.specs.declared.whole.Checked.the-variants.{Good, Refused}
-use Rattle.text.proofs.Told.{isLoad, isPlain, told, told-line}
-use Rattle.machine.specs.Machine.{entryOf, entryAt, entries, surveyOf, cellAt, obeyCells, obeyText, refusal, zeroed, done, roomOf, surveyLeft, Bytes}
-use Rattle.machine.specs.declared.entries.Entry.{Entry}
-use Rattle.machine.specs.declared.entries.Entry.the-variants.{Skip, Store, Load}
-use Rattle.machine.specs.declared.passes.Survey.{Survey}
-use Rattle.machine.specs.declared.passes.Survey.the-variants.{High, Loads}
+use lib.ListN.{length, getD, set, drop, replicate}
+use Rattle.rules.specs.Entries.{cellsOf, oddByte, bytesOf}
+use Rattle.machine.specs.Work.{cellAt, zeroed}
+use Rattle.machine.specs.Machine.{Bytes}
 
 -- ---- cells as two bytes
 
@@ -72,3 +54,14 @@ zero-bytes (suc size) (x ∷ []) b h = absurd (omega arith)
 zero-bytes (suc size) (x ∷ y ∷ bs) b h =
     let e : 2 * suc size ≡ suc (suc (2 * size)) = omega arith in
     rw e (ap (λ (l : List ℕ). 0 ∷ 0 ∷ l) (zero-bytes size bs (λ k. b (suc (suc k))) (omega arith)))
+
+-- the cell at a place
+pub cells-at : (bs : List ℕ) (a : ℕ) → a < length (cellsOf bs) → cellAt bs a ≡ getD (cellsOf bs) a 0
+unfolding cellsOf
+cells-at [] a h = absurd (omega arith)
+cells-at (x ∷ []) a h = absurd (omega arith)
+cells-at (x ∷ y ∷ bs) zero h = refl
+cells-at (x ∷ y ∷ bs) (suc a) h =
+    let e : 2 * suc a ≡ suc (suc (2 * a)) = omega arith in
+    let f : suc (suc (2 * a)) + 1 ≡ suc (suc (2 * a + 1)) = omega arith in
+    rw (e, f) (cells-at bs a (omega arith))

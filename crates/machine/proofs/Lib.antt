@@ -1,6 +1,10 @@
-pub mod Steps
-pub mod Parts
+pub mod Rows
+pub mod Tallies
+pub mod Placing
+pub mod Doing
+pub mod Lefts
 pub mod Pairs
 pub mod Cells
 pub mod Link
+pub mod Ruled
 pub mod Answer

@@ -1,65 +1,76 @@
 -- The machine over entries is the rules' machine. Assumes nothing.
-use mathlib.Core.Path.{_≡_, refl, sym, ap, subst, _∙_}
-use mathlib.Core.Bool.{Bool, true, false, true≢false}
+use mathlib.Core.Path.{_≡_, refl, sym, ap, _∙_}
+use mathlib.Core.Bool.{Bool, true, false}
 use mathlib.Core.Option.{Option, none, some}
-use mathlib.Core.List.{List, [], _∷_, _++_, map}
-use Prim.Native.Nat.{ℕ, zero, suc, _+_, _*_, _/_, _%_, _≤_, _<_}
+use mathlib.Core.List.{List, [], _∷_, _++_}
+use Prim.Native.Nat.{ℕ, zero, suc, _+_, _*_, _-_, _≤_, _<_}
 use native.Mathlib.Omega.{arith}
 use native.Mathlib.Numerals.{add-one}
-use lib.Dec.{eqb, leb, ltb}
-use lib.ListN.{length, getD, set, drop, replicate, length-append, length-set, length-replicate}
-use borrow.Author.Tests.{eqb-true, leb-false, leb-true, lt-leb, le-leb, ltb-true, ltb-false, lt-ltb, le-ltb}
-use Rattle.rules.specs.Notation.{if_then_else_}
-use Rattle.rules.specs.Sizes.{Room}
-use Rattle.rules.specs.Frames.{Line, stores, loads, shows}
-use Rattle.rules.specs.Meaning.{obey, high}
-use Rattle.rules.specs.Text.{hex2, hex4, Split, split, lineOf, lineTable, sizeTable, Listed, listed, unlisted, lineBefore, sizeOr, listFrom}
-use Rattle.rules.specs.Entries.{ran, stopped, runListed, ranOn, loadText, loadsText, cellsOf, oddByte, bytesOf, runLeft, runEntry}
+use lib.Dec.{leb, ltb}
+use lib.ListN.{length, getD, set, drop, length-append, length-set}
+use lib.Seq.{getD-drop, drop-drop}
+use borrow.Author.Tests.{lt-leb, le-leb, ltb-true, ltb-false, le-ltb}
+use Rattle.rules.specs.Frames.{constant, nextSample, Line, stores, loads, shows}
+use Rattle.rules.specs.Meaning.{Ran, worth, later, obey, high, listTakes, lacking}
+use Rattle.rules.specs.Text.{hex2, hex4}
+use Rattle.rules.specs.Entries.{loadText, loadsText, cellsOf, bytesOf}
 use Rattle.text.specs.Shapes.{pick}
-use Rattle.text.specs.Lines.{lineReading, lined, sizedOr}
-use Rattle.text.specs.Whole.{ofListed, listChecked}
-use Rattle.text.specs.declared.whole.Checked.the-variants.{Good, Refused}
-use Rattle.text.proofs.Told.{isLoad, isPlain, told, told-line}
-use Rattle.machine.specs.Machine.{entryOf, entryAt, entries, surveyOf, cellAt, obeyCells, obeyText, refusal, zeroed, done, roomOf, surveyLeft, Bytes}
+use Rattle.machine.specs.Survey.{surveyOf, lackingOf}
+use Rattle.machine.specs.Work.{cellAt, obeyCells, obeyText, filledFrom}
 use Rattle.machine.specs.declared.entries.Entry.{Entry}
-use Rattle.machine.specs.declared.entries.Entry.the-variants.{Skip, Store, Load}
-use Rattle.machine.specs.declared.passes.Survey.{Survey}
-use Rattle.machine.specs.declared.passes.Survey.the-variants.{High, Loads}
-use Rattle.machine.proofs.Pairs.{ofLine, Pairs, last, step, pairs}
-use Rattle.machine.proofs.Cells.{bytes-set, bytes-at, cells-length, zero-bytes}
+use Rattle.machine.specs.declared.survey.Survey.{Survey}
+use Rattle.machine.specs.declared.survey.Survey.the-variants.{High, Low}
+use Rattle.machine.proofs.Pairs.{Lined, done, on}
+use Rattle.machine.proofs.Cells.{bytes-set, bytes-at, cells-at}
 
--- ---- 20, and the loads
+-- ---- 20, the loads and the samples
 
 abbrev lineLoads : Line → ℕ
-lineLoads (stores a v) = 0
+lineLoads (stores a x) = 0
 lineLoads (loads o a) = 1
 lineLoads (shows o l) = 0
 
-unfoldable linesLoads : List Line → ℕ
+unfoldable pub linesLoads : List Line → ℕ
 linesLoads [] = 0
 linesLoads (l ∷ ls) = lineLoads l + linesLoads ls
 
-abbrev ofHigh : Option ℕ → ℕ → Survey
-ofHigh none n = Loads n
-ofHigh (some i) n = High i
+abbrev pub ofHigh : Option ℕ → (loads takes : ℕ) → Survey
+ofHigh none n m = Low n m
+ofHigh (some i) n m = High i
 
-high-one : (size a i n m : ℕ) (x : Survey) (y : Option ℕ) → n ≡ m → x ≡ ofHigh y n → pick (leb size a) (High i) x ≡ ofHigh (elim (ltb a size) [ true ↦ y | false ↦ some i ]) m
-high-one size a i n m x y q e = go (ltb a size) refl
+high-one : (size a i n m n′ m′ : ℕ) (x : Survey) (y : Option ℕ) → n ≡ n′ → m ≡ m′ → x ≡ ofHigh y n m → pick (leb size a) (High i) x ≡ ofHigh (elim (ltb a size) [ true ↦ y | false ↦ some i ]) n′ m′
+high-one size a i n m n′ m′ x y q s e = go (ltb a size) refl
   where
-    go : (b : Bool) → ltb a size ≡ b → pick (leb size a) (High i) x ≡ ofHigh (elim b [ true ↦ y | false ↦ some i ]) m
-    go true p = rw (lt-leb size a (ltb-true a size p)) (e ∙ ap (ofHigh y) q)
+    go : (b : Bool) → ltb a size ≡ b → pick (leb size a) (High i) x ≡ ofHigh (elim b [ true ↦ y | false ↦ some i ]) n′ m′
+    go true p = rw (lt-leb size a (ltb-true a size p)) (e ∙ rw (q, s))
     go false p = rw (le-leb size a (ltb-false a size p))
 
-surveys : {es : List Entry} {ls : List Line} → Pairs es ls → (size i n : ℕ) → surveyOf size i n es ≡ ofHigh (high size i ls) (n + linesLoads ls)
-unfolding surveyOf high linesLoads
-surveys (last q) size i n = rw q
-surveys (step {l = stores a v} {ls = ls} q more) size i n = rw (q, add-one) (high-one size a i (n + 0 + linesLoads ls) _ _ _ (omega arith) (surveys more size (suc i) (n + 0)))
-surveys (step {l = loads o a} {ls = ls} q more) size i n = rw (q, add-one) (high-one size a i (n + 1 + linesLoads ls) _ _ _ (omega arith) (surveys more size (suc i) (n + 1)))
-surveys (step {l = shows o l} {ls = ls} q more) size i n =
+pub surveys : {es : List Entry} {ls : List Line} → Lined es ls → (size i n m : ℕ) → surveyOf size i n m es ≡ ofHigh (high size i ls) (n + linesLoads ls) (m + listTakes ls)
+unfolding surveyOf high linesLoads listTakes
+surveys done size i n m = let e : n + 0 ≡ n = omega arith in let f : m + 0 ≡ m = omega arith in rw (e, f)
+surveys (on {l = stores a (constant v)} {ls = ls} q more) size i n m =
+    rw (q, add-one) (high-one size a i (n + 0 + linesLoads ls) (m + 0 + listTakes ls) _ _ _ _ (omega arith) (omega arith) (surveys more size (suc i) (n + 0) (m + 0)))
+surveys (on {l = stores a nextSample} {ls = ls} q more) size i n m =
+    rw (q, add-one) (high-one size a i (n + 0 + linesLoads ls) (m + 1 + listTakes ls) _ _ _ _ (omega arith) (omega arith) (surveys more size (suc i) (n + 0) (m + 1)))
+surveys (on {l = loads o a} {ls = ls} q more) size i n m =
+    rw (q, add-one) (high-one size a i (n + 1 + linesLoads ls) (m + 0 + listTakes ls) _ _ _ _ (omega arith) (omega arith) (surveys more size (suc i) (n + 1) (m + 0)))
+surveys (on {l = shows o l} {ls = ls} q more) size i n m =
     let e : n + 0 + linesLoads ls ≡ n + (0 + linesLoads ls) = omega arith in
-    rw (q, add-one) (surveys more size (suc i) (n + 0) ∙ ap (ofHigh (high size (suc i) ls)) e)
+    let f : m + 0 + listTakes ls ≡ m + listTakes ls = omega arith in
+    rw (q, add-one) (surveys more size (suc i) (n + 0) (m + 0) ∙ rw (e, f))
 
--- ---- the work
+-- ---- 23
+
+pub lacks-at : {es : List Entry} {ls : List Line} → Lined es ls → (i n : ℕ) → n < listTakes ls → lacking i n ls ≡ some (lackingOf i n es)
+unfolding lacking lackingOf listTakes
+lacks-at done i n h = absurd (omega arith)
+lacks-at (on {l = stores a (constant v)} q more) i n h = let e : n - 0 ≡ n = omega arith in rw (q, add-one, le-ltb n 0 (omega arith), e) (lacks-at more (suc i) n (omega (arith, h)))
+lacks-at (on {l = stores a nextSample} q more) i zero h = rw q
+lacks-at (on {l = stores a nextSample} q more) i (suc n) h = let e : suc n - 1 ≡ n = omega arith in rw (q, add-one, le-ltb (suc n) 1 (omega arith), e) (lacks-at more (suc i) n (omega (arith, h)))
+lacks-at (on {l = loads o a} q more) i n h = let e : n - 0 ≡ n = omega arith in rw (q, add-one, le-ltb n 0 (omega arith), e) (lacks-at more (suc i) n h)
+lacks-at (on {l = shows o l} q more) i n h = let e : n - 0 ≡ n = omega arith in rw (q, add-one, le-ltb n 0 (omega arith), e) (lacks-at more (suc i) n h)
+
+-- ---- the work, with the samples that lent memory m has from number j on
 
 low-here : (a size i : ℕ) (y : Option ℕ) → _≡_ {A = Option ℕ} (elim (ltb a size) [ true ↦ y | false ↦ some i ]) none → (a < size) × (y ≡ none)
 low-here a size i y e = go (ltb a size) refl
@@ -68,122 +79,75 @@ low-here a size i y e = go (ltb a size) refl
     go true q = (ltb-true a size q, rw q at e)
     go false q = absurd (let u : some i ≡ none = rw q at e in let z : _≡_ {A = ℕ} 0 1 = cc in omega arith)
 
-obeyed-cells : {es : List Entry} {ls : List Line} → Pairs es ls → (size i : ℕ) → high size i ls ≡ none → (cs t : List ℕ) → size ≤ length cs
-    → obeyCells (bytesOf cs ++ t) es ≡ bytesOf (obey cs ls .cells) ++ t
-unfolding obeyCells obey high
-obeyed-cells (last q) size i h cs t b = rw q
-obeyed-cells (step {l = stores a v} q more) size i h cs t b =
-    let k = low-here a size i _ h in
-    rw (q, bytes-set cs t a v (omega (arith, k .0))) (obeyed-cells more size (suc i) (k .1) (set cs a v) t (rw length-set b))
-obeyed-cells (step {l = loads o a} q more) size i h cs t b = rw q (obeyed-cells more size (suc i) (low-here a size i _ h .1) cs t b)
-obeyed-cells (step {l = shows o l} q more) size i h cs t b = rw q (obeyed-cells more size (suc i) h cs t b)
+module _ (m : List ℕ) where
+  abbrev pub from : ℕ → List ℕ
+  from j = drop j (cellsOf m)
 
-obeyed-text : {es : List Entry} {ls : List Line} → Pairs es ls → (size i : ℕ) → high size i ls ≡ none → (cs t : List ℕ) → size ≤ length cs
-    → obeyText (bytesOf cs ++ t) es ≡ loadsText (obey cs ls .loaded)
-unfolding obeyText obey high loadsText
-obeyed-text (last q) size i h cs t b = rw q
-obeyed-text (step {l = stores a v} q more) size i h cs t b =
-    let k = low-here a size i _ h in
-    rw (q, bytes-set cs t a v (omega (arith, k .0))) (obeyed-text more size (suc i) (k .1) (set cs a v) t (rw length-set b))
-obeyed-text (step {l = loads o a} q more) size i h cs t b =
-    let k = low-here a size i _ h in
-    rw (q, bytes-at cs t a (omega (arith, k .0)), obeyed-text more size (suc i) (k .1) cs t b)
-obeyed-text (step {l = shows o l} q more) size i h cs t b = rw q (obeyed-text more size (suc i) h cs t b)
+  sample-is : (j : ℕ) → j < length (cellsOf m) → worth nextSample (from j) ≡ cellAt m j
+  sample-is j h = let e : j + 0 ≡ j = omega arith in getD-drop j (cellsOf m) 0 0 ∙ ap (λ (k : ℕ). getD (cellsOf m) k 0) e ∙ sym (cells-at m j h)
+
+  later-is : (j : ℕ) → later nextSample (from j) ≡ from (j + 1)
+  later-is j = drop-drop 1 j (cellsOf m)
+
+  -- the line's sample, and those after it
+  sampled : (cs : List ℕ) (a j : ℕ) (ls : List Line) → j < length (cellsOf m) → obey (set cs a (worth nextSample (from j))) (later nextSample (from j)) ls ≡ obey (set cs a (cellAt m j)) (from (j + 1)) ls
+  sampled cs a j ls h = ap (λ (v : ℕ). obey (set cs a v) (later nextSample (from j)) ls) (sample-is j h) ∙ ap (λ (vs : List ℕ). obey (set cs a (cellAt m j)) vs ls) (later-is j)
+
+  no-sample : (j : ℕ) → j + 0 ≡ j
+  no-sample j = omega arith
+
+  pub obeyed-cells : {es : List Entry} {ls : List Line} → Lined es ls → (size i j : ℕ) → high size i ls ≡ none → j + listTakes ls ≤ length (cellsOf m) → (cs t : List ℕ) → size ≤ length cs
+      → obeyCells (bytesOf cs ++ t) (filledFrom m j es) ≡ bytesOf (obey cs (from j) ls .cells) ++ t
+  unfolding obeyCells filledFrom obey high listTakes
+  obeyed-cells done size i j h k cs t b = refl
+  obeyed-cells (on {l = stores a (constant v)} q more) size i j h k cs t b =
+      let l = low-here a size i _ h in
+      rw (q, no-sample j, bytes-set cs t a v (omega (arith, l .0))) (obeyed-cells more size (suc i) j (l .1) (omega (arith, k)) (set cs a v) t (rw length-set b))
+  obeyed-cells (on {e = e} {l = stores a nextSample} {es = es} {ls = ls} q more) size i j h k cs t b =
+      let l = low-here a size i _ h in
+      let first : obeyCells (bytesOf cs ++ t) (filledFrom m j (e ∷ es)) ≡ bytesOf (obey (set cs a (cellAt m j)) (from (j + 1)) ls .cells) ++ t
+      = rw (q, bytes-set cs t a (cellAt m j) (omega (arith, l .0))) (obeyed-cells more size (suc i) (j + 1) (l .1) (omega (arith, k)) (set cs a (cellAt m j)) t (rw length-set b)) in
+      first ∙ sym (ap (λ (r : Ran). bytesOf (r .cells) ++ t) (sampled cs a j ls (omega (arith, k))))
+  obeyed-cells (on {l = loads o a} q more) size i j h k cs t b = rw (q, no-sample j) (obeyed-cells more size (suc i) j (low-here a size i _ h .1) k cs t b)
+  obeyed-cells (on {l = shows o l} q more) size i j h k cs t b = rw (q, no-sample j) (obeyed-cells more size (suc i) j h k cs t b)
+
+  pub obeyed-text : {es : List Entry} {ls : List Line} → Lined es ls → (size i j : ℕ) → high size i ls ≡ none → j + listTakes ls ≤ length (cellsOf m) → (cs t : List ℕ) → size ≤ length cs
+      → obeyText (bytesOf cs ++ t) (filledFrom m j es) ≡ loadsText (obey cs (from j) ls .loaded)
+  unfolding obeyText filledFrom obey high loadsText listTakes
+  obeyed-text done size i j h k cs t b = refl
+  obeyed-text (on {l = stores a (constant v)} q more) size i j h k cs t b =
+      let l = low-here a size i _ h in
+      rw (q, no-sample j, bytes-set cs t a v (omega (arith, l .0))) (obeyed-text more size (suc i) j (l .1) (omega (arith, k)) (set cs a v) t (rw length-set b))
+  obeyed-text (on {e = e} {l = stores a nextSample} {es = es} {ls = ls} q more) size i j h k cs t b =
+      let l = low-here a size i _ h in
+      let first : obeyText (bytesOf cs ++ t) (filledFrom m j (e ∷ es)) ≡ loadsText (obey (set cs a (cellAt m j)) (from (j + 1)) ls .loaded)
+      = rw (q, bytes-set cs t a (cellAt m j) (omega (arith, l .0))) (obeyed-text more size (suc i) (j + 1) (l .1) (omega (arith, k)) (set cs a (cellAt m j)) t (rw length-set b)) in
+      first ∙ sym (ap (λ (r : Ran). loadsText (r .loaded)) (sampled cs a j ls (omega (arith, k))))
+  obeyed-text (on {l = loads o a} q more) size i j h k cs t b =
+      let l = low-here a size i _ h in
+      rw (q, no-sample j, bytes-at cs t a (omega (arith, l .0)), obeyed-text more size (suc i) j (l .1) k cs t b)
+  obeyed-text (on {l = shows o l} q more) size i j h k cs t b = rw (q, no-sample j) (obeyed-text more size (suc i) j h k cs t b)
+
+-- ---- lengths
 
 load-length : (v : ℕ) → length (loadText v) ≡ 7
 unfolding loadText hex2 hex4
 load-length v = refl
 
-text-length : (ls : List Line) (cs : List ℕ) → length (loadsText (obey cs ls .loaded)) ≡ 7 * linesLoads ls
+pub text-length : (ls : List Line) (cs vs : List ℕ) → length (loadsText (obey cs vs ls .loaded)) ≡ 7 * linesLoads ls
 unfolding obey loadsText linesLoads
-text-length [] cs = refl
-text-length (stores a v ∷ ls) cs = text-length ls (set cs a v) ∙ omega arith
-text-length (loads o a ∷ ls) cs = length-append (loadText (getD cs a 0)) _ ∙ omega (arith, load-length (getD cs a 0), text-length ls cs)
-text-length (shows o l ∷ ls) cs = text-length ls cs ∙ omega arith
+text-length [] cs vs = refl
+text-length (stores a x ∷ ls) cs vs = text-length ls (set cs a (worth x vs)) (later x vs) ∙ omega arith
+text-length (loads o a ∷ ls) cs vs = length-append (loadText (getD cs a 0)) _ ∙ omega (arith, load-length (getD cs a 0), text-length ls cs vs)
+text-length (shows o l ∷ ls) cs vs = text-length ls cs vs ∙ omega arith
 
 loads-most : (ls : List Line) → linesLoads ls ≤ length ls
 unfolding linesLoads
 loads-most [] = omega arith
-loads-most (stores a v ∷ ls) = omega (arith, loads-most ls)
+loads-most (stores a x ∷ ls) = omega (arith, loads-most ls)
 loads-most (loads o a ∷ ls) = omega (arith, loads-most ls)
 loads-most (shows o l ∷ ls) = omega (arith, loads-most ls)
 
 -- 7 bytes a load, at most one load a line
-pub text-most : (ls : List Line) (cs : List ℕ) → length (loadsText (obey cs ls .loaded)) ≤ 7 * length ls
-text-most ls cs = omega (arith, text-length ls cs, loads-most ls)
-
--- ---- the entry
-
-module _ (bytes out : List ℕ) (es : List Entry) (ls : List Line) (size : ℕ) (ok : Bytes bytes) (p : Pairs es ls) (low : high size 0 ls ≡ none) where
-  cz : List ℕ
-  cz = replicate size 0 ++ drop size (cellsOf bytes)
-
-  fits : size ≤ length (cellsOf bytes) → size ≤ length cz
-  unfolding cz
-  fits h = omega (arith, length-append (replicate size 0) (drop size (cellsOf bytes)), length-replicate {A = ℕ} size 0)
-
-  worked : size ≤ length (cellsOf bytes) → (n : ℕ) → n ≡ linesLoads ls
-      → pick (ltb (length out / 7) n) (refusal 17 0 bytes out) (done es (zeroed size bytes) (7 * n) out) ≡ runLeft (ran (obey cz ls)) bytes out
-  unfolding cz runLeft if_then_else_
-  worked h n en = go (leb (length (loadsText (obey cz ls .loaded))) (length out)) refl
-    where
-      len : length (loadsText (obey cz ls .loaded)) ≡ 7 * n
-      len = text-length ls cz ∙ omega (arith, en)
-
-      go : (b : Bool) → leb (length (loadsText (obey cz ls .loaded))) (length out) ≡ b
-          → pick (ltb (length out / 7) n) (refusal 17 0 bytes out) (done es (zeroed size bytes) (7 * n) out) ≡ runLeft (ran (obey cz ls)) bytes out
-      go true q =
-          let k = leb-true (length (loadsText (obey cz ls .loaded))) (length out) q in
-          rw (
-            q,
-            le-ltb (length out / 7) n (omega (arith, k, len)),
-            if_then_else_,
-            zero-bytes size bytes ok h,
-            obeyed-cells p size 0 low cz (oddByte bytes) (fits h),
-            obeyed-text p size 0 low cz (oddByte bytes) (fits h),
-            len,
-          )
-      go false q =
-          let k = leb-false (length (loadsText (obey cz ls .loaded))) (length out) q in
-          rw (q, lt-ltb (length out / 7) n (omega (arith, k, len)), if_then_else_)
-
-  roomed : (n : ℕ) → n ≡ linesLoads ls
-      → roomOf size n es bytes out ≡ runLeft (elim (ltb (length (cellsOf bytes)) size) [ true ↦ stopped 17 0 | false ↦ ran (obey (replicate size 0 ++ drop size (cellsOf bytes)) ls) ]) bytes out
-  unfolding roomOf cz runLeft
-  roomed n en = go (ltb (length (cellsOf bytes)) size) refl
-    where
-      go : (b : Bool) → ltb (length (cellsOf bytes)) size ≡ b
-          → roomOf size n es bytes out ≡ runLeft (elim b [ true ↦ stopped 17 0 | false ↦ ran (obey (replicate size 0 ++ drop size (cellsOf bytes)) ls) ]) bytes out
-      go true q = rw (lt-ltb (length bytes / 2) size (omega (arith, ltb-true (length (cellsOf bytes)) size q, cells-length bytes)), roomOf)
-      go false q = rw (le-ltb (length bytes / 2) size (omega (arith, ltb-false (length (cellsOf bytes)) size q, cells-length bytes)), roomOf) (worked (ltb-false (length (cellsOf bytes)) size q) n en)
-
-good-refused : {P : Type 0} {n j size : ℕ} → Refused n j ≡ Good size → P
-good-refused e = absurd (let z : _≡_ {A = ℕ} 0 1 = cc in omega arith)
-
-module _ (room : Room) (list bytes out : List ℕ) where
-  -- a list that is not read
-  pub run-refused : (n i : ℕ) → listChecked room list ≡ Refused n i → runEntry room list bytes out ≡ refusal n i bytes out
-  unfolding listChecked runEntry ranOn runListed runLeft
-  run-refused n i = go (listFrom room 0 (split list))
-    where
-      go : (l : Listed) → ofListed l ≡ Refused n i → runLeft (runListed (cellsOf bytes) l) bytes out ≡ refusal n i bytes out
-      go (listed ls size) e = good-refused (sym e)
-      go (unlisted m j) e = let a : m ≡ n = cc in let b : j ≡ i = cc in rw (a, b)
-
-  -- a list that is read: the survey and what follows are the rules' `runEntry`
-  pub run-read : (size : ℕ) → Bytes bytes → listChecked room list ≡ Good size → surveyLeft (surveyOf size 0 0 (entries list)) size (entries list) bytes out ≡ runEntry room list bytes out
-  unfolding listChecked runEntry ranOn runListed entries runLeft
-  run-read size ok = go (listFrom room 0 (split list)) refl
-    where
-      on : (ls : List Line) → Pairs (entries list) ls → (h : Option ℕ) → high size 0 ls ≡ h
-          → surveyLeft (ofHigh h (0 + linesLoads ls)) size (entries list) bytes out ≡ runLeft (runListed (cellsOf bytes) (listed ls size)) bytes out
-      on ls p (some i) e = rw (e, runListed)
-      on ls p none e = rw (e, runListed) (roomed bytes out (entries list) ls size ok p e (0 + linesLoads ls) (omega arith))
-
-      go : (l : Listed) → listFrom room 0 (split list) ≡ l → ofListed l ≡ Good size
-          → surveyLeft (surveyOf size 0 0 (entries list)) size (entries list) bytes out ≡ runLeft (runListed (cellsOf bytes) l) bytes out
-      go (unlisted m j) e q = good-refused q
-      go (listed ls n) e q =
-          let s : n ≡ size = cc in
-          let p : Pairs (entries list) ls = pairs room (split list) 0 n ls e in
-          rw s (ap (λ (h : Survey). surveyLeft h size (entries list) bytes out) (surveys p size 0 0) ∙ on ls p (high size 0 ls) refl)
+pub text-most : (ls : List Line) (cs vs : List ℕ) → length (loadsText (obey cs vs ls .loaded)) ≤ 7 * length ls
+text-most ls cs vs = omega (arith, text-length ls cs vs, loads-most ls)

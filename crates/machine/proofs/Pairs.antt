@@ -1,46 +1,40 @@
--- The entries of a list that is read are those of its lines: none, a store or a load. Assumes nothing.
-use mathlib.Core.Path.{_≡_, refl, sym, ap, subst, _∙_}
+-- The entries of a list that is read are those of its lines. Assumes nothing.
+use mathlib.Core.Path.{_≡_, refl, sym, ap, subst}
 use mathlib.Core.Bool.{Bool, true, false, true≢false}
 use mathlib.Core.Option.{Option, none, some}
-use mathlib.Core.List.{List, [], _∷_, _++_, map}
-use Prim.Native.Nat.{ℕ, zero, suc, _+_, _*_, _/_, _%_, _≤_, _<_}
+use mathlib.Core.List.{List, [], _∷_, map}
+use Prim.Native.Nat.{ℕ, suc}
 use native.Mathlib.Omega.{arith}
-use native.Mathlib.Numerals.{add-one}
-use lib.Dec.{eqb, leb, ltb}
-use lib.ListN.{length, getD, set, drop, replicate, length-append, length-set, length-replicate}
-use borrow.Author.Tests.{eqb-true, leb-false, leb-true, lt-leb, le-leb, ltb-true, ltb-false, lt-ltb, le-ltb}
-use Rattle.rules.specs.Notation.{if_then_else_}
+use lib.Dec.{eqb, leb}
+use lib.ListN.{length, take}
+use borrow.Author.Tests.{eqb-true}
 use Rattle.rules.specs.Sizes.{Room}
-use Rattle.rules.specs.Frames.{Line, stores, loads, shows}
-use Rattle.rules.specs.Meaning.{obey, high}
-use Rattle.rules.specs.Text.{hex2, hex4, Split, split, lineOf, lineTable, sizeTable, Listed, listed, unlisted, lineBefore, sizeOr, listFrom}
-use Rattle.rules.specs.Entries.{ran, stopped, runListed, ranOn, loadText, loadsText, cellsOf, oddByte, bytesOf, runLeft, runEntry}
+use Rattle.rules.specs.Frames.{constant, nextSample, Line, stores, loads, shows}
+use Rattle.rules.specs.Text.{Split, lineOf, lineTable, sizeTable, Listed, listed, unlisted, lineBefore, sizeOr, listFrom}
 use Rattle.text.specs.Shapes.{pick}
 use Rattle.text.specs.Lines.{lineReading, lined, sizedOr}
-use Rattle.text.specs.Whole.{ofListed, listChecked}
-use Rattle.text.specs.declared.whole.Checked.the-variants.{Good, Refused}
 use Rattle.text.proofs.Told.{isLoad, isPlain, told, told-line}
-use Rattle.machine.specs.Machine.{entryOf, entryAt, entries, surveyOf, cellAt, obeyCells, obeyText, refusal, zeroed, done, roomOf, surveyLeft, Bytes}
+use Rattle.machine.specs.Entries.{entryOf, entryAt}
 use Rattle.machine.specs.declared.entries.Entry.{Entry}
-use Rattle.machine.specs.declared.entries.Entry.the-variants.{Skip, Store, Load}
-use Rattle.machine.specs.declared.passes.Survey.{Survey}
-use Rattle.machine.specs.declared.passes.Survey.the-variants.{High, Loads}
+use Rattle.machine.specs.declared.entries.Entry.the-variants.{Skip, Store, Sample, Load}
 
 -- ---- the entry of a line
 
 abbrev pub ofLine : Line → Entry
-ofLine (stores a v) = Store a v
+ofLine (stores a (constant v)) = Store a v
+ofLine (stores a nextSample) = Sample a
 ofLine (loads o a) = Load a
 ofLine (shows o l) = Skip
 
-plain-entry : (o : ℕ) (s l m : Entry) → isPlain o ≡ true → pick (eqb o 0x10) s (pick (eqb o 0x11) l (pick (eqb o 0x12) m Skip)) ≡ Skip
-plain-entry o s l m e = go (eqb o 0x10) (eqb o 0x11) (eqb o 0x12) (eqb o 0x90) e
+plain-entry : (o : ℕ) (s l m n : Entry) → isPlain o ≡ true → pick (eqb o 0x10) s (pick (eqb o 0x11) l (pick (eqb o 0x12) m (pick (eqb o 0x14) n Skip))) ≡ Skip
+plain-entry o s l m n e = go (eqb o 0x10) (eqb o 0x11) (eqb o 0x12) (eqb o 0x14) (eqb o 0x90) e
   where
-    go : (a b c d : Bool) → pick a false (pick b false (pick c false (pick d false true))) ≡ true → pick a s (pick b l (pick c m Skip)) ≡ Skip
-    go true b c d e = absurd (true≢false (sym e))
-    go false true c d e = absurd (true≢false (sym e))
-    go false false true d e = absurd (true≢false (sym e))
-    go false false false d e = refl
+    go : (a b c t d : Bool) → pick a false (pick b false (pick c false (pick t false (pick d false true)))) ≡ true → pick a s (pick b l (pick c m (pick t n Skip))) ≡ Skip
+    go true b c t d e = absurd (true≢false (sym e))
+    go false true c t d e = absurd (true≢false (sym e))
+    go false false true t d e = absurd (true≢false (sym e))
+    go false false false true d e = absurd (true≢false (sym e))
+    go false false false false d e = refl
 
 load-entry : (o a : ℕ) → isLoad o ≡ true → entryOf (lined (some (loads o a))) ≡ Load a
 load-entry o a e = go (eqb o 0x11) refl
@@ -50,9 +44,10 @@ load-entry o a e = go (eqb o 0x11) refl
     go false q = rw (eqb-true o 0x12 (rw q at e))
 
 entry-line : (x : Line) → told x ≡ true → entryOf (lined (some x)) ≡ ofLine x
-entry-line (stores a v) e = refl
+entry-line (stores a (constant v)) e = refl
+entry-line (stores a nextSample) e = refl
 entry-line (loads o a) e = load-entry o a e
-entry-line (shows o l) e = plain-entry o _ _ _ e
+entry-line (shows o l) e = plain-entry o _ _ _ _ e
 
 -- ---- the lines of a list that is read, and the size line after them
 
@@ -93,3 +88,13 @@ module _ (room : Room) where
   unfolding listFrom lineReading
   pairs [] i n ls h = not-listed h
   pairs (k ∷ ks) i n ls h = pair-one ks i n ls (lineOf sizeTable k) (lineOf lineTable k) (told-line k) (λ m e. pairs ks (suc i) n m e) h
+
+-- ---- the lines before the size line
+
+pub data Lined : List Entry → List Line → Type 0 where
+  done : Lined [] []
+  on : {e : Entry} {l : Line} {es : List Entry} {ls : List Line} → e ≡ ofLine l → Lined es ls → Lined (e ∷ es) (l ∷ ls)
+
+pub lines-only : {es : List Entry} {ls : List Line} → Pairs es ls → Lined (take (length ls) es) ls
+lines-only (last q) = done
+lines-only (step q more) = on q (lines-only more)

@@ -1,1 +1,5 @@
 pub mod Machine
+pub mod Entries
+pub mod Survey
+pub mod Work
+pub mod Recorded

@@ -1,25 +1,20 @@
-// What a line of a list asks of the machine: nothing, a store or a load.
+// What a line of a list asks of the machine: nothing, a store, a store of the next sample, or a load.
 use text::lines::Frame;
-use text::lines::Reading;
-use text::lines::list_line_at;
+use text::table::unpack;
 ghost use mathlib.Core.Path.{_≡_};
 ghost use Prim.Native.Nat.{_<_};
 ghost use lib.ListN.{length};
-ghost use Rattle.machine.specs.Machine.{entryOf, loadsOf, overOf, TookEntry};
+ghost use Rattle.machine.specs.Entries.{entryFor, entryIn, loadsOf, takesOf, overOf};
 
 pub enum Entry {
     Skip,
     Store(u16, u16),
+    Sample(u16),
     Load(u16),
 }
 
-pub struct Taken {
-    pub entry: Entry,
-    pub next: usize,
-}
-
-fn entry_for(f: Frame) -> Entry
-    ensures { λ r. ⌜ r ≡ entryOf (Reading.One f) ⌝ }
+pub fn entry_for(f: Frame) -> Entry
+    ensures { λ r. ⌜ r ≡ entryFor f ⌝ }
 {
     if f.opcode == 0x10 {
         return Entry::Store(f.a, f.b);
@@ -30,30 +25,18 @@ fn entry_for(f: Frame) -> Entry
     if f.opcode == 0x12 {
         return Entry::Load(f.a);
     }
+    if f.opcode == 0x14 {
+        return Entry::Sample(f.a);
+    }
     Entry::Skip
 }
 
-fn entry_of(x: Reading) -> Entry
-    ensures { λ r. ⌜ r ≡ entryOf x ⌝ }
+// The entry of line i of the table.
+pub fn entry_at(table: &[u64], i: usize) -> Entry
+    requires { ⌜ i < length (now table) ⌝ }
+    ensures { λ r. ⌜ r ≡ entryIn (now (table .entry)) i ⌝ }
 {
-    match x {
-        Reading::Malformed => Entry::Skip,
-        Reading::One(f) => entry_for(f),
-    }
-}
-
-// The entry of the line at p, and where the next line begins.
-pub fn entry_at(s: &[u8], p: usize) -> Taken
-    requires { ⌜ p < length (now s) ⌝ }
-    ensures { λ r. ⌜ TookEntry (now (s .entry)) p r ⌝ }
-{
-    let t = list_line_at(s, p);
-    let x = t.reading;
-    let entry = entry_of(x);
-    Taken {
-        entry,
-        next: t.next,
-    }
+    entry_for(unpack(table[i]))
 }
 
 pub fn loads_of(x: Entry) -> usize
@@ -62,7 +45,20 @@ pub fn loads_of(x: Entry) -> usize
     match x {
         Entry::Skip => 0,
         Entry::Store(_, _) => 0,
+        Entry::Sample(_) => 0,
         Entry::Load(_) => 1,
+    }
+}
+
+// How many samples it takes.
+pub fn takes_of(x: Entry) -> usize
+    ensures { λ r. ⌜ r ≡ takesOf x ⌝ }
+{
+    match x {
+        Entry::Skip => 0,
+        Entry::Store(_, _) => 0,
+        Entry::Sample(_) => 1,
+        Entry::Load(_) => 0,
     }
 }
 
@@ -73,6 +69,7 @@ pub fn over(x: Entry, size: usize) -> bool
     match x {
         Entry::Skip => false,
         Entry::Store(a, _) => size <= (a as usize),
+        Entry::Sample(a) => size <= (a as usize),
         Entry::Load(a) => size <= (a as usize),
     }
 }

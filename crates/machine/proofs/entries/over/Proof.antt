@@ -1,6 +1,6 @@
 -- `over` meets its contract. Assumes nothing.
 use mathlib.Core.Path.{sym, ap}
-use Rattle.machine.specs.Machine.{overOf}
+use Rattle.machine.specs.Entries.{overOf}
 use borrow.Author.Needs.{needs}
 use Rattle.machine.proofs.entries.over.Statement.{statement}
 use Rattle.machine.proofs.entries.over.Tie as tie
@@ -20,6 +20,12 @@ enum-known-x-2 c = search needs
 cast-result-2 : tie.Need-cast-result-2
 cast-result-2 c = search needs
 
+enum-known-x-3 : tie.Need-enum-known-x-3
+enum-known-x-3 c = search needs
+
+cast-result-3 : tie.Need-cast-result-3
+cast-result-3 c = search needs
+
 returns : tie.Need-returns
 returns c = search needs
 
@@ -28,6 +34,9 @@ returns-2 c = sym (ap (overOf _) (c .before .x .given .1))
 
 returns-3 : tie.Need-returns-3
 returns-3 c = sym (ap (overOf _) (c .before .x2 .given .1))
+
+returns-4 : tie.Need-returns-4
+returns-4 c = sym (ap (overOf _) (c .before .x3 .given .1))
 
 pub over-spec : {M : Type 1} → statement M
 over-spec =
@@ -38,6 +47,9 @@ over-spec =
     cast-result
     enum-known-x-2
     cast-result-2
+    enum-known-x-3
+    cast-result-3
     returns
     returns-2
-    returns-3)
+    returns-3
+    returns-4)
