@@ -1,27 +1,28 @@
--- Demand 3 over the code, from the promises of translate and run alone. Assumes nothing.
+-- Demand 3 over the code, from the promises of translate, run, read_recording and run_recorded alone. Assumes nothing.
 use mathlib.Core.Path.{_≡_, refl, sym, ap, subst, _∙_}
 use mathlib.Core.Bool.{Bool, true, false}
-use mathlib.Core.List.{List, _++_}
+use mathlib.Core.List.{List, [], _++_}
 use Prim.Native.Nat.{ℕ, _*_, _≤_}
 use native.Mathlib.Omega.{arith}
 use lib.Dec.{leb}
-use lib.ListN.{length, take, drop, replicate}
+use lib.ListN.{length, take, drop}
 use lib.Seq.{take-at}
 use borrow.Author.Tests.{le-leb}
 use Rattle.rules.specs.Notation.{if_then_else_}
 use Rattle.rules.specs.Sizes.{base}
 use Rattle.rules.specs.Slots.{edition1}
 use Rattle.rules.specs.Frames.{Line, Outcome, accepted}
-use Rattle.rules.specs.Meaning.{Ran, obey}
+use Rattle.rules.specs.Meaning.{Ran}
 use Rattle.rules.specs.Text.{listText}
-use Rattle.rules.specs.Entries.{translated, listLeft, translateEntry, overFront, loadsText, cellsOf, oddByte, bytesOf, ran, Running, runLeft, runEntry}
+use Rattle.rules.specs.Entries.{translated, listLeft, translateEntry, overFront, loadsText, cellsOf, oddByte, bytesOf, ran, Running, runLeft, ranOn, runEntry}
 use Rattle.translate.specs.Whole as translate
 use Rattle.translate.proofs.Numbers.{Comes, to-list, to-stop, comes}
-use Rattle.machine.proofs.Cells.{cells-length}
-use Rattle.demand3.specs.Promises.{TranslatePromise, RunPromise, Accepts, means, PrintsMeaning, Above, Shows, Demand3Code}
+use Rattle.rules.proofs.SampleCells.{cells-length}
+use Rattle.demand3.specs.Promises.{TranslatePromise, RunPromise, Accepts, means, takes, PrintsMeaning, Above, Shows, Demand3Code}
 use Rattle.demand3.proofs.Reported.{text-reports, reports-one}
-use Rattle.demand3.proofs.Frame.{text-length, cells-back, odd-back}
-use Rattle.demand3.proofs.Ran.{reads, below, ran-on, loaded, above}
+use Rattle.demand3.proofs.Frame.{text-length}
+use Rattle.demand3.proofs.Ran.{reads, below, worked, ran-on, loaded}
+use Rattle.demand3.proofs.Beside.{prints-by, above-by, beside}
 
 -- ---- what translate left
 
@@ -60,33 +61,26 @@ listed-by script list r list′ h k = listing script list (translated base (edit
 -- ---- what run left
 
 -- with room for the answer
-pub left-ran : (x : Ran) (cells out : List ℕ) → 7 * length (x .loaded) ≤ length out
-    → runLeft (ran x) cells out ≡ record { answer = 7 * length (x .loaded); cells = bytesOf (x .cells) ++ oddByte cells; out = overFront (loadsText (x .loaded)) out }
+pub left-ran : (x : Ran) (n : ℕ) (cells out : List ℕ) → 7 * length (x .loaded) ≤ length out
+    → runLeft (ran x n) cells out ≡ record { answer = 7 * length (x .loaded); cells = bytesOf (x .cells) ++ oddByte cells; out = overFront (loadsText (x .loaded)) out }
 unfolding runLeft if_then_else_
-left-ran x cells out h =
-    let n = text-length (x .loaded) in
+left-ran x n cells out h =
+    let l = text-length (x .loaded) in
     rw (le-leb (length (loadsText (x .loaded))) (length out) (omega arith), if_then_else_)
-    (ap (λ (k : ℕ). record { answer = k; cells = bytesOf (x .cells) ++ oddByte cells; out = overFront (loadsText (x .loaded)) out }) n)
+    (ap (λ (k : ℕ). record { answer = k; cells = bytesOf (x .cells) ++ oddByte cells; out = overFront (loadsText (x .loaded)) out }) l)
 
 module _ (script : List ℕ) (ls : List Line) (size : ℕ) (ok : translated base (edition1 8) script ≡ accepted ls size) where
-  larger : (cells out : List ℕ) → 2 * size ≤ length cells → 7 * length (means script) ≤ length out
-      → (a : ℕ) (cells′ out′ : List ℕ) → RunPromise (listText ls size) cells out a cells′ out′ → PrintsMeaning script out a out′ × Above size cells cells′
-  unfolding runEntry
-  larger cells out h k a cells′ out′ run =
-      let cs : List ℕ = cellsOf cells in
-      let f : size ≤ length cs = omega (arith, cells-length cells) in
-      let x : Ran = obey (replicate size 0 ++ drop size cs) ls in
-      let m : x .loaded ≡ means script = loaded script ls size ok cs f in
-      let e = ap (λ o. runLeft o cells out) (ran-on script ls size ok cs f) ∙ left-ran x cells out (rw m k) in
-      let w : cells′ ≡ bytesOf (x .cells) ++ oddByte cells = run .cells-left ∙ ap (λ (l : Running). l .cells) e in (
-        record {
-          count = run .answered ∙ ap (λ (l : Running). l .answer) e ∙ ap (λ (v : List ℕ). 7 * length v) m;
-          text = run .out-left ∙ ap (λ (l : Running). l .out) e ∙ ap (λ (v : List ℕ). overFront (loadsText v) out) m;
-        },
-        record {
-          same = ap (λ (b : List ℕ). drop size (cellsOf b)) w ∙ ap (drop size) (cells-back (x .cells) cells) ∙ above script ls size ok cs f;
-          odd = ap oddByte w ∙ odd-back (x .cells) cells;
-        },
+  larger : takes script ≡ 0 → (cells out : List ℕ) → 2 * size ≤ length cells → 7 * length (means script []) ≤ length out
+      → (a : ℕ) (cells′ out′ : List ℕ) → RunPromise (listText ls size) cells out a cells′ out′ → PrintsMeaning script [] out a out′ × Above size cells cells′
+  unfolding runEntry ranOn
+  larger z cells out h k a cells′ out′ run =
+      let q : takes script ≤ 0 = omega arith in
+      let f : size ≤ length (cellsOf cells) = omega (arith, cells-length cells) in
+      let x : Ran = worked script ls size ok 0 [] q q (cellsOf cells) f in
+      let m : x .loaded ≡ means script [] = loaded script ls size ok 0 [] q q (cellsOf cells) f in
+      let e = ap (λ o. runLeft o cells out) (ran-on script ls size ok 0 [] q q (cellsOf cells) f) ∙ left-ran x _ cells out (rw m k) in (
+        prints-by script ls size ok 0 [] q q cells f out a out′ (run .answered ∙ ap (λ (l : Running). l .answer) e) (run .out-left ∙ ap (λ (l : Running). l .out) e),
+        above-by script ls size ok 0 [] q q cells f cells′ (run .cells-left ∙ ap (λ (l : Running). l .cells) e),
       )
 
   shows : Shows script (listText ls size)
@@ -96,8 +90,9 @@ module _ (script : List ℕ) (ls : List Line) (size : ℕ) (ok : translated base
         reported = text-reports ls size;
         only = λ n h. reports-one (listText ls size) n size h (text-reports ls size);
         inside = record { lines = ls; read = reads script ls size ok; below = below script ls size ok };
-        exact = λ cells out h k a cells′ out′ run. larger cells out (omega arith) k a cells′ out′ run .0;
+        exact = λ z cells out h k a cells′ out′ run. larger z cells out (omega arith) k a cells′ out′ run .0;
         larger = larger;
+        beside = beside script ls size ok;
       }
 
 -- ---- demand 3

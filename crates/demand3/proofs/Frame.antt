@@ -10,7 +10,7 @@ use lib.ListN.{length, drop, set, replicate, length-set, length-replicate}
 use lib.Seq.{set-append-left}
 use borrow.Author.Tests.{ltb-true}
 use Rattle.rules.specs.Frames.{Line, stores, loads, shows}
-use Rattle.rules.specs.Meaning.{obey, high}
+use Rattle.rules.specs.Meaning.{worth, later, obey, high}
 use Rattle.rules.specs.Text.{hex2, hex4}
 use Rattle.rules.specs.Entries.{loadText, loadsText, overFront, cellsOf, oddByte, bytesOf}
 use Rattle.machine.specs.Machine.{Bytes}
@@ -35,21 +35,22 @@ low-here a size i y e = go (ltb a size) refl
     go false q = absurd (let u : some i ≡ none = rw q at e in let z : _≡_ {A = ℕ} 0 1 = cc in omega arith)
 
 -- cells behind the frame make no difference to it, and stay
-obey-front : (ls : List Line) (i : ℕ) (frame back : List ℕ) → high (length frame) i ls ≡ none → obey (frame ++ back) ls .cells ≡ obey frame ls .cells ++ back
+obey-front : (ls : List Line) (i : ℕ) (vs frame back : List ℕ) → high (length frame) i ls ≡ none → obey (frame ++ back) vs ls .cells ≡ obey frame vs ls .cells ++ back
 unfolding obey high
-obey-front [] i frame back e = refl
-obey-front (shows o l ∷ ls) i frame back e = obey-front ls (suc i) frame back e
-obey-front (loads o a ∷ ls) i frame back e = obey-front ls (suc i) frame back (low-here a (length frame) i _ e .1)
-obey-front (stores a v ∷ ls) i frame back e =
+obey-front [] i vs frame back e = refl
+obey-front (shows o l ∷ ls) i vs frame back e = obey-front ls (suc i) vs frame back e
+obey-front (loads o a ∷ ls) i vs frame back e = obey-front ls (suc i) vs frame back (low-here a (length frame) i _ e .1)
+obey-front (stores a x ∷ ls) i vs frame back e =
     let k = low-here a (length frame) i _ e in
-    ap (λ (cs : List ℕ). obey cs ls .cells) (set-append-left frame back a v (k .0)) ∙ obey-front ls (suc i) (set frame a v) back (rw length-set (k .1))
+    ap (λ (cs : List ℕ). obey cs (later x vs) ls .cells) (set-append-left frame back a (worth x vs) (k .0))
+    ∙ obey-front ls (suc i) (later x vs) (set frame a (worth x vs)) back (rw length-set (k .1))
 
-obey-length : (ls : List Line) (cells : List ℕ) → length (obey cells ls .cells) ≡ length cells
+obey-length : (ls : List Line) (vs cells : List ℕ) → length (obey cells vs ls .cells) ≡ length cells
 unfolding obey
-obey-length [] cells = refl
-obey-length (shows o l ∷ ls) cells = obey-length ls cells
-obey-length (loads o a ∷ ls) cells = obey-length ls cells
-obey-length (stores a v ∷ ls) cells = obey-length ls (set cells a v) ∙ length-set cells a v
+obey-length [] vs cells = refl
+obey-length (shows o l ∷ ls) vs cells = obey-length ls vs cells
+obey-length (loads o a ∷ ls) vs cells = obey-length ls vs cells
+obey-length (stores a x ∷ ls) vs cells = obey-length ls (later x vs) (set cells a (worth x vs)) ∙ length-set cells a (worth x vs)
 
 -- ---- cells as bytes
 
@@ -91,15 +92,15 @@ odd-back (c ∷ cs) bs = odd-back cs bs
 -- ---- run's cells: the frame over the front of what was lent
 
 pub frame-front : (ls : List Line) (size : ℕ) (bs : List ℕ) → high size 0 ls ≡ none → Bytes bs → size ≤ length (cellsOf bs)
-    → bytesOf (obey (replicate size 0 ++ drop size (cellsOf bs)) ls .cells) ++ oddByte bs ≡ overFront (frameAfter ls size) bs
+    → bytesOf (obey (replicate size 0 ++ drop size (cellsOf bs)) [] ls .cells) ++ oddByte bs ≡ overFront (frameAfter ls size) bs
 frame-front ls size bs low b h =
     let zeros : List ℕ = replicate size 0 in
     let back : List ℕ = drop size (cellsOf bs) in
-    let frame : List ℕ = obey zeros ls .cells in
+    let frame : List ℕ = obey zeros [] ls .cells in
     let l : length zeros ≡ size = length-replicate size 0 in
     let low′ : high (length zeros) 0 ls ≡ none = rw l low in
-    let n : 2 * size ≡ length (bytesOf frame) = sym (bytes-length frame ∙ ap (λ (k : ℕ). 2 * k) (obey-length ls zeros ∙ l)) in
-    ap (λ (cs : List ℕ). bytesOf cs ++ oddByte bs) (obey-front ls 0 zeros back low′)
+    let n : 2 * size ≡ length (bytesOf frame) = sym (bytes-length frame ∙ ap (λ (k : ℕ). 2 * k) (obey-length ls [] zeros ∙ l)) in
+    ap (λ (cs : List ℕ). bytesOf cs ++ oddByte bs) (obey-front ls 0 [] zeros back low′)
     ∙ ap (λ (x : List ℕ). x ++ oddByte bs) (bytes-append frame back)
     ∙ append-assoc (bytesOf frame) (bytesOf back) (oddByte bs)
     ∙ ap (λ (x : List ℕ). bytesOf frame ++ x) (bytes-behind size bs b h)

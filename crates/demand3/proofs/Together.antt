@@ -1,8 +1,9 @@
 -- Translate and then run, on the page that translate left, is `together`. Assumes nothing.
 use mathlib.Core.Path.{_≡_, refl, sym, ap, subst, _∙_}
 use mathlib.Core.Bool.{Bool, true, false, _&&_}
-use mathlib.Core.List.{List, _++_}
-use Prim.Native.Nat.{ℕ, _*_, _/_, _≤_, _<_}
+use mathlib.Core.Option.{Option, none, some}
+use mathlib.Core.List.{List, [], _++_}
+use Prim.Native.Nat.{ℕ, _*_, _/_, _-_, _≤_, _<_}
 use native.Mathlib.Omega.{arith}
 use lib.Dec.{leb}
 use lib.ListN.{length, take, drop, replicate}
@@ -11,56 +12,68 @@ use Rattle.rules.specs.Notation.{if_then_else_}
 use Rattle.rules.specs.Sizes.{base}
 use Rattle.rules.specs.Slots.{edition1}
 use Rattle.rules.specs.Frames.{Line, Outcome, accepted}
-use Rattle.rules.specs.Meaning.{Ran, obey}
+use Rattle.rules.specs.Meaning.{Ran, obey, listTakes, lacking}
 use Rattle.rules.specs.Text.{listText}
-use Rattle.rules.specs.Entries.{translated, listLeft, translateEntry, overFront, loadsText, cellsOf, oddByte, bytesOf, ran, Running, runLeft, runEntry}
+use Rattle.rules.specs.Entries.{translated, listLeft, translateEntry, overFront, loadsText, cellsOf, oddByte, bytesOf, ran, Running, runLeft, ranOn, runEntry}
 use Rattle.translate.specs.Whole as translate
 use Rattle.text.proofs.Halves.{by-number}
 use Rattle.translate.proofs.Numbers.{Comes, to-list, to-stop, Halves, count, number, translate-halves}
 use Rattle.machine.specs.Machine.{Leaves, Bytes, refusal}
-use Rattle.machine.proofs.Cells.{cells-length}
+use Rattle.rules.proofs.SampleCells.{cells-length}
 use Rattle.machine.proofs.Answer as machine
-use Rattle.demand3.specs.Promises.{TranslatePromise, RunPromise, Accepts, means, PrintsMeaning}
+use Rattle.demand3.specs.Promises.{TranslatePromise, RunPromise, Accepts, means, takes, PrintsMeaning}
 use Rattle.demand3.specs.Together.{frameAfter, worked, togetherOn, together}
 use Rattle.demand3.proofs.Frame.{text-length, frame-front}
-use Rattle.demand3.proofs.Ran.{below, ran-short, ran-on, loaded}
+use Rattle.rules.proofs.Taking.{taken-by}
+use Rattle.demand3.proofs.Ran.{below, as-many, lacks, worked as done, ran-short, ran-on, loaded}
 use Rattle.demand3.proofs.Demand3.{come, listed-by, left-ran}
 
 -- ---- an accepted script
 
 -- without room for the answer
-left-short : (x : Ran) (cells out : List ℕ) → length out < 7 * length (x .loaded) → runLeft (ran x) cells out ≡ refusal 17 0 cells out
+left-short : (x : Ran) (n : ℕ) (cells out : List ℕ) → length out < 7 * length (x .loaded) → runLeft (ran x n) cells out ≡ refusal 17 0 cells out
 unfolding runLeft if_then_else_
-left-short x cells out h = rw (lt-leb (length (loadsText (x .loaded))) (length out) (omega (arith, text-length (x .loaded))), if_then_else_)
+left-short x n cells out h = rw (lt-leb (length (loadsText (x .loaded))) (length out) (omega (arith, text-length (x .loaded))), if_then_else_)
 
 module _ (script : List ℕ) (ls : List Line) (size : ℕ) (ok : translated base (edition1 8) script ≡ accepted ls size) (cells out : List ℕ) (bytes : Bytes cells) where
   -- with cells enough: 17 for out, or the work
-  roomy : (x : Ran) → x .loaded ≡ means script → bytesOf (x .cells) ++ oddByte cells ≡ overFront (frameAfter ls size) cells
-      → runLeft (ran x) cells out ≡ (if leb (7 * length (means script)) (length out) then worked ls size (means script) cells out else refusal 17 0 cells out)
+  roomy : (x : Ran) (n : ℕ) → x .loaded ≡ means script [] → bytesOf (x .cells) ++ oddByte cells ≡ overFront (frameAfter ls size) cells
+      → runLeft (ran x n) cells out ≡ (if leb (7 * length (means script [])) (length out) then worked ls size (means script []) cells out else refusal 17 0 cells out)
   unfolding if_then_else_
-  roomy x m w = go (leb (7 * length (means script)) (length out)) refl
+  roomy x n m w = go (leb (7 * length (means script [])) (length out)) refl
     where
-      go : (b : Bool) → leb (7 * length (means script)) (length out) ≡ b
-          → runLeft (ran x) cells out ≡ (if leb (7 * length (means script)) (length out) then worked ls size (means script) cells out else refusal 17 0 cells out)
-      go false q = rw (q, if_then_else_) (left-short x cells out (rw m (leb-false _ _ q)))
-      go true q = rw (q, if_then_else_) (left-ran x cells out (rw m (leb-true _ _ q)) ∙ rw (m, w))
+      go : (b : Bool) → leb (7 * length (means script [])) (length out) ≡ b
+          → runLeft (ran x n) cells out ≡ (if leb (7 * length (means script [])) (length out) then worked ls size (means script []) cells out else refusal 17 0 cells out)
+      go false q = rw (q, if_then_else_) (left-short x n cells out (rw m (leb-false _ _ q)))
+      go true q = rw (q, if_then_else_) (left-ran x n cells out (rw m (leb-true _ _ q)) ∙ rw (m, w))
 
-  run-is : runEntry base (listText ls size) cells out ≡ togetherOn (accepted ls size) (means script) cells out
-  unfolding runEntry togetherOn if_then_else_ runLeft
-  run-is = go (leb (2 * size) (length cells)) refl
+  -- no sample is wanted
+  run-all : takes script ≤ 0 → runEntry base (listText ls size) cells out
+      ≡ (if (leb (2 * size) (length cells) && leb (7 * length (means script [])) (length out)) then worked ls size (means script []) cells out else refusal 17 0 cells out)
+  unfolding runEntry ranOn if_then_else_ runLeft
+  run-all q = go (leb (2 * size) (length cells)) refl
     where
       n : length (cellsOf cells) ≡ length cells / 2
       n = cells-length cells
 
-      go : (b : Bool) → leb (2 * size) (length cells) ≡ b → runEntry base (listText ls size) cells out ≡ togetherOn (accepted ls size) (means script) cells out
+      go : (b : Bool) → leb (2 * size) (length cells) ≡ b → runEntry base (listText ls size) cells out
+          ≡ (if (leb (2 * size) (length cells) && leb (7 * length (means script [])) (length out)) then worked ls size (means script []) cells out else refusal 17 0 cells out)
       go false p =
           let f : length (cellsOf cells) < size = omega (arith, n, leb-false (2 * size) (length cells) p) in
-          rw (p, if_then_else_) (ap (λ o. runLeft o cells out) (ran-short script ls size ok (cellsOf cells) f))
+          rw (p, if_then_else_) (ap (λ o. runLeft o cells out) (ran-short script ls size ok 0 [] q q (cellsOf cells) f))
       go true p =
           let f : size ≤ length (cellsOf cells) = omega (arith, n, leb-true (2 * size) (length cells) p) in
           rw p
-          (ap (λ o. runLeft o cells out) (ran-on script ls size ok (cellsOf cells) f)
-          ∙ roomy _ (loaded script ls size ok (cellsOf cells) f) (frame-front ls size cells (below script ls size ok) bytes f))
+          (ap (λ o. runLeft o cells out) (ran-on script ls size ok 0 [] q q (cellsOf cells) f)
+          ∙ roomy (done script ls size ok 0 [] q q (cellsOf cells) f) (0 - takes script) (loaded script ls size ok 0 [] q q (cellsOf cells) f) (frame-front ls size cells (below script ls size ok) bytes f))
+
+  run-is : runEntry base (listText ls size) cells out ≡ togetherOn (accepted ls size) (means script []) cells out
+  unfolding runEntry ranOn togetherOn runLeft
+  run-is = go (lacking 0 0 ls) refl
+    where
+      go : (o : Option ℕ) → lacking 0 0 ls ≡ o → runEntry base (listText ls size) cells out ≡ togetherOn (accepted ls size) (means script []) cells out
+      go (some i) e = rw (e, togetherOn) (ap (λ o. runLeft o cells out) (lacks script ls size ok (cellsOf cells) 0 i [] e))
+      go none e = rw (e, togetherOn) (run-all (omega (arith, taken-by ls 0 0 e, as-many script ls size ok)))
 
 -- ---- by what translate answered
 
@@ -80,7 +93,7 @@ module _ (script page : List ℕ) (r : ℕ) (page′ : List ℕ) (said : Transla
       subst (λ (x : Running). Leaves x a cells′ out′)
       (ap (λ (t : List ℕ). runEntry base t cells out) (l .is)
       ∙ run-is script (l .lines) (l .size) (l .ok) cells out bytes
-      ∙ ap (λ (o : Outcome). togetherOn o (means script) cells out) (sym (l .ok)))
+      ∙ ap (λ (o : Outcome). togetherOn o (means script []) cells out) (sym (l .ok)))
       run
 
   -- 17 is no answer here: every list goes on the page
@@ -88,7 +101,7 @@ module _ (script page : List ℕ) (r : ℕ) (page′ : List ℕ) (said : Transla
   unfolding together translateEntry togetherOn listLeft if_then_else_
   refused-both room k cells out = go (translated base (edition1 8) script) (come script) (said .answered)
     where
-      go : (o : Outcome) → Comes o → r ≡ listLeft o page .answer → Leaves (togetherOn o (means script) cells out) r cells out
+      go : (o : Outcome) → Comes o → r ≡ listLeft o page .answer → Leaves (togetherOn o (means script []) cells out) r cells out
       go _ (to-stop n i a b c) e = record { answered = e; cells-left = refl; out-left = refl }
       go _ (to-list {ls = ls} {size = size} a) e =
           let x : r ≡ length (listText ls size) = rw (le-leb (length (listText ls size)) (length page) (omega arith), if_then_else_) at e in
@@ -97,19 +110,20 @@ module _ (script page : List ℕ) (r : ℕ) (page′ : List ℕ) (said : Transla
 -- ---- of the promise
 
 -- demand 3: an answer below 2^32 counts the bytes of the script's meaning, and they lie at the front of out
-pub together-prints : (script cells out : List ℕ) (r : ℕ) (cells′ out′ : List ℕ) → Leaves (together script cells out) r cells′ out′ → Accepts r → PrintsMeaning script out r out′
+pub together-prints : (script cells out : List ℕ) (r : ℕ) (cells′ out′ : List ℕ) → Leaves (together script cells out) r cells′ out′ → Accepts r → PrintsMeaning script [] out r out′
 unfolding together togetherOn if_then_else_
 together-prints script cells out r cells′ out′ h k = go (translated base (edition1 8) script) (come script) h
   where
-    go : (o : Outcome) → Comes o → Leaves (togetherOn o (means script) cells out) r cells′ out′ → PrintsMeaning script out r out′
+    go : (o : Outcome) → Comes o → Leaves (togetherOn o (means script []) cells out) r cells′ out′ → PrintsMeaning script [] out r out′
     go _ (to-stop n i a b c) h = absurd (omega (arith, h .answered))
-    go _ (to-list {ls = ls} {size = size} a) h = on (leb (2 * size) (length cells) && leb (7 * length (means script)) (length out)) h
+    go _ (to-list {ls = ls} {size = size} a) h = on (lacking 0 0 ls) (leb (2 * size) (length cells) && leb (7 * length (means script [])) (length out)) h
       where
-        on : (b : Bool)
-            → Leaves (if b then worked ls size (means script) cells out else refusal 17 0 cells out) r cells′ out′
-            → PrintsMeaning script out r out′
-        on true h = record { count = h .answered; text = h .out-left }
-        on false h = absurd (omega (arith, h .answered))
+        on : (o : Option ℕ) (b : Bool)
+            → Leaves (elim o [ some i ↦ refusal 23 i cells out | none ↦ if b then worked ls size (means script []) cells out else refusal 17 0 cells out ]) r cells′ out′
+            → PrintsMeaning script [] out r out′
+        on (some i) b h = absurd (omega (arith, h .answered))
+        on none true h = record { count = h .answered; text = h .out-left }
+        on none false h = absurd (omega (arith, h .answered))
 
 -- any two results that the promise admits are equal
 pub together-one : (script cells out : List ℕ) (r r′ : ℕ) (cells′ cells″ out′ out″ : List ℕ) → Leaves (together script cells out) r cells′ out′
@@ -117,10 +131,10 @@ pub together-one : (script cells out : List ℕ) (r r′ : ℕ) (cells′ cells�
 together-one script cells out r r′ cells′ cells″ out′ out″ a b = machine.leaves-one a b
 
 -- the two halves of the answer can't be mistaken for each other
-pub together-answer : (script cells out : List ℕ) → Bytes cells → machine.HalvesOf cells out 22 2048 (together script cells out)
+pub together-answer : (script cells out : List ℕ) → Bytes cells → machine.HalvesOf cells out 23 2048 (together script cells out)
 unfolding together togetherOn base
 together-answer script cells out bytes = go (translated base (edition1 8) script) refl (come script)
   where
-    go : (o : Outcome) → translated base (edition1 8) script ≡ o → Comes o → machine.HalvesOf cells out 22 2048 (togetherOn o (means script) cells out)
-    go _ e (to-stop n i a b c) = by-number _ _ _ _ _ n i (omega arith) a b c (refl, refl)
-    go _ e (to-list {ls = ls} {size = size} a) = subst (machine.HalvesOf cells out 22 2048) (run-is script ls size e cells out bytes) (machine.run-halves 22 (omega arith) base (omega arith) (listText ls size) cells out)
+    go : (o : Outcome) → translated base (edition1 8) script ≡ o → Comes o → machine.HalvesOf cells out 23 2048 (togetherOn o (means script []) cells out)
+    go _ e (to-stop n i a b c) = by-number _ _ _ _ _ n i (omega arith) a (omega arith) c (refl, refl)
+    go _ e (to-list {ls = ls} {size = size} a) = subst (machine.HalvesOf cells out 23 2048) (run-is script ls size e cells out bytes) (machine.run-halves 23 (omega arith) base (omega arith) (listText ls size) cells out)
