@@ -77,7 +77,7 @@ run-left _ (running.to-end {r = x} a) cells out h r cells′ out′ l =
     written (rw (e, if_then_else_) at (l .answered)) (omega arith) (rw (e, if_then_else_) at (l .out-left))
 
 -- the program's own cells
-zero-cells : (n : ℕ) → cellsOf (replicate (2 * n) 0) ≡ replicate n 0
+pub zero-cells : (n : ℕ) → cellsOf (replicate (2 * n) 0) ≡ replicate n 0
 unfolding cellsOf
 zero-cells zero = refl
 zero-cells (suc n) = let e : 2 * suc n ≡ suc (suc (2 * n)) = omega arith in rw e (ap (λ (l : List ℕ). 0 ∷ l) (zero-cells n))

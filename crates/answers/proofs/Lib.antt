@@ -1,2 +1,4 @@
 pub mod Printed
 pub mod Answers
+pub mod Beside
+pub mod Told

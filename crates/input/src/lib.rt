@@ -69,6 +69,21 @@ pub fn read_argument(k: usize, buf: &mut [u8]) -> Input
     read_file(&path[..n], buf)
 }
 
+// Opens the file that argument k names: a descriptor, or less than 0 and a word on standard error.
+pub fn open_argument(k: usize) -> i32 {
+    let mut path = io::buffer();
+    let n = os::arg(k, &mut path);
+    if os::errno() != 0 {
+        os::fail(b"argument");
+        return -1;
+    }
+    let fd = os::open_read(&path[..n]);
+    if fd < 0 {
+        os::fail(&path[..n]);
+    }
+    fd
+}
+
 pub fn read_input(buf: &mut [u8]) -> Input
     ensures { λ r. ⌜ Within r (length (now (buf .entry))) ⌝ }
 {

@@ -6,6 +6,8 @@ use input::read_input;
 ghost use Rattle.answers.specs.Prints.{Prints};
 ghost use Rattle.programs.specs.Printed.{printedBy};
 
+pub mod beside; // the running program with a recording
+
 pub enum Program {
     Translator,
     Runner,

@@ -1,8 +1,13 @@
 // Reads a list from standard input, or from the file that its first argument names, runs it, and prints what its loads show; or `ee`, the
-// number and the line of a refusal.
+// number and the line of a refusal. With a second argument it runs the list beside the recording which that names.
 use programs::Program;
+use programs::beside::respond_beside;
 use programs::respond;
 
 fn main() {
-    respond(Program::Runner);
+    if os::arg_count() < 3 {
+        respond(Program::Runner);
+        return;
+    }
+    respond_beside();
 }
