@@ -1,4 +1,5 @@
 // What test programs share: a long text put together, and an answer shown on a line.
+use text::writing::put_malformed;
 use text::writing::put_refusal;
 ghost use mathlib.Core.Path.{_≡_};
 ghost use Prim.Native.Nat.{_≤_};
@@ -64,6 +65,19 @@ fn back(n: usize, last: usize) -> usize {
     0
 }
 
+// The `ee` line; that of 24 has eight digits for the recording's line.
+fn say_refusal(number: u8, line: u32) {
+    if number == 24 {
+        let mut long = [0u8; 13];
+        put_malformed(&mut long, 0, line);
+        show(&long, 0, 13);
+        return;
+    }
+    let mut short = [0u8; 9];
+    put_refusal(&mut short, 0, number, (line % 65536) as u16);
+    show(&short, 0, 9);
+}
+
 // What was answered: the last of r bytes of text, `-` where there are none; or the `ee` line.
 pub fn say(r: u64, text: &[u8], last: usize) {
     if r < 4294967296 {
@@ -74,12 +88,5 @@ pub fn say(r: u64, text: &[u8], last: usize) {
         show(text, back(n, last), n);
         return;
     }
-    let mut line = [0u8; 9];
-    put_refusal(
-        &mut line,
-        0,
-        (r / 4294967296 % 256) as u8,
-        (r % 65536) as u16,
-    );
-    show(&line, 0, 9);
+    say_refusal((r / 4294967296 % 256) as u8, (r % 4294967296) as u32);
 }

@@ -110,6 +110,16 @@ fn needs() {
     case(b"26   ", b"26\n900000\n", 6, 14);
 }
 
+// 14 (W-205), with no recording beside the list.
+fn sampled() {
+    case(b"14   ", b"140000\n900001\n", 6, 14);
+    case(b"14-  ", b"14\n900001\n", 6, 14);
+    case(b"14+  ", b"1400000001\n900001\n", 6, 14);
+    case(b"14=  ", b"140000\n140001\n900001\n", 6, 14);
+    case(b"A151 ", b"0f0000\n1000000005\n140000\n900001\n", 6, 14);
+    case(b"A101 ", b"140000\n900001\n", 0, 0);
+}
+
 // Line 2,048, as a size line or not.
 fn late() {
     long(b"A15  ", 2048, b"");
@@ -151,6 +161,7 @@ fn main() {
     sized();
     shown();
     needs();
+    sampled();
     late();
     last();
     obeyed();

@@ -1,4 +1,4 @@
-// Document 01's sessions A to K and its five to run, and scripts of ours, with needs and without: for each its label, what `translate` makes of it, the list or the `ee`
+// Document 01's sessions A to K and its five to run, and scripts of ours, with needs, with samples and without: for each its label, what `translate` makes of it, the list or the `ee`
 // line, and behind > what `translate_and_run` prints on a frame of so many cells. LF is shown as /, nothing as -. Of a long list the last two
 // lines are shown.
 use cases::put;
@@ -190,6 +190,33 @@ fn needs() {
     );
 }
 
+// 14 (W-205): its line has the address, and its list without a recording gets 23.
+fn samples() {
+    case(b"Sa   ", b"06\n140000\n110000\n", 1024, 1);
+    // A Freed handle that is still held may be written.
+    case(b"Sb   ", b"06\n0e0000\n140000\n110000\n", 1024, 1);
+    // Handle 1 has slot 0: the line has the address, not the handle.
+    case(b"Sc   ", b"06\n0c0000\n06\n140001\n", 1024, 1);
+    // The allocation is written, for 12 too; a need's handle may be written.
+    case(
+        b"Sd   ",
+        b"200000\n230000\n0900070000\n140000\n120007\n",
+        1024,
+        1,
+    );
+    // 23 before 17.
+    case(b"Se   ", b"06\n06\n140001\n", 1024, 0);
+}
+
+// As 10 is refused: 1, 13, 14. A write by 14 of another allocation doesn't count for 15.
+fn samples_refused() {
+    case(b"S1   ", b"14\n", 1024, 0);
+    case(b"S1+  ", b"1400000001\n", 1024, 0);
+    case(b"S13  ", b"140000\n", 1024, 0);
+    case(b"S14  ", b"01\n06\n020001\n140000\n", 1024, 1);
+    case(b"S15  ", b"06\n06\n140000\n110001\n", 1024, 2);
+}
+
 // 13 of a need's handle; 4 of a closed scope, whose index was used again; 18, 21.
 fn needs_refused() {
     case(b"N13  ", b"200000\n230000\n0c0000\n", 1024, 1);
@@ -244,6 +271,8 @@ fn main() {
     needs_refused();
     needs_full();
     needs_many();
+    samples();
+    samples_refused();
     // one cell less than its size
     whole_session(b"C-   ", 2);
 }
