@@ -1,7 +1,8 @@
 //! Faults that can be planted in the model, to see that a comparison finds them.
 
 /// Each is a mistake that a reader of 01 or 02 may make; the first four are 01's "tempting and wrong". `ClearLeavesHead` is 01's own
-/// first wording of `remove`, which W-202 amends: no script shows it, only bare slots do. From `NeedHandleFreed` on they are of needs.
+/// first wording of `remove`, which W-202 amends: no script shows it, only bare slots do. From `NeedHandleFreed` on they are of needs,
+/// from `SampleUnwritten` on of samples and recordings.
 #[derive(Clone, Copy, Debug, PartialEq, Eq)]
 pub enum Fault {
     SearchFromZero,
@@ -42,13 +43,31 @@ pub enum Fault {
     NeedFreesQuietly,
     /// 25 of an assigned need frees the handle
     AssignedFrees,
+    /// 14 doesn't mark the allocation written
+    SampleUnwritten,
+    /// 20 of a 14 comes after 24 and 23
+    SampleHighLate,
+    /// 23 comes before 24
+    TooFewFirst,
+    /// 24 shows the line after the malformed one
+    MalformedLineNext,
+    /// a last line that lacks its LF counts as a sample
+    TornSampleTaken,
+    /// a cut inside a line loses the digit before it
+    CutLosesDigit,
+    /// the second 14 takes the first one's sample
+    SampleTwice,
+    /// the second 14 takes the third sample
+    SampleSkipped,
+    /// the number left over is that of the samples kept
+    LeftOfKept,
 }
 
 /// At most one fault.
 pub type Plant = Option<Fault>;
 
 /// All faults by the name that `--plant` takes.
-pub const FAULTS: [(&str, Fault); 28] = [
+pub const FAULTS: [(&str, Fault); 37] = [
     ("search-from-zero", Fault::SearchFromZero),
     ("run-in-gap", Fault::RunInGap),
     ("low-half", Fault::LowHalf),
@@ -77,6 +96,15 @@ pub const FAULTS: [(&str, Fault); 28] = [
     ("need-leaves-handle", Fault::NeedLeavesHandle),
     ("need-frees-quietly", Fault::NeedFreesQuietly),
     ("assigned-frees", Fault::AssignedFrees),
+    ("sample-unwritten", Fault::SampleUnwritten),
+    ("sample-high-late", Fault::SampleHighLate),
+    ("too-few-first", Fault::TooFewFirst),
+    ("malformed-line-next", Fault::MalformedLineNext),
+    ("torn-sample-taken", Fault::TornSampleTaken),
+    ("cut-loses-digit", Fault::CutLosesDigit),
+    ("sample-twice", Fault::SampleTwice),
+    ("sample-skipped", Fault::SampleSkipped),
+    ("left-of-kept", Fault::LeftOfKept),
 ];
 
 impl Fault {

@@ -1,8 +1,15 @@
-//! Document 01, "Script frames", and W-201 of document 02: a frame, and its text.
+//! Document 01, "Script frames", and W-201 and W-205 of document 02: a frame, and its text.
 
 use crate::NeedNumber;
 
-/// In the order of the opcodes 01 to 12, then 20 to 25.
+/// Where the value of a write comes from: 10 has it, 14 "writes the next recorded sample" (W-205).
+#[derive(Clone, Copy, Debug, PartialEq, Eq)]
+pub enum Source {
+    Constant(u16),
+    NextSample,
+}
+
+/// In the order of the opcodes 01 to 14, then 20 to 25; 10 and 14 are one.
 #[derive(Clone, Copy, Debug, PartialEq, Eq)]
 pub enum Frame {
     Child,
@@ -20,7 +27,7 @@ pub enum Frame {
     FreeQuietly(u16),
     Forget(u16),
     Drain,
-    Write { handle: u16, value: u16 },
+    Write { handle: u16, source: Source },
     Read(u16),
     ReadName(u16),
     Defer(u16),
@@ -49,7 +56,10 @@ impl Frame {
             Frame::FreeQuietly(_) => 0x0d,
             Frame::Forget(_) => 0x0e,
             Frame::Drain => 0x0f,
-            Frame::Write { .. } => 0x10,
+            Frame::Write { source, .. } => match source {
+                Source::Constant(_) => 0x10,
+                Source::NextSample => 0x14,
+            },
             Frame::Read(_) => 0x11,
             Frame::ReadName(_) => 0x12,
             Frame::Defer(_) => 0x20,
@@ -82,14 +92,20 @@ impl Frame {
             (0x0d, [h]) => Frame::FreeQuietly(*h),
             (0x0e, [h]) => Frame::Forget(*h),
             (0x0f, []) => Frame::Drain,
-            (0x10, [handle, value]) => Frame::Write {
-                handle: *handle,
-                value: *value,
-            },
             (0x11, [h]) => Frame::Read(*h),
             (0x12, [name]) => Frame::ReadName(*name),
+            (0x10 | 0x14, _) => return Frame::of_writes(opcode, operands),
             _ => return Frame::of_needs(opcode, operands),
         })
+    }
+
+    fn of_writes(opcode: u8, operands: &[u16]) -> Option<Frame> {
+        let (handle, source) = match (opcode, operands) {
+            (0x10, [handle, value]) => (*handle, Source::Constant(*value)),
+            (0x14, [handle]) => (*handle, Source::NextSample),
+            _ => return None,
+        };
+        Some(Frame::Write { handle, source })
     }
 
     fn of_needs(opcode: u8, operands: &[u16]) -> Option<Frame> {
@@ -113,7 +129,10 @@ impl Frame {
             Frame::ReadName(x) | Frame::Defer(x) | Frame::Assigned(x) => vec![x],
             Frame::AllocNeed(n) | Frame::Output(n) | Frame::FreeNeed(n) => vec![n.0],
             Frame::Define { name, handle } => vec![name, handle],
-            Frame::Write { handle, value } => vec![handle, value],
+            Frame::Write { handle, source } => match source {
+                Source::Constant(value) => vec![handle, value],
+                Source::NextSample => vec![handle],
+            },
         }
     }
 

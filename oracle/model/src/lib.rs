@@ -6,15 +6,19 @@ mod fault;
 mod frame;
 mod list;
 mod machine;
+mod recording;
 mod scopes;
 mod session;
 mod slots;
 mod text;
 
 pub use fault::{Fault, Plant, FAULTS};
-pub use frame::Frame;
+pub use frame::{Frame, Source};
 pub use list::{print_refusal, write_list, Line};
-pub use machine::{read_list, run, runner};
+pub use machine::{read_list, recorded_runner, run, run_recorded, run_recorded_with, runner, Lent};
+pub use recording::{
+    is_state, read_recording, read_recording_with, samples, samples_from, RECORDING_LINES,
+};
 pub use scopes::{Id, Scopes};
 pub use session::{
     play, translate, translate_with, translator, translator_with, NeedNumber, Session,
@@ -31,11 +35,18 @@ pub const NEEDS: usize = 64;
 /// "Text buffers: 32,768 bytes; a program refuses longer input by 17."
 pub const BUFFER: usize = 32768;
 
-/// "A refusal is answered as a number and a line (from 0; line 0 for 17)."
+/// "A refusal is answered as a number and a line (from 0; line 0 for 17)." The line of 24 is the recording's.
 #[derive(Clone, Copy, Debug, PartialEq, Eq)]
 pub struct Refusal {
     pub number: u8,
     pub line: usize,
+}
+
+impl Refusal {
+    /// As the exported functions answer it: the number in the high 32 bits, the line in the low 32.
+    pub fn answer(self) -> u64 {
+        (u64::from(self.number) << 32) + self.line as u64
+    }
 }
 
 /// A refusal in one line.

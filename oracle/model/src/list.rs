@@ -11,9 +11,9 @@ pub struct Line {
 
 const DIGITS: &[u8; 16] = b"0123456789abcdef";
 
-fn write_digits(value: u16, digits: u32, out: &mut Vec<u8>) {
+pub fn write_digits(value: usize, digits: u32, out: &mut Vec<u8>) {
     for place in (0..digits).rev() {
-        out.push(DIGITS[usize::from(value >> (4 * place)) % 16]);
+        out.push(DIGITS[(value >> (4 * place)) % 16]);
     }
 }
 
@@ -21,7 +21,7 @@ fn write_digits(value: u16, digits: u32, out: &mut Vec<u8>) {
 pub fn write_line(opcode: u8, operands: &[u16], out: &mut Vec<u8>) {
     write_digits(opcode.into(), 2, out);
     for operand in operands {
-        write_digits(*operand, 4, out);
+        write_digits((*operand).into(), 4, out);
     }
     out.push(b'\n');
 }
@@ -36,11 +36,13 @@ pub fn write_list(lines: &[Line], size: usize) -> Vec<u8> {
     out
 }
 
-/// "our programs then print `ee`, the number in two hex digits, the line in four"
+/// "our programs then print `ee`, the number in two hex digits, the line in four"; W-205: "24 shows the recording's line, in eight
+/// digits"
 pub fn print_refusal(refusal: Refusal) -> Vec<u8> {
     let mut out = b"ee".to_vec();
+    let digits = if refusal.number == 24 { 8 } else { 4 };
     write_digits(refusal.number.into(), 2, &mut out);
-    write_digits(refusal.line as u16, 4, &mut out);
+    write_digits(refusal.line, digits, &mut out);
     out.push(b'\n');
     out
 }

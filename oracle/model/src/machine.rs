@@ -1,5 +1,8 @@
-//! The frame machine: lists, read and obeyed.
+//! The frame machine: lists, read and obeyed, with a recording beside them (W-205).
 
+use crate::fault::{Fault, Plant};
+use crate::list::write_digits;
+use crate::recording::{read_recording, Reader};
 use crate::text::{parts, split, RawLine};
 use crate::{print_refusal, refused, Line, Refusal, BUFFER, LINES, SLOTS};
 
@@ -13,12 +16,12 @@ fn size_line(line: &RawLine<'_>) -> Option<u16> {
 
 /// "01 adds its number; 06, 07, 0a, 0b add the address; 08 the first address or `ffff`; 0f a count and the addresses;
 /// 10 is address and value; 11 and 12 the address; others the opcode only." W-201: "20 to 22 answer the need's number; 23
-/// and 24 the address, or `ffff` for none or discard."
+/// and 24 the address, or `ffff` for none or discard." W-205: "its list line is `14` and the address".
 fn list_line(line: &RawLine<'_>) -> Option<Line> {
     let (opcode, operands) = parts(line, None)?;
     let right = match opcode {
         0x01 | 0x06 | 0x07 | 0x08 | 0x0a | 0x0b | 0x11 | 0x12 => operands.len() == 1,
-        0x20..=0x24 => operands.len() == 1,
+        0x14 | 0x20..=0x24 => operands.len() == 1,
         0x02..=0x05 | 0x09 | 0x0c | 0x0d | 0x0e | 0x25 => operands.is_empty(),
         0x0f => operands.first().map(|n| usize::from(*n) + 1) == Some(operands.len()),
         0x10 => operands.len() == 2,
@@ -50,10 +53,10 @@ pub fn read_list(text: &[u8]) -> Result<(Vec<Line>, usize), Refusal> {
     refused(1, raw.len())
 }
 
-/// 20: "list address (10, 11, 12) not below size"
-fn check_addresses(lines: &[Line], size: usize) -> Result<(), Refusal> {
+/// 20: "list address (10, 11, 12) not below size"; W-205: "which covers 14 too"
+fn check_addresses(lines: &[Line], size: usize, covered: &[u8]) -> Result<(), Refusal> {
     for (i, line) in lines.iter().enumerate() {
-        let touches = matches!(line.opcode, 0x10..=0x12);
+        let touches = covered.contains(&line.opcode);
         if touches && usize::from(line.operands[0]) >= size {
             return refused(20, i);
         }
@@ -61,46 +64,162 @@ fn check_addresses(lines: &[Line], size: usize) -> Result<(), Refusal> {
     Ok(())
 }
 
-/// How many bytes of `out` were written. "a cell is two bytes there, high first"
-pub fn run(list: &[u8], cells: &mut [u8], out: &mut [u8]) -> Result<usize, Refusal> {
+/// 23: "the first 14 line without a sample"
+fn check_samples(lines: &[Line], samples: usize) -> Result<(), Refusal> {
+    let sampled = lines.iter().enumerate().filter(|(_, l)| l.opcode == 0x14);
+    match sampled.map(|(i, _)| i).nth(samples) {
+        Some(i) => refused(23, i),
+        None => Ok(()),
+    }
+}
+
+/// All refusals but 29 and 17: 1, 2; 20; 24; 23. The lines, the size, and how many samples the recording has.
+fn checked(
+    list: &[u8],
+    reader: &Reader,
+    plant: Plant,
+) -> Result<(Vec<Line>, usize, usize), Refusal> {
     let (lines, size) = read_list(list)?;
-    check_addresses(&lines, size)?;
-    let loads = lines.iter().filter(|l| matches!(l.opcode, 0x11 | 0x12));
-    if cells.len() / 2 < size || out.len() < 7 * loads.count() {
+    let late = plant == Some(Fault::SampleHighLate);
+    check_addresses(&lines, size, if late { &TOUCHES[..3] } else { &TOUCHES })?;
+    if plant == Some(Fault::TooFewFirst) {
+        check_samples(&lines, reader.line)?;
+    }
+    let samples = reader.ended(plant)?;
+    check_samples(&lines, samples)?;
+    if late {
+        check_addresses(&lines, size, &TOUCHES)?;
+    }
+    Ok((lines, size, samples))
+}
+
+/// The lines whose address is a cell's.
+const TOUCHES: [u8; 4] = [0x10, 0x11, 0x12, 0x14];
+
+/// What a run is lent: cells, two bytes each, high first; room for what the loads show; four bytes for the number left over.
+pub struct Lent<'a> {
+    pub cells: &'a mut [u8],
+    pub out: &'a mut [u8],
+    pub left: &'a mut [u8],
+}
+
+fn count(lines: &[Line], opcodes: &[u8]) -> usize {
+    let of = |line: &&Line| opcodes.contains(&line.opcode);
+    lines.iter().filter(of).count()
+}
+
+/// How many bytes of `out` were written. `state` is the reader's after the whole recording, and `kept` the samples that it kept.
+pub fn run_recorded_with(
+    list: &[u8],
+    state: u64,
+    kept: &[u8],
+    lent: Lent<'_>,
+    plant: Plant,
+) -> Result<usize, Refusal> {
+    let Some(reader) = Reader::of(state) else {
+        return refused(29, 0);
+    };
+    let (lines, size, samples) = checked(list, &reader, plant)?;
+    let taken = count(&lines, &[0x14]);
+    let short = lent.cells.len() / 2 < size
+        || lent.out.len() < 7 * count(&lines, &[0x11, 0x12])
+        || lent.left.len() < 4
+        || kept.len() / 2 < taken;
+    if short {
         return refused(17, 0);
     }
+    let left = match plant {
+        Some(Fault::LeftOfKept) => samples.min(kept.len() / 2) - taken,
+        _ => samples - taken,
+    };
+    lent.left[..4].copy_from_slice(&(left as u32).to_be_bytes());
+    Ok(obey(&lines, size, kept, lent, plant))
+}
+
+/// Which of the samples the 14 takes before which so many were taken.
+fn next_sample(taken: usize, plant: Plant) -> usize {
+    match plant {
+        Some(Fault::SampleTwice) if taken == 1 => 0,
+        Some(Fault::SampleSkipped) if taken == 1 => 2,
+        _ => taken,
+    }
+}
+
+fn obey(lines: &[Line], size: usize, kept: &[u8], lent: Lent<'_>, plant: Plant) -> usize {
+    let Lent { cells, out, .. } = lent;
     cells[..2 * size].fill(0);
-    let mut written = 0;
-    for line in &lines {
+    let (mut written, mut taken) = (0, 0);
+    for line in lines.iter().filter(|l| TOUCHES.contains(&l.opcode)) {
+        let at = 2 * usize::from(line.operands[0]);
         match line.opcode {
-            0x10 => {
-                let at = 2 * usize::from(line.operands[0]);
-                cells[at..at + 2].copy_from_slice(&line.operands[1].to_be_bytes());
+            0x10 => cells[at..at + 2].copy_from_slice(&line.operands[1].to_be_bytes()),
+            0x14 => {
+                let sample = kept.chunks_exact(2).nth(next_sample(taken, plant));
+                cells[at..at + 2].copy_from_slice(sample.unwrap_or(&[0, 0]));
+                taken += 1;
             }
-            0x11 | 0x12 => {
-                let at = 2 * usize::from(line.operands[0]);
+            _ => {
                 let shown = format!("a0{:02x}{:02x}\n", cells[at], cells[at + 1]);
                 out[written..written + 7].copy_from_slice(shown.as_bytes());
                 written += 7;
             }
-            _ => {}
         }
     }
-    Ok(written)
+    written
 }
 
-/// The run program: its input and what it prints. It lends 1,024 cells.
-pub fn runner(input: &[u8]) -> Vec<u8> {
+/// See [`run_recorded_with`].
+pub fn run_recorded(
+    list: &[u8],
+    state: u64,
+    kept: &[u8],
+    lent: Lent<'_>,
+) -> Result<usize, Refusal> {
+    run_recorded_with(list, state, kept, lent, None)
+}
+
+/// The same with no samples.
+pub fn run(list: &[u8], cells: &mut [u8], out: &mut [u8]) -> Result<usize, Refusal> {
+    let left = &mut [0; 4];
+    run_recorded(list, 0, &[], Lent { cells, out, left })
+}
+
+/// What a run program prints but for its last line, and that line's number: it lends 1,024 cells and keeps 2,048 samples.
+fn program(input: &[u8], recording: &[u8]) -> Result<(Vec<u8>, usize), Refusal> {
     if input.len() > BUFFER {
-        return print_refusal(Refusal {
-            number: 17,
-            line: 0,
-        });
+        return refused(17, 0);
     }
-    let mut cells = [0; 2 * SLOTS];
+    let mut kept = [0; 2 * LINES];
+    let state = read_recording(0, &mut kept, recording);
+    let (cells, left) = (&mut [0; 2 * SLOTS], &mut [0; 4]);
     let mut out = vec![0; BUFFER];
-    match run(input, &mut cells, &mut out) {
-        Ok(written) => out[..written].to_vec(),
+    let lent = Lent {
+        cells,
+        out: &mut out,
+        left,
+    };
+    let written = run_recorded(input, state, &kept, lent)?;
+    out.truncate(written);
+    Ok((out, u32::from_be_bytes(*left) as usize))
+}
+
+/// The run program without a recording: its input and what it prints.
+pub fn runner(input: &[u8]) -> Vec<u8> {
+    match program(input, b"") {
+        Ok((loads, _)) => loads,
+        Err(refusal) => print_refusal(refusal),
+    }
+}
+
+/// The run program with one: a last line has "`a1` and eight digits".
+pub fn recorded_runner(input: &[u8], recording: &[u8]) -> Vec<u8> {
+    match program(input, recording) {
+        Ok((mut printed, left)) => {
+            printed.extend_from_slice(b"a1");
+            write_digits(left, 8, &mut printed);
+            printed.push(b'\n');
+            printed
+        }
         Err(refusal) => print_refusal(refusal),
     }
 }

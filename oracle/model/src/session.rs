@@ -9,8 +9,8 @@ use needs::Need;
 use crate::fault::{Fault, Plant};
 use crate::scopes::Binding;
 use crate::{
-    print_refusal, read_script, refused, write_list, Frame, Id, Line, Refusal, Scopes, BUFFER,
-    HANDLES,
+    print_refusal, read_script, refused, write_list, Frame, Id, Line, Refusal, Scopes, Source,
+    BUFFER, HANDLES,
 };
 
 /// The kinds that a script can reach.
@@ -92,7 +92,7 @@ impl Session {
             Frame::FreeQuietly(h) => self.free(h.into(), false),
             Frame::Forget(h) => self.forget(h.into()),
             Frame::Drain => Ok(self.drain()),
-            Frame::Write { handle, value } => self.write(handle.into(), value),
+            Frame::Write { handle, source } => self.write(handle.into(), source),
             Frame::Read(h) => self.read(h.into()),
             Frame::ReadName(name) => self.read_name(name),
             Frame::Defer(s) => self.defer(s),
@@ -260,16 +260,20 @@ impl Session {
         shown
     }
 
-    /// 13, 14; "A write makes a Dangling handle Local."
-    fn write(&mut self, handle: usize, value: u16) -> Step {
+    /// 13, 14; "A write makes a Dangling handle Local." W-205: 14 "is refused as 10 is; its list line is `14` and the address"
+    fn write(&mut self, handle: usize, source: Source) -> Step {
         self.known(handle)?;
-        let address = self.held(handle)?;
+        let address = self.held(handle)? as u16;
+        let sampled = source == Source::NextSample;
         let found = &mut self.handles[handle];
-        found.written = true;
+        found.written |= !(sampled && self.plant == Some(Fault::SampleUnwritten));
         if found.kind == Kind::Dangling {
             found.kind = Kind::Local;
         }
-        Ok(vec![address as u16, value])
+        match source {
+            Source::Constant(value) => Ok(vec![address, value]),
+            Source::NextSample => Ok(vec![address]),
+        }
     }
 
     /// 13, 14, 15

@@ -1,7 +1,7 @@
 //! Every script of up to so many frames over a small alphabet. A script that goes on after a refused frame says nothing
 //! new (its answer is fixed by then, and after a refusal nothing is compared), so it isn't made.
 
-use model::{Frame, NeedNumber, Session};
+use model::{Frame, NeedNumber, Session, Source};
 
 /// All eighteen frames of 01, 37 of them: two scopes besides root, two names, three handles, runs of 0 to 2.
 pub fn alphabet() -> Vec<Frame> {
@@ -13,7 +13,7 @@ pub fn alphabet() -> Vec<Frame> {
     all.extend([Frame::Linear(0), Frame::Linear(1), Frame::Linear(2)]);
     for handle in 0..2 {
         all.push(Frame::Define { name: 7, handle });
-        all.push(Frame::Write { handle, value: 255 });
+        all.push(write(handle));
         all.extend([Frame::Free(handle), Frame::Read(handle)]);
         all.extend([Frame::FreeQuietly(handle), Frame::Forget(handle)]);
     }
@@ -46,15 +46,37 @@ pub fn needs_alphabet() -> Vec<Frame> {
         all.extend([Frame::AllocNeed(need), Frame::Output(need)]);
         all.push(Frame::FreeNeed(need));
         all.extend([Frame::Free(n), Frame::Read(n)]);
-        all.push(Frame::Write {
-            handle: n,
-            value: 255,
-        });
+        all.push(write(n));
     }
     all.extend([Frame::FreeQuietly(0), Frame::Forget(0)]);
     all.push(Frame::Define { name: 7, handle: 0 });
     all.extend([Frame::Get(7), Frame::ReadName(7)]);
     all
+}
+
+/// Samples and what writes, reads, binds and ends the allocations they go to: 25.
+pub fn samples_alphabet() -> Vec<Frame> {
+    let mut all = vec![Frame::Child, Frame::PopLast, Frame::Alloc, Frame::Drain];
+    all.extend([Frame::Pop(1), Frame::AllocIn(0), Frame::Linear(2)]);
+    all.extend([Frame::Defer(0), Frame::AllocNeed(NeedNumber(0))]);
+    all.push(Frame::FreeNeed(NeedNumber(0)));
+    for handle in 0..3 {
+        let source = Source::NextSample;
+        all.push(Frame::Write { handle, source });
+    }
+    for handle in 0..2 {
+        all.push(write(handle));
+        all.extend([Frame::Free(handle), Frame::Read(handle)]);
+        all.push(Frame::Define { name: 7, handle });
+    }
+    all.extend([Frame::FreeQuietly(0), Frame::Forget(0)]);
+    all.extend([Frame::Take(7), Frame::ReadName(7)]);
+    all
+}
+
+fn write(handle: u16) -> Frame {
+    let source = Source::Constant(255);
+    Frame::Write { handle, source }
 }
 
 /// False once the taker wants no more.

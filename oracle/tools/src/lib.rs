@@ -21,6 +21,8 @@ pub mod ours;
 pub mod phases;
 pub mod profile;
 pub mod random;
+pub mod recorded;
+pub mod recordings;
 pub mod records;
 pub mod rng;
 pub mod sessions;

@@ -1,8 +1,9 @@
 //! The proved functions themselves, linked: a call a text, with no process between.
 
 use crate::ours::Ours;
+use crate::recorded::Recorder;
 use mboxalind::Answer;
-use model::{print_refusal, Refusal, BUFFER, SLOTS};
+use model::{print_refusal, Lent, Refusal, BUFFER, SLOTS};
 
 /// What lent memory holds before a call.
 const LENT: u8 = 0x5a;
@@ -94,5 +95,26 @@ impl Ours for Run {
 
     fn name(&self) -> String {
         "run, linked".into()
+    }
+}
+
+/// `read_recording` and `run_recorded`.
+pub struct Recorded;
+
+impl Recorder for Recorded {
+    fn read(&mut self, state: u64, samples: &mut [u8], part: &[u8]) -> u64 {
+        mboxalind::read_recording(state, samples, part)
+    }
+
+    fn run(&mut self, list: &[u8], state: u64, samples: &[u8], lent: Lent<'_>) -> u64 {
+        let Lent { cells, out, left } = lent;
+        match mboxalind::run_recorded(list, state, samples, cells, out, left) {
+            Answer::Written(bytes) => bytes as u64,
+            Answer::Refused(r) => (u64::from(r.number) << 32) + u64::from(r.line),
+        }
+    }
+
+    fn name(&self) -> String {
+        "read_recording and run_recorded, linked".into()
     }
 }

@@ -1,15 +1,25 @@
-//! Lists for the run program: those of scripts made by chance, some damaged, some with other addresses and sizes.
+//! Lists for the run program: those of scripts made by chance, some damaged, some with other addresses and sizes; some with samples.
 
 use crate::random;
 use crate::rng::Rng;
 use model::Frame;
 
+/// What lines by chance are like.
+struct Lines {
+    /// an address is at the size or above: once in so many
+    high: usize,
+    sampled: bool,
+}
+
 /// A line by chance: mostly well formed, with addresses about the size.
-fn line(rng: &mut Rng, size: usize) -> String {
-    let address = match rng.below(12) {
+fn line(rng: &mut Rng, size: usize, lines: &Lines) -> String {
+    let address = match rng.below(lines.high) {
         0 => size + rng.below(2),
         _ => rng.below(size),
     };
+    if lines.sampled && rng.once_in(3) {
+        return format!("14{address:04x}\n");
+    }
     match rng.below(8) {
         0 | 1 => format!("10{address:04x}{:04x}\n", rng.below(65536)),
         2 => format!("11{address:04x}\n"),
@@ -21,7 +31,7 @@ fn line(rng: &mut Rng, size: usize) -> String {
     }
 }
 
-fn by_chance(rng: &mut Rng) -> Vec<u8> {
+fn by_chance(rng: &mut Rng, kind: &Lines) -> Vec<u8> {
     let size = match rng.below(8) {
         0 => 1023 + rng.below(4),
         _ => 1 + rng.below(20),
@@ -32,18 +42,41 @@ fn by_chance(rng: &mut Rng) -> Vec<u8> {
     };
     let mut list = String::new();
     for _ in 0..lines {
-        list += &line(rng, size);
+        list += &line(rng, size, kind);
     }
     list += &format!("90{size:04x}\n");
     list.into_bytes()
 }
 
+fn of_script(rng: &mut Rng, source: random::Source) -> Vec<u8> {
+    model::translator(&Frame::script(&source(rng).frames))
+}
+
+/// For a run without a recording, so a few have samples.
 pub fn list(rng: &mut Rng) -> Vec<u8> {
     let mut list = match rng.below(3) {
-        0 => model::translator(&Frame::script(&random::any(rng).frames)),
-        _ => by_chance(rng),
+        0 => of_script(rng, random::any),
+        _ => {
+            let sampled = rng.once_in(8);
+            by_chance(rng, &Lines { high: 12, sampled })
+        }
     };
     if rng.once_in(3) {
+        crate::damage::damage_once(rng, &mut list);
+    }
+    list
+}
+
+/// For a run beside a recording: most have samples.
+pub fn sampled(rng: &mut Rng) -> Vec<u8> {
+    let mut list = match rng.below(3) {
+        0 => of_script(rng, random::with_samples),
+        _ => {
+            let (high, sampled) = (150, true);
+            by_chance(rng, &Lines { high, sampled })
+        }
+    };
+    if rng.once_in(8) {
         crate::damage::damage_once(rng, &mut list);
     }
     list

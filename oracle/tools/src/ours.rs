@@ -2,6 +2,7 @@
 
 use model::Plant;
 use std::io::Write;
+use std::path::PathBuf;
 use std::process::{Child, Command, Stdio};
 
 /// The model, a program, or the linked functions (`linked`).
@@ -63,6 +64,44 @@ impl Program {
         // A text fits the pipe. A program that refuses early may leave some of it unread.
         let _ = child.stdin.take().expect("its input").write_all(input);
         child
+    }
+}
+
+/// The run program with a recording: `PROGRAM LIST RECORDING`, two files in a folder for this process alone.
+pub struct RecordedProgram {
+    words: Vec<String>,
+    folder: PathBuf,
+}
+
+impl RecordedProgram {
+    pub fn new(command: &str) -> Self {
+        let folder = std::env::temp_dir().join(format!("recordings-{}", std::process::id()));
+        std::fs::create_dir_all(&folder).expect("a folder for a list and a recording");
+        RecordedProgram {
+            words: Program::new(command).words,
+            folder,
+        }
+    }
+
+    /// What is printed for a list and a recording.
+    pub fn answer(&self, list: &[u8], recording: &[u8]) -> Vec<u8> {
+        let file = |name: &str, bytes: &[u8]| {
+            let path = self.folder.join(name);
+            std::fs::write(&path, bytes).expect("a file is written");
+            path
+        };
+        let output = Command::new(&self.words[0])
+            .args(&self.words[1..])
+            .args([file("list", list), file("recording", recording)])
+            .stdin(Stdio::null())
+            .output();
+        output.expect("the program ends").stdout
+    }
+}
+
+impl Drop for RecordedProgram {
+    fn drop(&mut self) {
+        let _ = std::fs::remove_dir_all(&self.folder);
     }
 }
 

@@ -50,6 +50,14 @@ pub fn sessions_of_needs(comparison: &mut Comparison) {
     comparison.settle();
 }
 
+/// The sessions of samples.
+pub fn sessions_of_samples(comparison: &mut Comparison) {
+    for script in sessions::samples() {
+        comparison.offer(script);
+    }
+    comparison.settle();
+}
+
 /// Damaged texts: by the model only, since the original reads none.
 pub fn damaged_texts(comparison: &mut Comparison, count: u64, seed: u64) {
     let mut rng = Rng::new(seed);

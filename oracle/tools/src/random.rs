@@ -1,6 +1,6 @@
 //! Scripts made by chance. A session of the model goes along, so that most frames are accepted and scripts get long.
 
-use crate::profile::{length, opcode, Profile, PROFILES, WITH_NEEDS};
+use crate::profile::{length, opcode, Profile, PROFILES, WITH_NEEDS, WITH_SAMPLES};
 use crate::rng::Rng;
 use model::{Frame, NeedNumber, Session};
 
@@ -35,11 +35,17 @@ pub fn with_needs(rng: &mut Rng) -> Made {
     by_profile(rng, &WITH_NEEDS)
 }
 
-/// One or the other.
+/// The same with samples, and some needs.
+pub fn with_samples(rng: &mut Rng) -> Made {
+    by_profile(rng, &WITH_SAMPLES)
+}
+
+/// One of them.
 pub fn any(rng: &mut Rng) -> Made {
-    match rng.once_in(3) {
-        true => with_needs(rng),
-        false => script(rng),
+    match rng.below(4) {
+        0 => with_needs(rng),
+        1 => with_samples(rng),
+        _ => script(rng),
     }
 }
 
@@ -147,10 +153,14 @@ impl Maker<'_> {
             0x0f => Frame::Drain,
             0x10 => Frame::Write {
                 handle: self.handle(),
-                value: self.rng.draw() as u16,
+                source: model::Source::Constant(self.rng.draw() as u16),
             },
             0x11 => Frame::Read(self.handle()),
             0x12 => Frame::ReadName(self.name()),
+            0x14 => Frame::Write {
+                handle: self.handle(),
+                source: model::Source::NextSample,
+            },
             0x20 => Frame::Defer(self.scope()),
             0x21 => Frame::Assigned(self.handle()),
             0x22 => Frame::Ignore,

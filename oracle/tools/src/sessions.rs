@@ -1,4 +1,4 @@
-//! 01's sessions, those of needs and the boundaries, as scripts.
+//! 01's sessions, those of needs and of samples and the boundaries, as scripts.
 
 fn text(lines: &str) -> Vec<u8> {
     let mut out = Vec::new();
@@ -148,6 +148,32 @@ const NEEDS: [&str; 50] = [
     "01 200001 080400 020001 080400 230000",
 ];
 
+/// W-205: a sample wherever a constant may be written, each refusal of it, and its text.
+const SAMPLES: [&str; 22] = [
+    "06 140000 110000",
+    "06 0900070000 140000 120007",
+    "06 0900070000 0b0007 140000 120007",
+    "06 140000 1000000005 140000 110000",
+    "080003 140002 140000 0c0002 110000 110002",
+    "06 0c0000 06 140001 110001",
+    "06 0c0000 06 140000",
+    "06 01 140000 020001 110000",
+    "01 06 140000 020001 06 110001",
+    "01 06 020001 140000",
+    "06 05 140000",
+    "070000 05 140000",
+    "06 0e0000 140000 110000",
+    "070000 01 0c0000 140000 110000",
+    "200000 230000 140000 110000 250000 140000",
+    "01 200000 230000 250000 140000 110000",
+    "140000",
+    "06 140001",
+    "06 40*140000 110000",
+    "06 14",
+    "06 1400000000",
+    "06 130000",
+];
+
 /// 256 bindings, one taken, then one that is too many, or one in its place.
 fn bindings() -> Vec<Vec<u8>> {
     let mut full = text("06");
@@ -160,6 +186,10 @@ fn bindings() -> Vec<Vec<u8>> {
 
 pub fn needs() -> Vec<Vec<u8>> {
     NEEDS.iter().map(|s| text(s)).collect()
+}
+
+pub fn samples() -> Vec<Vec<u8>> {
+    SAMPLES.iter().map(|s| text(s)).collect()
 }
 
 pub fn sessions() -> Vec<Vec<u8>> {

@@ -1,6 +1,6 @@
 //! Makes a script that shows a difference small.
 
-use model::{Frame, NeedNumber};
+use model::{Frame, NeedNumber, Source};
 
 type Shows<'a> = &'a mut dyn FnMut(&[u8]) -> bool;
 
@@ -12,7 +12,7 @@ pub fn shrink(script: &[u8], shows: Shows<'_>) -> Vec<u8> {
     }
 }
 
-fn shrink_lines(script: &[u8], shows: Shows<'_>) -> Vec<u8> {
+pub fn shrink_lines(script: &[u8], shows: Shows<'_>) -> Vec<u8> {
     let mut lines: Vec<&[u8]> = script.split_inclusive(|b| *b == b'\n').collect();
     let mut size = lines.len() / 2;
     while size > 0 {
@@ -141,9 +141,9 @@ fn renumber(frame: Frame, gone: &Gone) -> Frame {
         Frame::Free(h) => Frame::Free(known(h)),
         Frame::FreeQuietly(h) => Frame::FreeQuietly(known(h)),
         Frame::Forget(h) => Frame::Forget(known(h)),
-        Frame::Write { handle, value } => Frame::Write {
+        Frame::Write { handle, source } => Frame::Write {
             handle: known(handle),
-            value,
+            source,
         },
         Frame::Read(h) => Frame::Read(known(h)),
         Frame::Defer(s) => Frame::Defer(scope(s)),
@@ -162,6 +162,8 @@ fn below(n: u16) -> Vec<u16> {
     fewer
 }
 
+const ZERO: Source = Source::Constant(0);
+
 /// The same frame with smaller numbers, or a plainer one.
 fn simpler(frame: Frame) -> Vec<Frame> {
     let each = |n: u16, of: fn(u16) -> Frame| below(n).into_iter().map(of).collect();
@@ -176,7 +178,10 @@ fn simpler(frame: Frame) -> Vec<Frame> {
             .into_iter()
             .map(|handle| Frame::Define { name, handle })
             .collect(),
-        Frame::Write { handle, value } if value > 0 => vec![Frame::Write { handle, value: 0 }],
+        Frame::Write { handle, source } if source != ZERO => {
+            let source = ZERO;
+            vec![Frame::Write { handle, source }]
+        }
         Frame::Assigned(h) => each(h, Frame::Assigned),
         Frame::Defer(s) if s > 0 => vec![Frame::Defer(0), Frame::Ignore],
         Frame::Defer(_) => vec![Frame::Ignore],

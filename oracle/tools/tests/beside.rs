@@ -53,6 +53,21 @@ fn the_late_need_is_equal() {
     assert_eq!(beside.old.held, beside.ours.held);
 }
 
+/// A sample is a write: the old allocator is told of it and shows the same address.
+#[test]
+fn samples_are_shown() {
+    let sampled = beside("06 / 06 / 140001 / 110001 / 140000");
+    assert_eq!(sentence(&sampled), "equal: 6 lines");
+    let row = &sampled.rows[2];
+    assert_eq!(
+        (&row.script[..], &row.old[..], &row.ours[..]),
+        ("140001", "140001", "140001")
+    );
+    let refused = beside("06 / 0c0000 / 140000");
+    assert_eq!(refused.rows[2].ours, "refused 14");
+    assert!(!refused.differs());
+}
+
 /// D1 with its follow-up run.
 #[test]
 fn the_known_fault_is_named() {

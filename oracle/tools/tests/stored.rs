@@ -25,11 +25,14 @@ fn stored_answers() {
     let bytes = data("answers.txt");
     let records = records::read(&bytes).expect("records");
     assert!(records.len() >= 300);
+    let mut sampled = 0;
     for (mark, script, printed) in records {
         assert_eq!(model::translator(script), printed);
+        sampled += usize::from(printed.windows(3).any(|w| w == b"\n14"));
         if mark == b'o' {
             let frames = model::read_script(script, None).expect("a script");
             assert_eq!(rune::drive(&frames).list, printed);
         }
     }
+    assert!(sampled >= 20, "{sampled}");
 }

@@ -2,9 +2,10 @@
 
 use model::{Fault, Frame, FAULTS};
 use oracle::comparison::Comparison;
-use oracle::every::{alphabet, needs_alphabet, wide_alphabet};
+use oracle::every::{alphabet, needs_alphabet, samples_alphabet, wide_alphabet};
 use oracle::judge::Against;
 use oracle::ours::Model;
+use oracle::recorded::{self, Modelled};
 use oracle::records::{self, Mark};
 use oracle::rng::Rng;
 use oracle::{phases, random, shrink};
@@ -45,9 +46,12 @@ fn the_model_has_no_difference() {
     phases::every_script(&mut comparison, &alphabet(), 3);
     phases::every_script(&mut comparison, &wide_alphabet(), 2);
     phases::every_script(&mut comparison, &needs_alphabet(), 3);
+    phases::every_script(&mut comparison, &samples_alphabet(), 3);
     phases::sessions_of_needs(&mut comparison);
+    phases::sessions_of_samples(&mut comparison);
     phases::random_scripts(&mut comparison, random::script, 300, 7);
     phases::random_scripts(&mut comparison, random::with_needs, 300, 7);
+    phases::random_scripts(&mut comparison, random::with_samples, 300, 7);
     assert!(comparison.found.is_empty());
     assert!(comparison.tally.offered > 4000);
 }
@@ -80,7 +84,8 @@ fn many_needs_by_chance() {
 fn faults_of_needs_are_found() {
     let of_needs = FAULTS
         .iter()
-        .skip_while(|(_, f)| *f != Fault::NeedHandleFreed);
+        .skip_while(|(_, f)| *f != Fault::NeedHandleFreed)
+        .take_while(|(_, f)| *f != Fault::SampleUnwritten);
     for (name, fault) in of_needs {
         let original = !matches!(fault, Fault::NeedRoomFirst | Fault::FreedNeedMakesRoom);
         let against = Against {
@@ -91,6 +96,43 @@ fn faults_of_needs_are_found() {
         let mut comparison = Comparison::new(Box::new(Model(Some(*fault))), against);
         phases::sessions_of_needs(&mut comparison);
         assert!(!comparison.found.is_empty(), "{name}");
+    }
+}
+
+/// The original knows no 15: a sample that isn't marked written is found by the model alone.
+#[test]
+fn a_sample_that_is_not_marked_written_is_found() {
+    let against = Against {
+        original: false,
+        ..BOTH
+    };
+    let fault = Model(Some(Fault::SampleUnwritten));
+    let mut comparison = Comparison::new(Box::new(fault), against);
+    phases::sessions_of_samples(&mut comparison);
+    let found = comparison.found.iter().map(|f| f.small.as_slice());
+    let smallest = found.min_by_key(|small| small.len());
+    assert_eq!(smallest, Some(&b"06\n140000\n110000\n"[..]));
+}
+
+/// Each fault of recordings is found by a case by chance, and the model without one isn't blamed.
+#[test]
+fn faults_of_recordings_are_found() {
+    let (outcomes, found) = recorded::by_chance(&mut Modelled(None), 2000, 205);
+    assert!(found.is_none());
+    for number in [1, 2, 17, 20, 23, 24, 29] {
+        let label = format!("refused by {number:2}");
+        assert!(outcomes.to_string().contains(&label), "{outcomes}");
+    }
+    let of_recordings = FAULTS
+        .iter()
+        .skip_while(|(_, f)| *f != Fault::SampleHighLate);
+    for (name, fault) in of_recordings {
+        let (_, found) = recorded::by_chance(&mut Modelled(Some(*fault)), 2000, 205);
+        let (case, _) = found.expect(name);
+        assert!(
+            case.list.len() < 60 && case.recording.len() < 60,
+            "{name}: {case}"
+        );
     }
 }
 

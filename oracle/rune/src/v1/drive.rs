@@ -2,7 +2,7 @@
 
 mod needs;
 
-use model::Frame;
+use model::{Frame, Source};
 use needs::Need;
 
 use super::books::{Beside, Books, Held, Shared};
@@ -130,7 +130,7 @@ impl<'a, B: Beside> Driver<'a, B> {
                 Ok(Shown::Nothing)
             }
             Frame::Drain => self.drain(),
-            Frame::Write { handle, value } => self.write(handle, value),
+            Frame::Write { handle, source } => self.write(handle, source),
             Frame::Read(h) => Ok(Shown::One(self.handle(h)?.slot)),
             Frame::Defer(s) => self.defer(s),
             Frame::Assigned(h) => self.assigned(h),
@@ -292,8 +292,9 @@ impl<'a, B: Beside> Driver<'a, B> {
         Ok(Shown::Drained(drained))
     }
 
-    /// A write makes a Dangling address Local, as allocating it does.
-    fn write(&mut self, handle: u16, value: u16) -> Step {
+    /// A write makes a Dangling address Local, as allocating it does. The original has no values, and no samples either: what 10 and 14
+    /// write is shown in 10's line alone.
+    fn write(&mut self, handle: u16, source: Source) -> Step {
         let slot = self.handle(handle)?.slot;
         match &mut self.handles[usize::from(handle)].place {
             Place::Here(address) => {
@@ -304,7 +305,10 @@ impl<'a, B: Beside> Driver<'a, B> {
             }
             Place::Gone => {}
         }
-        Ok(Shown::Two(slot, value.into()))
+        Ok(match source {
+            Source::Constant(value) => Shown::Two(slot, value.into()),
+            Source::NextSample => Shown::One(slot),
+        })
     }
 }
 

@@ -6,7 +6,8 @@ use oracle::bare::{model_rows, Player};
 use oracle::comparison::{Comparison, Found};
 use oracle::judge::{Against, ORIGINAL_FAULTS};
 use oracle::known::known;
-use oracle::ours::{Model, Ours, Program};
+use oracle::ours::{Model, Ours, Program, RecordedProgram};
+use oracle::recorded::{self, Modelled, Recorder};
 use oracle::{every, phases, random};
 use std::process::ExitCode;
 use std::time::Instant;
@@ -20,12 +21,15 @@ struct Plan {
     every: usize,
     wide: usize,
     needs: usize,
+    samples: usize,
     random: u64,
     random_needs: u64,
+    random_samples: u64,
     damaged: u64,
     bare: u64,
     bare_every: usize,
     lists: u64,
+    recordings: u64,
     seed: u64,
 }
 
@@ -57,12 +61,15 @@ fn plan(args: &Args) -> Plan {
         every: args.number("--every", every) as usize,
         wide: args.number("--wide", every - 1) as usize,
         needs: args.number("--needs", every) as usize,
+        samples: args.number("--samples", every) as usize,
         random: args.number("--random", random),
         random_needs: args.number("--random-needs", random / 3),
+        random_samples: args.number("--random-samples", random / 3),
         damaged: args.number("--damaged", few),
         bare: args.number("--bare", 20_000),
         bare_every: args.number("--bare-every", 2) as usize,
         lists: args.number("--lists", few),
+        recordings: args.number("--recordings", few),
         seed: args.number("--seed", 1),
     }
 }
@@ -148,19 +155,17 @@ fn scripts(plan: &Plan) -> usize {
     let mut comparison = Comparison::new(ours, plan.against);
     every_script(&mut comparison, "small", &every::alphabet(), plan.every);
     every_script(&mut comparison, "wide", &every::wide_alphabet(), plan.wide);
-    every_script(
-        &mut comparison,
-        "needs",
-        &every::needs_alphabet(),
-        plan.needs,
-    );
-    by_chance(&mut comparison, random::script, plan.random, plan.seed);
-    by_chance(
-        &mut comparison,
-        random::with_needs,
-        plan.random_needs,
-        plan.seed,
-    );
+    let (needs, samples) = (every::needs_alphabet(), every::samples_alphabet());
+    every_script(&mut comparison, "needs", &needs, plan.needs);
+    every_script(&mut comparison, "samples", &samples, plan.samples);
+    let sources: [(random::Source, u64); 3] = [
+        (random::script, plan.random),
+        (random::with_needs, plan.random_needs),
+        (random::with_samples, plan.random_samples),
+    ];
+    for (source, count) in sources {
+        by_chance(&mut comparison, source, count, plan.seed);
+    }
 
     if plan.linked || plan.program.is_some() || plan.plant.is_some() {
         phases::damaged_texts(&mut comparison, plan.damaged, plan.seed);
@@ -228,9 +233,53 @@ fn lists(plan: &Plan) -> usize {
     differs.into_iter().count()
 }
 
+/// The linked functions of recordings.
+#[cfg(feature = "linked")]
+fn linked_recorder() -> Box<dyn Recorder> {
+    Box::new(oracle::linked::Recorded)
+}
+
+#[cfg(not(feature = "linked"))]
+fn linked_recorder() -> Box<dyn Recorder> {
+    panic!("--linked needs the archive: cargo run --release --features linked")
+}
+
+/// The linked functions, or the model with a fault.
+fn recordings(plan: &Plan) -> usize {
+    let mut ours = match plan.linked {
+        true => linked_recorder(),
+        false if plan.plant.is_some() => Box::new(Modelled(plan.plant)),
+        false => return 0,
+    };
+    let (outcomes, differs) = recorded::by_chance(ours.as_mut(), plan.recordings, plan.seed);
+    println!("{}\n{outcomes}", ours.name());
+    if let Some((case, why)) = &differs {
+        println!("DIFFERENCE: {case}\n  {why}");
+    }
+    differs.into_iter().count()
+}
+
+/// The run program with a list and a recording.
+fn recorded_program(plan: &Plan) -> usize {
+    let Some(command) = &plan.runner else {
+        return 0;
+    };
+    let program = RecordedProgram::new(command);
+    let differs = recorded::by_program(&program, plan.recordings, plan.seed);
+    println!("{} lists with recordings to {command}", plan.recordings);
+    if let Some((case, printed)) = &differs {
+        let expected = model::recorded_runner(&case.list, &case.recording);
+        println!("DIFFERENCE: {case}");
+        println!("  the model prints {}", shown(&expected));
+        println!("  ours prints {}", shown(printed));
+    }
+    differs.into_iter().count()
+}
+
 fn main() -> ExitCode {
     let plan = plan(&Args::new());
     let differences = scripts(&plan) + bare(&plan) + lists(&plan);
+    let differences = differences + recordings(&plan) + recorded_program(&plan);
     match differences {
         0 => {
             println!("no difference that isn't known");

@@ -3,9 +3,10 @@
 use model::{Fault, FAULTS};
 use oracle::bare;
 use oracle::comparison::Comparison;
-use oracle::every::{alphabet, needs_alphabet};
+use oracle::every::{alphabet, needs_alphabet, samples_alphabet};
 use oracle::judge::{Against, ORIGINAL_FAULTS};
 use oracle::ours::Model;
+use oracle::recorded::{self, Modelled};
 use oracle::{phases, random};
 use std::process::ExitCode;
 
@@ -24,9 +25,10 @@ fn shown(text: &[u8]) -> String {
 /// The first difference, made small.
 fn found(fault: Option<Fault>, against: Against) -> Option<String> {
     let mut comparison = Comparison::new(Box::new(Model(fault)), against);
-    let phases: [fn(&mut Comparison); 5] = [
+    let phases: [fn(&mut Comparison); 6] = [
         |c| phases::every_script(c, &alphabet(), 4),
         |c| phases::every_script(c, &needs_alphabet(), 4),
+        |c| phases::every_script(c, &samples_alphabet(), 3),
         phases::sessions_of_needs,
         |c| drop(phases::random_scripts(c, random::script, 4000, SEED)),
         |c| drop(phases::random_scripts(c, random::with_needs, 4000, SEED)),
@@ -63,7 +65,12 @@ fn model_fault(name: &str, fault: Fault) -> bool {
         "  bare slots: {}",
         calls.map_or("nothing".into(), |n| format!("{n} calls"))
     );
-    by_original.is_some() || by_model.is_some() || by_bare.is_some()
+    let by_recording = recorded::by_chance(&mut Modelled(Some(fault)), 3000, SEED).1;
+    let case = by_recording
+        .as_ref()
+        .map(|(case, why)| format!("{case}; {why}"));
+    println!("  recordings: {}", said(&case));
+    by_original.is_some() || by_model.is_some() || by_bare.is_some() || by_recording.is_some()
 }
 
 fn main() -> ExitCode {

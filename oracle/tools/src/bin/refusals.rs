@@ -1,7 +1,7 @@
 //! For each refusal of 01 and each frame: the shortest script that meets it, and what the original does with that frame.
 
 use model::Frame;
-use oracle::every::{alphabet, every, needs_alphabet};
+use oracle::every::{alphabet, every, needs_alphabet, samples_alphabet};
 use rune::{drive, Stop};
 use std::collections::BTreeMap;
 
@@ -42,6 +42,7 @@ fn main() {
     let mut table = Table::new();
     collect(&alphabet(), &mut table);
     collect(&needs_alphabet(), &mut table);
+    collect(&samples_alphabet(), &mut table);
     for ((number, opcode, _), (frames, words)) in table {
         let script = String::from_utf8(Frame::script(&frames)).expect("a script");
         let script = script.trim_end().replace('\n', " / ");

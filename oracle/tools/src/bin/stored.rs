@@ -1,4 +1,4 @@
-//! Writes stored answers (see `records`) to standard output: 01's sessions and limits first, then scripts by chance; then the same with needs.
+//! Writes stored answers (see `records`) to standard output: 01's sessions and limits first, then scripts by chance; then the same with needs, then with samples.
 //! With --wrong, the short sessions with their answer as it is and spoilt in each of four ways; with --broken, one record and another that is
 //! cut off.
 
@@ -8,7 +8,7 @@ use oracle::judge::{judge, Against, Verdict};
 use oracle::random::{self, Source};
 use oracle::records::{self, Mark};
 use oracle::rng::Rng;
-use oracle::sessions::{needs, sessions};
+use oracle::sessions::{needs, samples, sessions};
 use std::io::Write;
 
 const AGAINST: Against = Against {
@@ -100,6 +100,7 @@ fn broken() -> Vec<u8> {
 fn answers(args: &Args) -> Vec<u8> {
     let count = args.number("--count", 240);
     let few = args.number("--needs", 24);
+    let fewer = args.number("--samples", 12);
     let seed = args.number("--seed", 1);
     let mut scripts = sessions();
     let mut rng = Rng::new(seed);
@@ -108,6 +109,9 @@ fn answers(args: &Args) -> Vec<u8> {
     let mut rng = Rng::new(seed);
     // from 1 on, so that none is long: the file has to stay below 262,144 bytes
     scripts.extend((1..=few).map(|i| by_chance(random::with_needs, &mut rng, i)));
+    scripts.extend(samples());
+    let mut rng = Rng::new(seed);
+    scripts.extend((1..=fewer).map(|i| by_chance(random::with_samples, &mut rng, i)));
     let mut out = Vec::new();
     let marks: Vec<Mark> = scripts.iter().map(|s| store(s, &mut out)).collect();
     let of = |mark: Mark| marks.iter().filter(|m| **m == mark).count();

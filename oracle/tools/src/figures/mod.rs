@@ -2,5 +2,6 @@
 
 pub mod clock;
 pub mod plain;
+pub mod readers;
 pub mod setting;
 pub mod work;

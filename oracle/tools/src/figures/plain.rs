@@ -1,4 +1,5 @@
 //! The frame machine in plain Rust, for figures: the original has none. It reads, checks and obeys as `run` does, in one buffer of lines.
+//! A list with a 14 it refuses, as `run` does.
 
 #[derive(Default)]
 pub struct Machine {

@@ -1,7 +1,7 @@
-//! What both sides do: pairs over bare slots, scripts of several kinds of a given number of frames, a list of stores and loads.
+//! What all sides do: pairs over bare slots, scripts of several kinds of a given number of frames, lists of stores and loads, a recording.
 
 use model::Frame::{self, *};
-use model::{NeedNumber, NEEDS};
+use model::{NeedNumber, Source, NEEDS};
 
 /// A kind's name, and its script of n frames.
 pub type Kind = (&'static str, fn(usize) -> Vec<Frame>);
@@ -37,15 +37,19 @@ fn pairs(n: usize) -> Vec<Frame> {
     (0..n).map(frame).collect()
 }
 
+fn write(handle: u16, value: usize) -> Frame {
+    Write {
+        handle,
+        source: Source::Constant(value as u16),
+    }
+}
+
 fn mix(n: usize) -> Vec<Frame> {
     let frame = |i: usize| {
         let handle = (i / 4) as u16;
         match i % 4 {
             0 => Alloc,
-            1 => Write {
-                handle,
-                value: i as u16,
-            },
+            1 => write(handle, i),
             2 => Read(handle),
             _ => Free(handle),
         }
@@ -146,10 +150,7 @@ fn asked(n: usize) -> Vec<Frame> {
         match i % 4 {
             0 => AllocNeed(NeedNumber(place)),
             1 => Output(NeedNumber(place)),
-            2 => Write {
-                handle: place,
-                value: i as u16,
-            },
+            2 => write(place, i),
             _ => Read(place),
         }
     };
@@ -172,16 +173,39 @@ fn beside(n: usize) -> Vec<Frame> {
     made.chain((0..n - 2 * needs).map(frame)).collect()
 }
 
-/// 2,048 lines, a store and a load in turn, over 1,024 cells; then the size.
-pub fn list() -> Vec<u8> {
+/// How many lines the lists of figures have.
+pub const LISTS: [usize; 5] = [1, 3, 10, 30, 2048];
+
+/// So many lines, a store and a load in turn, over half as many cells; then the size.
+pub fn list(lines: usize) -> Vec<u8> {
+    stores_and_loads(lines, |cell, i| format!("10{cell:04x}{i:04x}\n"))
+}
+
+/// The same, but what is stored are samples.
+pub fn sampled_list(lines: usize) -> Vec<u8> {
+    stores_and_loads(lines, |cell, _| format!("14{cell:04x}\n"))
+}
+
+fn stores_and_loads(lines: usize, store: fn(usize, usize) -> String) -> Vec<u8> {
+    let size = lines.div_ceil(2);
     let line = |i: usize| {
-        let cell = i / 2 * 37 % 1024;
+        let cell = i / 2 * 37 % size;
         match i % 2 {
-            0 => format!("10{cell:04x}{i:04x}\n"),
+            0 => store(cell, i),
             _ => format!("11{cell:04x}\n"),
         }
     };
-    let mut list: String = (0..2048).map(line).collect();
-    list += "900400\n";
+    let mut list: String = (0..lines).map(line).collect();
+    list += &format!("90{size:04x}\n");
     list.into_bytes()
+}
+
+/// How long the parts are in which a recording is fed.
+pub const PARTS: [usize; 5] = [1, 7, 100, 4096, 65536];
+
+/// A recording of a mebibyte, but for the last few bytes: whole lines of all kinds of numbers.
+pub fn recording() -> Vec<u8> {
+    let lines = (1 << 20) / 7;
+    let line = |i: usize| format!("30{:04x}\n", i * 40_503 % 65_536);
+    (0..lines).flat_map(|i| line(i).into_bytes()).collect()
 }

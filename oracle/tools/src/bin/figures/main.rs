@@ -1,29 +1,20 @@
 //! Prints docs/FIGURES.md's tables: ours, linked, beside the original in the same run. See oracle/README.md.
 
-use mboxalind::Answer;
+mod recordings;
+mod runs;
+mod shown;
+
 use model::Frame;
 use oracle::args::Args;
-use oracle::figures::work::{self, KINDS, LENGTHS, STRIDES};
-use oracle::figures::{clock, plain::Machine, setting};
+use oracle::figures::work::{KINDS, LENGTHS, STRIDES};
+use oracle::figures::{clock, setting};
 use oracle::linked_checks::checks;
 use oracle::linked_slots::{pairs_by_value, pairs_lent};
 use rune::{Bare, Lean};
+use shown::{bytes, ns, ratio};
 use std::hint::black_box;
 
 const PAIRS: usize = 1_000_000;
-
-/// A number of nanoseconds with three digits that count.
-fn ns(taken: f64) -> String {
-    match taken {
-        t if t < 10.0 => format!("{t:.2}"),
-        t if t < 100.0 => format!("{t:.1}"),
-        t => format!("{t:.0}"),
-    }
-}
-
-fn ratio(ours: f64, theirs: f64) -> String {
-    format!("{:.2}", ours / theirs)
-}
 
 fn pairs() {
     println!("\n## A million insert and remove pairs over a half-full frame\n");
@@ -54,10 +45,6 @@ fn pairs() {
             ratio(lent, theirs)
         );
     }
-}
-
-fn bytes(answer: Answer) -> u64 {
-    answer.written().expect("ours takes the text") as u64
 }
 
 /// Nanoseconds of a translation: the original's and ours. Both lists have to be equal.
@@ -104,30 +91,6 @@ fn translation() {
     }
 }
 
-fn run() {
-    let list = work::list();
-    let (mut cells, mut out) = (vec![0; 2048], vec![0; model::BUFFER]);
-    let (mut theirs, mut other) = (cells.clone(), out.clone());
-    let mut machine = Machine::default();
-    let plain = machine.run(&list, &mut theirs, &mut other);
-    let written = bytes(mboxalind::run(&list, &mut cells, &mut out));
-    assert_eq!(plain, Some(written as usize));
-    assert!(cells == theirs && out == other, "the runs differ");
-    let best = clock::best(&mut [
-        &mut || {
-            machine
-                .run(black_box(&list), &mut theirs, &mut other)
-                .unwrap_or(0) as u64
-        },
-        &mut || bytes(mboxalind::run(black_box(&list), &mut cells, &mut out)),
-    ]);
-    let (plain, ours) = (best[0] / 2048.0, best[1] / 2048.0);
-    println!("\n## A run of 2,048 lines, a store and a load in turn\n");
-    println!("The original has no frame machine; the other side is one in plain Rust (`oracle/tools/src/figures/plain.rs`).\n");
-    println!("| plain Rust, ns a line | ours | ratio |\n|---|---|---|");
-    println!("| {} | {} | {} |", ns(plain), ns(ours), ratio(ours, plain));
-}
-
 const CHECKS: usize = 1000;
 
 fn check() {
@@ -163,7 +126,8 @@ fn main() {
         pairs();
     }
     translation();
-    run();
+    runs::print();
+    recordings::print();
     check();
     println!("\nLoad of the machine when it ended: {}.", setting::load());
 }

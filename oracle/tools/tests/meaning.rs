@@ -1,0 +1,78 @@
+//! W-205, demand 3 by chance: a script that is accepted, translated and run beside a recording with samples enough, loads what it means "with
+//! those samples in order, each used once", if each allocation had a box of its own.
+
+use model::{Frame, Session, Source};
+use oracle::random;
+use oracle::rng::Rng;
+
+/// What the script prints by its boxes, and how many samples it takes; none where it is refused.
+fn meaning(frames: &[Frame], samples: &[u16]) -> Option<(String, usize)> {
+    let mut session = Session::new(None);
+    let (mut boxes, mut taken) = (vec![0; model::HANDLES], 0);
+    let mut printed = String::new();
+    for frame in frames {
+        let read = match frame {
+            Frame::Read(handle) => Some(usize::from(*handle)),
+            Frame::ReadName(name) => session.scopes.get(*name).ok().map(|b| b.handle),
+            _ => None,
+        };
+        session.step(*frame).ok()?;
+        if let Frame::Write { handle, source } = frame {
+            boxes[usize::from(*handle)] = match source {
+                Source::Constant(value) => *value,
+                Source::NextSample => samples[taken],
+            };
+            taken += usize::from(*source == Source::NextSample);
+        }
+        if let Some(handle) = read {
+            printed += &format!("a0{:04x}\n", boxes[handle]);
+        }
+    }
+    Some((printed, taken))
+}
+
+/// What a host prints that translates the script and runs its list beside the recording.
+fn printed(script: &[u8], recording: &[u8]) -> Vec<u8> {
+    model::recorded_runner(&model::translator(script), recording)
+}
+
+/// The same by the linked functions, the recording in parts.
+#[cfg(feature = "linked")]
+fn printed_linked(script: &[u8], recording: &[u8]) -> Vec<u8> {
+    let (mut list, mut cells, mut out) = (vec![0; 32768], vec![0; 2048], vec![0; 32768]);
+    let bytes = mboxalind::translate(script, &mut list).written();
+    let bytes = bytes.expect("an accepted script");
+    let mut fed = mboxalind::Recording::default();
+    recording.chunks(11).for_each(|part| fed.feed(part));
+    let ran = fed.run(&list[..bytes], &mut cells, &mut out);
+    let ran = ran.expect("samples enough");
+    out.truncate(ran.bytes);
+    out.extend_from_slice(format!("a1{:08x}\n", ran.left).as_bytes());
+    out
+}
+
+#[test]
+fn scripts_with_samples_load_what_they_mean() {
+    let (mut rng, mut told, mut loads) = (Rng::new(205), 0, 0);
+    for _ in 0..2000 {
+        let frames = random::with_samples(&mut rng).frames;
+        let samples: Vec<u16> = (0..model::LINES).map(|_| rng.draw() as u16).collect();
+        let Some((expected, taken)) = meaning(&frames, &samples) else {
+            continue;
+        };
+        let left = rng.below(5);
+        let recording: String = samples[..model::LINES.min(taken + left)]
+            .iter()
+            .map(|v| format!("30{v:04x}\n"))
+            .collect();
+        let left = recording.len() / 7 - taken;
+        let expected = format!("{expected}a1{left:08x}\n").into_bytes();
+        let script = Frame::script(&frames);
+        assert_eq!(printed(&script, recording.as_bytes()), expected);
+        #[cfg(feature = "linked")]
+        assert_eq!(printed_linked(&script, recording.as_bytes()), expected);
+        told += usize::from(taken > 0);
+        loads += expected.len() / 7;
+    }
+    assert!(told > 1000 && loads > 10_000, "{told}, {loads}");
+}
