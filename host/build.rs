@@ -1,4 +1,4 @@
-//! Links the archive of our two functions, target/staticlib/libmboxalind.a, which host/archive writes.
+//! Links the archive of our functions, target/staticlib/libmboxalind.a, which host/archive writes.
 
 use std::env;
 use std::path::{Path, PathBuf};
@@ -71,12 +71,16 @@ fn main() {
         let path = path.display();
         stop(&format!("{path} is for {made_for} on Linux, not for {target}: host/README.md says what another machine needs"));
     }
-    if !names.contains(&"run") {
-        stop(&format!("{} has no function run", path.display()));
+    for name in ["run", "read_recording", "run_recorded"] {
+        if !names.contains(&name) {
+            stop(&format!("{} has no function {name}", path.display()));
+        }
     }
     match names.contains(&"translate") {
         true => println!("cargo::rustc-cfg=translate"),
-        false => println!("cargo::warning=the archive has no function translate: the host is built with run alone"),
+        false => println!(
+            "cargo::warning=the archive has no function translate: the host is built without it"
+        ),
     }
     let folder = path.parent().expect("a file is in a folder");
     println!("cargo::rustc-link-search=native={}", folder.display());

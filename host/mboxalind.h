@@ -1,4 +1,4 @@
-/* The proved translate and run, for a host in C: link target/staticlib/libmboxalind.a (x86-64 Linux). */
+/* The proved translate, run, read_recording and run_recorded, for a host in C: link target/staticlib/libmboxalind.a (x86-64 Linux). */
 #ifndef MBOXALIND_H
 #define MBOXALIND_H
 
@@ -9,9 +9,9 @@
 extern "C" {
 #endif
 
-/* The answer of both: the number of bytes written; or, on a refusal, its number in the high 32 bits and its line, from 0, in the low
- * 32. A refusal leaves all lent memory as it was. Each pointer may be read, and if it isn't const written, over the length that
- * follows it; what is lent must not overlap. */
+/* The answer of all but read_recording: the number of bytes written; or, on a refusal, its number in the high 32 bits and its line, from
+ * 0, in the low 32. A refusal leaves all lent memory as it was. Each pointer may be read, and if it isn't const written, over the length
+ * that follows it; what is lent must not overlap. */
 
 /* Translates a script into list. No list of a script is longer than 32,768 bytes. */
 uint64_t translate(const uint8_t *script, size_t script_len, uint8_t *list, size_t list_len);
@@ -19,6 +19,16 @@ uint64_t translate(const uint8_t *script, size_t script_len, uint8_t *list, size
 /* Runs a list over cells, two bytes each, high first, and writes what its loads show into out, 7 bytes a load. Cells from the
  * list's size on stay as they are. */
 uint64_t run(const uint8_t *list, size_t list_len, uint8_t *cells, size_t cells_len, uint8_t *out, size_t out_len);
+
+/* Reads a part of a recording, lines `30`, four digits, LF: the next state, from 0 at the start on. Its samples are kept in samples, two
+ * bytes each, high first, as far as there is room; a list takes 2,048 at most. Where the parts are cut changes nothing. A number that is no
+ * reader's state gets 29 times 2^32, and the samples stay. */
+uint64_t read_recording(uint64_t state, uint8_t *samples, size_t samples_len, const uint8_t *part, size_t part_len);
+
+/* Runs a list as run does, beside a recording: state is the reader's after all parts, samples what it kept. On success the first four bytes
+ * of left, high first, have the number of samples left over. The line of refusal 24 is the recording's. */
+uint64_t run_recorded(const uint8_t *list, size_t list_len, uint64_t state, const uint8_t *samples, size_t samples_len, uint8_t *cells,
+                      size_t cells_len, uint8_t *out, size_t out_len, uint8_t *left, size_t left_len);
 
 /* 0 if it was no refusal. */
 static inline unsigned mboxalind_number(uint64_t answer) { return (unsigned)(answer >> 32); }

@@ -1,9 +1,12 @@
-//! The proved `translate` and `run` for a Rust host: byte slices in, an [`Answer`] out.
+//! The proved `translate`, `run`, `read_recording` and `run_recorded` for a Rust host: byte slices in, an [`Answer`] out.
 //!
 //! Each takes the memory that it writes to from the caller, and asks for nothing else: no allocation, no file, no global state.
+//! [`Recording`] keeps what the last two need of a recording from one part to the next.
 
+mod recording;
 mod words;
 
+pub use recording::{Ran, Recording, MOST_SAMPLES};
 pub use words::words;
 
 use std::fmt;
@@ -18,7 +21,7 @@ pub enum Answer {
     Refused(Refusal),
 }
 
-/// "A refusal is answered as a number and a line (from 0; line 0 for 17)."
+/// "A refusal is answered as a number and a line (from 0; line 0 for 17)." The line of 24 is the recording's.
 #[derive(Clone, Copy, Debug, PartialEq, Eq)]
 pub struct Refusal {
     pub number: u8,
@@ -35,7 +38,13 @@ impl Refusal {
 impl fmt::Display for Refusal {
     fn fmt(&self, f: &mut fmt::Formatter<'_>) -> fmt::Result {
         let Refusal { number, line } = self;
-        write!(f, "refused by {number} at line {line}: {}", self.words())
+        let whose = if *number == 24 {
+            " of the recording"
+        } else {
+            ""
+        };
+        let words = self.words();
+        write!(f, "refused by {number} at line {line}{whose}: {words}")
     }
 }
 
@@ -78,6 +87,30 @@ extern "C" {
         out: *mut u8,
         out_len: usize,
     ) -> u64;
+
+    #[link_name = "read_recording"]
+    fn read_recording_lent(
+        state: u64,
+        samples: *mut u8,
+        samples_len: usize,
+        part: *const u8,
+        part_len: usize,
+    ) -> u64;
+
+    #[link_name = "run_recorded"]
+    fn run_recorded_lent(
+        list: *const u8,
+        list_len: usize,
+        state: u64,
+        samples: *const u8,
+        samples_len: usize,
+        cells: *mut u8,
+        cells_len: usize,
+        out: *mut u8,
+        out_len: usize,
+        left: *mut u8,
+        left_len: usize,
+    ) -> u64;
 }
 
 /// Translates a script into `list`. No list of a script is longer than 32,768 bytes.
@@ -107,6 +140,50 @@ pub fn run(list: &[u8], cells: &mut [u8], out: &mut [u8]) -> Answer {
     Answer::new(answer)
 }
 
+/// Reads a part of a recording: the next state, from 0 at the start on. The samples of its lines are kept in `samples`, two bytes each,
+/// high first, as far as there is room. A number that is no reader's state gets 29 times 2^32, and the samples stay.
+pub fn read_recording(state: u64, samples: &mut [u8], part: &[u8]) -> u64 {
+    // SAFETY: as for translate.
+    unsafe {
+        read_recording_lent(
+            state,
+            samples.as_mut_ptr(),
+            samples.len(),
+            part.as_ptr(),
+            part.len(),
+        )
+    }
+}
+
+/// Runs a list as [`run`] does, beside a recording: `state` is the reader's after all parts, `samples` what it kept. On success the first
+/// four bytes of `left`, high first, have the number of samples left over.
+pub fn run_recorded(
+    list: &[u8],
+    state: u64,
+    samples: &[u8],
+    cells: &mut [u8],
+    out: &mut [u8],
+    left: &mut [u8],
+) -> Answer {
+    // SAFETY: as for translate.
+    let answer = unsafe {
+        run_recorded_lent(
+            list.as_ptr(),
+            list.len(),
+            state,
+            samples.as_ptr(),
+            samples.len(),
+            cells.as_mut_ptr(),
+            cells.len(),
+            out.as_mut_ptr(),
+            out.len(),
+            left.as_mut_ptr(),
+            left.len(),
+        )
+    };
+    Answer::new(answer)
+}
+
 #[cfg(test)]
 mod tests {
     use super::*;
@@ -124,7 +201,7 @@ mod tests {
 
     #[test]
     fn each_number_has_its_words() {
-        let known: Vec<u8> = (1..=22).chain([29]).collect();
+        let known: Vec<u8> = (1..=24).chain([29]).collect();
         for number in 0..=255 {
             let told = words(number) != "a number that has no words here";
             assert_eq!(told, known.contains(&number));
@@ -136,5 +213,9 @@ mod tests {
         let answer = Answer::new((7 << 32) + 3);
         let said = answer.written().map_err(|r| r.to_string());
         assert_eq!(said, Err("refused by 7 at line 3: no slot".into()));
+        let answer = Answer::new((24 << 32) + 4_294_967_295);
+        let said = answer.written().map_err(|r| r.to_string());
+        let words = "refused by 24 at line 4294967295 of the recording: recording line malformed, torn, or one too many";
+        assert_eq!(said, Err(words.into()));
     }
 }

@@ -1,4 +1,4 @@
-//! Document 01, "Numbers given back", and W-201 of document 02, in their words: words.txt, which `bin/mboxalind` reads too.
+//! Document 01, "Numbers given back", and W-201 and W-205 of document 02, in their words: words.txt, which `bin/mboxalind` reads too.
 
 const WORDS: &str = include_str!("../words.txt");
 

@@ -2,7 +2,7 @@
 
 mod common;
 
-use common::{refused, stored, LIST};
+use common::{of_model, refused, stored, LIST};
 use mboxalind::{run, Answer};
 
 /// The answer; cells and out have to be as they were if it is a refusal.
@@ -30,6 +30,8 @@ fn each_refusal() {
     assert_eq!(run_over(b"900401\n", 4096, 8), refused(1, 0));
     assert_eq!(run_over(&b"05\n".repeat(2049), 8, 8), refused(2, 2048));
     assert_eq!(run_over(b"110001\n900001\n", 8, 8), refused(20, 0));
+    assert_eq!(run_over(b"140001\n900001\n", 8, 8), refused(20, 0));
+    assert_eq!(run_over(b"05\n140000\n900001\n", 0, 0), refused(23, 1));
     assert_eq!(run_over(LIST, 5, 7), refused(17, 0));
     assert_eq!(run_over(LIST, 6, 6), refused(17, 0));
     assert_eq!(run_over(LIST, 6, 7), Answer::Written(7));
@@ -39,13 +41,6 @@ fn each_refusal() {
 fn nothing_lent() {
     assert_eq!(run(b"900000\n", &mut [], &mut []), Answer::Written(0));
     assert_eq!(run(b"110000\n900001\n", &mut [], &mut []), refused(17, 0));
-}
-
-fn by_model(list: &[u8], cells: &mut [u8], out: &mut [u8]) -> Answer {
-    match model::run(list, cells, out) {
-        Ok(bytes) => Answer::Written(bytes),
-        Err(r) => refused(r.number, r.line as u32),
-    }
 }
 
 /// Each list as it is, and with one byte of it another.
@@ -60,7 +55,7 @@ fn the_stored_lists_and_the_model() {
             }
             let (mut cells, mut out) = (vec![7; 2048], vec![7; 8000]);
             let (mut their_cells, mut their_out) = (cells.clone(), out.clone());
-            let theirs = by_model(&list, &mut their_cells, &mut their_out);
+            let theirs = of_model(model::run(&list, &mut their_cells, &mut their_out));
             assert_eq!(run(&list, &mut cells, &mut out), theirs);
             assert!(cells == their_cells && out == their_out);
             asked += 1;

@@ -44,7 +44,7 @@ fn printed(script: &[u8]) -> Vec<u8> {
 #[test]
 fn the_stored_answers() {
     let records = stored();
-    assert_eq!(records.len(), 388);
+    assert_eq!(records.len(), 422);
     for (script, answer) in records {
         assert_eq!(printed(&script), answer);
     }

@@ -1,4 +1,5 @@
-//! 01's session, and the stored answers.
+//! 01's session, the stored answers, and the model's answers as the host's.
+#![allow(dead_code)]
 
 use mboxalind::{Answer, Refusal};
 
@@ -7,6 +8,13 @@ pub const LIST: &[u8] =
 
 pub fn refused(number: u8, line: u32) -> Answer {
     Answer::Refused(Refusal { number, line })
+}
+
+pub fn of_model(answer: Result<usize, model::Refusal>) -> Answer {
+    match answer {
+        Ok(bytes) => Answer::Written(bytes),
+        Err(r) => refused(r.number, r.line as u32),
+    }
 }
 
 /// Each stored record's script and answer; oracle/README.md has the format.
