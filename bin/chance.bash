@@ -1,0 +1,85 @@
+# shellcheck shell=bash disable=SC2154
+# Sourced by mboxalind: texts made by chance through the built programs. Uses here, room, build, launch and draw of mboxalind.
+
+# PROGRAM, with its words behind it, has to print what EXPECTED has for FILE.
+holds() {
+    local expected=$1 file=$2
+    shift 2
+    (launch "$@") <"$file" >"$room/said"
+    cmp -s "$room/said" "$expected" && return
+    echo "mboxalind: $1 has to print" >&2
+    cat "$expected" >&2
+    echo "and printed" >&2
+    head -n 5 "$room/said" >&2
+    exit 1
+}
+
+# The stored answers, with one byte of the answer of record N another; oracle/README.md has the format.
+spoilt() {
+    local LC_ALL=C text end=0 at i
+    text=$(cat "$here/crates/replay/data/answers.txt" && echo .)
+    for ((i = 0; i < $1; i++)); do
+        at=$end
+        end=$((at + 18 + 16#${text:at + 1:8} + 16#${text:at + 9:8}))
+    done
+    printf '%sx%s' "${text:0:end-2}" "${text:end-1:${#text}-end}"
+}
+
+by_chance() { printf '%04x' $((RANDOM * 2 + RANDOM % 2)); }
+
+# TAKEN samples that are read back in turn and LEFT that aren't; the page has to show the samples that were taken and count the wraps.
+try_recorded() { # TAKEN LEFT
+    local i value before=0 wraps=0
+    echo 06 >"$room/script"
+    echo 060000 >"$room/list"
+    : >"$room/loads"
+    : >"$room/recording"
+    for ((i = 0; i < $1 + $2; i++)); do
+        value=$(by_chance)
+        echo "30$value" >>"$room/recording"
+        ((i == 0 || (16#$value - 16#$before) ** 2 <= 32768 ** 2)) || wraps=$((wraps + 1))
+        before=$value
+        ((i < $1)) || continue
+        printf '%s\n' 140000 110000 | tee -a "$room/script" >>"$room/list"
+        echo "a0$value" >>"$room/loads"
+    done
+    echo 900001 >>"$room/list"
+    printf 'a1%08x\n' "$2" >>"$room/loads"
+    holds "$room/list" "$room/script" translator
+    holds "$room/loads" /dev/null runner "$room/list" "$room/recording"
+    try_page $wraps
+}
+
+# Each sample that was taken was loaded once, so the page's samples are the loads.
+try_page() { # WRAPS
+    LIST=list RECORDING=recording draw "$room/list" "$room/recording" "$room/said" "$room/survey" "$room/html"
+    sed -n 's/^<tr class="in"><td>[0-9]*<td>[0-9]*<td>\([0-9a-f]*\)<.*/a0\1/p' "$room/html" >"$room/shown"
+    grep '^a0' "$room/loads" | cmp -s - "$room/shown" || failed "the page doesn't show the samples that were taken"
+    grep -Eq "wraps <strong>$1 times?<" "$room/html" || failed "the page has to count $1 wraps"
+}
+
+failed() {
+    echo "mboxalind: $1" >&2
+    exit 1
+}
+
+# Texts made by chance: a value that is written and read; samples that are taken and read in turn; a stored answer that is spoilt.
+try() {
+    local value record taken
+    value=$(by_chance)
+    record=$((RANDOM % 422 + 1))
+    taken=$((RANDOM % 30 + 1))
+    build translator
+    build runner
+    build replay
+    printf '%s\n' 06 "100000$value" 110000 >"$room/script"
+    printf '%s\n' 060000 "100000$value" 110000 900001 >"$room/list"
+    echo "a0$value" >"$room/loads"
+    holds "$room/list" "$room/script" translator
+    holds "$room/loads" "$room/list" runner
+    try_recorded $taken $((RANDOM % 300))
+    spoilt $record >"$room/spoilt"
+    printf '422 replayed, 1 differ\nthe first that differs is record %d\n' $record >"$room/count"
+    holds "$room/count" /dev/null replay "$room/spoilt"
+    echo "translator and runner know the value $value and $taken samples, replay finds the spoilt record $record"
+}
