@@ -1,6 +1,4 @@
--- Demand 3 and the round trip on bytes, for every placement that is fair on sound slots, in a room whose numbers fit four digits; and so
--- for edition 1.
--- Assumes nothing.
+-- Demand 3 and the round trip on bytes, for scripts of either edition, in a room whose numbers fit four digits. Assumes nothing.
 use mathlib.Core.Path.{_≡_, refl, sym, ap, subst, _∙_}
 use mathlib.Core.Bool.{Bool, true, false}
 use mathlib.Core.Option.{Option, none, some}
@@ -10,18 +8,18 @@ use native.Mathlib.Omega.{arith}
 use lib.Dec.{ltb, lit<}
 use lib.ListN.{length, replicate, drop, set, length-append, length-replicate}
 use lib.Seq.{drop-set-lt, drop-append-seam}
-use borrow.Author.Tests.{ltb-true, le-ltb}
+use borrow.Author.Tests.{ltb-true, lt-ltb, le-ltb}
 use Rattle.rules.specs.Notation.{given, refused}
 use Rattle.rules.specs.Sizes.{Room, base}
-use Rattle.rules.specs.Slots.{Placement, edition1}
+use Rattle.rules.specs.Slots.{Placement, Place, byHead, lowest, placing}
 use Rattle.rules.specs.Frames.{State, start, Frame, Line, stores, loads, shows, Step, step, steps, accepted, onward}
 use Rattle.rules.specs.Meaning.{worth, later, obey, high, meaning, listTakes, framesTake, lacking}
 use Rattle.rules.specs.Recordings.{recorded}
-use Rattle.rules.specs.Text.{split, Script, frames, unread, scriptFrom, listText, listed, listFrom}
+use Rattle.rules.specs.Text.{split, Script, frames, unread, titled, title, readScript, listText, listed, readList}
 use Rattle.rules.specs.Entries.{outcome, translated, ran, stopped, runSampled, runListed, recordedOn}
 use Rattle.rules.specs.Demand3.{Fair, Holds, Demand3, Demand3Bytes, RoundTrip, Runs, scriptMeaning, scriptTakes, Lacks, TooFew}
 use Rattle.rules.proofs.Chains.{none-some}
-use Rattle.rules.proofs.Lists.{FitLines, no-lines, reads-back}
+use Rattle.rules.proofs.Lists.{FitLines, no-lines, title-back}
 use Rattle.rules.proofs.Sound.{SlotsSound, StateSound}
 use Rattle.rules.proofs.KeepsSteps.{keeps-step}
 use Rattle.rules.proofs.Reached.{start-sound}
@@ -30,7 +28,7 @@ use Rattle.rules.proofs.Fits.{Wide, base-wide, fit-on, one-length, fits
 use Rattle.rules.proofs.Scripts.{FitFrames, no-frames, frames-on, read-well}
 use Rattle.rules.proofs.Taking.{enough, too-few}
 use Rattle.rules.proofs.Demand3.{tail, next-frame, no-frame, demand3}
-use Rattle.rules.proofs.Editions.{edition1-fair-sound}
+use Rattle.rules.proofs.Editions.{placing-fair-sound}
 
 -- ---- the frame machine
 
@@ -53,21 +51,35 @@ obey-above size (stores a x ∷ ls) i vs cells e =
     low-on size a i ls (drop size (obey (set cells a (worth x vs)) (later x vs) ls .cells) ≡ drop size cells) e
     (λ b q. obey-above size ls (suc i) (later x vs) (set cells a (worth x vs)) q ∙ drop-set-lt size cells a (worth x vs) b)
 
+-- whether a line is too high doesn't depend on where the counting starts
+high-at : (size i j : ℕ) (ls : List Line) → high size i ls ≡ none → high size j ls ≡ none
+unfolding high
+high-at size i j [] e = refl
+high-at size i j (shows o l ∷ ls) e = high-at size (suc i) (suc j) ls e
+high-at size i j (stores a x ∷ ls) e = low-on size a i ls (high size j (stores a x ∷ ls) ≡ none) e (λ b q. rw (lt-ltb a size b, high) (high-at size (suc i) (suc j) ls q))
+high-at size i j (loads o a ∷ ls) e = low-on size a i ls (high size j (loads o a ∷ ls) ≡ none) e (λ b q. rw (lt-ltb a size b, high) (high-at size (suc i) (suc j) ls q))
+
+-- the title is no line that the frame machine obeys
+under-title : (room : Room) (p : Place) (place : Placement) (fs : List Frame) (ls : List Line) (size : ℕ) → Holds room place fs ls size → Holds room place fs (title p ++ ls) size
+unfolding obey high listTakes
+under-title room byHead place fs ls size h = h
+under-title room lowest place fs ls size h = record { prints = h .prints; samples = h .samples; inside = high-at size 0 1 ls (h .inside) }
+
 -- the cells before the first line: zeroed below `size`
 zeroed-above : (size : ℕ) (cells : List ℕ) → drop size (replicate size 0 ++ drop size cells) ≡ drop size cells
 zeroed-above size cells =
     subst (λ (n : ℕ). drop n (replicate size 0 ++ drop size cells) ≡ drop size cells) (length-replicate size 0) (drop-append-seam (replicate size 0) (drop size cells))
 
--- the frames behind an accepted script's bytes: demand 3 holds of them, and the list reads back
-pub record Held (room : Room) (place : Placement) (script : List ℕ) (ls : List Line) (size : ℕ) : Type 0 where
+-- the frames behind an accepted script's title: demand 3 holds of them, and the list reads back
+pub record Held (room : Room) (script : List ℕ) (ls : List Line) (size : ℕ) : Type 0 where
   pub script-frames : List Frame
-  pub read : scriptFrom room 0 (split script) ≡ frames script-frames
-  pub holds : Holds room place script-frames ls size
-  pub back : listFrom room 0 (split (listText ls size)) ≡ listed ls size
+  pub read : readScript room script .script ≡ frames script-frames
+  pub holds : Holds room (placing (room .segments) (readScript room script .place)) script-frames ls size
+  pub back : readList room (listText ls size) ≡ listed ls size
 
-module _ (room : Room) (place : Placement) (fair : Fair room place (SlotsSound (room .segments))) (wide : Wide room) where
+module _ (room : Room) (place : Placement) where
   runs : (fs : List Frame) (ls : List Line) (size : ℕ) (cells list : List ℕ) (n : ℕ) (vs : List ℕ) → Holds room place fs ls size → size ≤ length cells
-      → framesTake fs ≤ n → framesTake fs ≤ length vs → listFrom room 0 (split list) ≡ listed ls size
+      → framesTake fs ≤ n → framesTake fs ≤ length vs → readList room list ≡ listed ls size
       → Runs room size cells (recorded n vs) list (meaning room place start (λ h. 0) vs fs) (n - framesTake fs)
   unfolding recordedOn runListed
   runs fs ls size cells list n vs holds fits many kept back =
@@ -82,14 +94,15 @@ module _ (room : Room) (place : Placement) (fair : Fair room place (SlotsSound (
       }
 
   lacks : (fs : List Frame) (ls : List Line) (size : ℕ) (cells list : List ℕ) (n : ℕ) (vs : List ℕ) → Holds room place fs ls size → n < framesTake fs
-      → listFrom room 0 (split list) ≡ listed ls size → Lacks room cells (recorded n vs) list (lacking 0 n ls)
+      → readList room list ≡ listed ls size → Lacks room cells (recorded n vs) list (lacking 0 n ls)
   unfolding recordedOn runListed
   lacks fs ls size cells list n vs holds few back =
       let f = too-few ls 0 n (omega (arith, holds .samples)) in
       record { line = f .line; is-first = f .is; stops = rw (back, holds .inside, f .is, runListed, runSampled) }
 
-  -- ---- what an accepted script writes
+-- ---- what accepted frames write
 
+module _ (room : Room) (place : Placement) (fair : Fair room place (SlotsSound (room .segments))) (wide : Wide room) where
   record Written (fs : List Frame) (ls : List Line) (size : ℕ) : Type 0 where
     fits : FitLines ls
     lengths : length ls ≡ length fs
@@ -121,67 +134,74 @@ module _ (room : Room) (place : Placement) (fair : Fair room place (SlotsSound (
             within = w .within;
           }
 
-  reads : (script : List ℕ) (fs : List Frame) (ls : List Line) (size : ℕ) → scriptFrom room 0 (split script) ≡ frames fs → steps room place 0 start fs ≡ accepted ls size
-      → listFrom room 0 (split (listText ls size)) ≡ listed ls size
-  reads script fs ls size q x =
-      let well = read-well room (split script) 0 fs (omega arith) q in
-      let w = written (well .fits) 0 start ls size (well .few) (start-sound room (wide .segments) (wide .scopes)) small-start x in
-      reads-back room (w .fits) 0 size (omega (arith, well .few, w .lengths)) (w .within) (wide .size)
+module _ (room : Room) (wide : Wide room) where
+  pub title-short : (p : Place) → length (title p) ≤ room .lines
+  title-short byHead = omega arith
+  title-short lowest = wide .one-line
 
   -- ---- demand 3
 
-  holds-for : (fs : List Frame) (ls : List Line) (size : ℕ) → steps room place 0 start fs ≡ accepted ls size → Holds room place fs ls size
-  unfolding Demand3
-  holds-for fs ls size x = demand3 room place (SlotsSound (room .segments)) fair fs ls size x
-
   -- an accepted script's frames, of which demand 3 holds
-  pub held : (script : List ℕ) (ls : List Line) (size : ℕ) → translated room place script ≡ accepted ls size → Held room place script ls size
-  unfolding translated outcome
-  held script ls size e = go (scriptFrom room 0 (split script)) refl e
+  pub held : (script : List ℕ) (ls : List Line) (size : ℕ) → translated room script ≡ accepted ls size → Held room script ls size
+  unfolding Demand3 translated outcome readScript
+  held script ls size e = go (readScript room script .script) refl e
     where
-      go : (r : Script) → scriptFrom room 0 (split script) ≡ r → outcome room place r ≡ accepted ls size → Held room place script ls size
+      go : (r : Script) → readScript room script .script ≡ r → outcome room (readScript room script .place) r ≡ accepted ls size → Held room script ls size
       go (unread n i) q x = absurd (let z : _≡_ {A = ℕ} 0 1 = cc in omega arith)
-      go (frames fs) q x = record { script-frames = fs; read = q; holds = holds-for fs ls size x; back = reads script fs ls size q x }
+      go (frames fs) q x =
+          let p : Place = readScript room script .place in
+          let place : Placement = placing (room .segments) p in
+          let fair : Fair room place (SlotsSound (room .segments)) = placing-fair-sound room (wide .segments) p in
+          let i : ℕ = length (title p) in
+          let tl = tail (title p) (steps room place i start fs) ls size x in
+          let well = read-well room (titled (split script) .rest) i fs (title-short p) q in
+          let w = written room place fair wide (well .fits) i start (tl .rest) size (well .few) (start-sound room (wide .segments) (wide .scopes)) (small-start i) (tl .went) in
+          record {
+            script-frames = fs;
+            read = q;
+            holds =
+                subst (λ (l : List Line). Holds room place fs l size) (tl .whole)
+                (under-title room p place fs (tl .rest) size (demand3 room place (SlotsSound (room .segments)) fair i fs (tl .rest) size (tl .went)));
+            back =
+                subst (λ (l : List Line). readList room (listText l size) ≡ listed l size) (tl .whole)
+                (title-back room p (w .fits) size (omega (arith, well .few, w .lengths)) (w .within) (wide .size));
+          }
 
-  pub round-trip : RoundTrip room place
+  pub round-trip : RoundTrip room
   unfolding RoundTrip
   round-trip script ls size e = held script ls size e .back
 
-  pub demand3-bytes : Demand3Bytes room place
+  pub demand3-bytes : Demand3Bytes room
   unfolding Demand3Bytes scriptMeaning scriptTakes
   demand3-bytes script ls size e cells fits n vs many kept =
       let h = held script ls size e in
       rw (h .read, scriptMeaning, scriptTakes)
-      (runs (h .script-frames) ls size cells (listText ls size) n vs (h .holds) fits (rw (h .read, scriptTakes) at many) (rw (h .read, scriptTakes) at kept) (h .back))
+      (runs room (placing (room .segments) (readScript room script .place)) (h .script-frames) ls size cells (listText ls size) n vs (h .holds) fits (rw (h .read, scriptTakes) at many) (rw (h .read, scriptTakes) at kept) (h .back))
 
-  pub samples-too-few : TooFew room place
+  pub samples-too-few : TooFew room
   unfolding TooFew scriptTakes
   samples-too-few script ls size e cells n vs few =
       let h = held script ls size e in
-      lacks (h .script-frames) ls size cells (listText ls size) n vs (h .holds) (rw (h .read, scriptTakes) at few) (h .back)
+      lacks room (placing (room .segments) (readScript room script .place)) (h .script-frames) ls size cells (listText ls size) n vs (h .holds) (rw (h .read, scriptTakes) at few) (h .back)
 
   -- a list takes as many samples as its script
-  pub takes-as-many : (script : List ℕ) (ls : List Line) (size : ℕ) → translated room place script ≡ accepted ls size → listTakes ls ≡ scriptTakes room script
+  pub takes-as-many : (script : List ℕ) (ls : List Line) (size : ℕ) → translated room script ≡ accepted ls size → listTakes ls ≡ scriptTakes room script
   unfolding scriptTakes
   takes-as-many script ls size e = let h = held script ls size e in rw (h .read, scriptTakes) (h .holds .samples)
 
--- ---- of edition 1
+-- ---- in the room of 01
 
-pub base-fair : Fair base (edition1 8) (SlotsSound (base .segments))
-unfolding base
-base-fair = edition1-fair-sound base (lit< tt)
+pub round-trip-base : RoundTrip base
+round-trip-base = round-trip base base-wide
 
-pub round-trip-edition1 : RoundTrip base (edition1 8)
-round-trip-edition1 = round-trip base (edition1 8) base-fair base-wide
+pub bytes-base : Demand3Bytes base
+bytes-base = demand3-bytes base base-wide
 
-pub bytes-edition1 : Demand3Bytes base (edition1 8)
-bytes-edition1 = demand3-bytes base (edition1 8) base-fair base-wide
+pub too-few-base : TooFew base
+too-few-base = samples-too-few base base-wide
 
-pub too-few-edition1 : TooFew base (edition1 8)
-too-few-edition1 = samples-too-few base (edition1 8) base-fair base-wide
+pub held-base : (script : List ℕ) (ls : List Line) (size : ℕ) → translated base script ≡ accepted ls size → Held base script ls size
+held-base = held base base-wide
 
-pub held-edition1 : (script : List ℕ) (ls : List Line) (size : ℕ) → translated base (edition1 8) script ≡ accepted ls size → Held base (edition1 8) script ls size
-held-edition1 = held base (edition1 8) base-fair base-wide
-
-pub takes-edition1 : (script : List ℕ) (ls : List Line) (size : ℕ) → translated base (edition1 8) script ≡ accepted ls size → listTakes ls ≡ scriptTakes base script
-takes-edition1 = takes-as-many base (edition1 8) base-fair base-wide
+pub takes-base : (script : List ℕ) (ls : List Line) (size : ℕ) → translated base script ≡ accepted ls size → listTakes ls ≡ scriptTakes base script
+takes-base = takes-as-many base base-wide

@@ -8,14 +8,14 @@ use native.Mathlib.Nat.{le-of-eq}
 use lib.ListN.{replicate, length-replicate}
 use Rattle.rules.specs.Notation.{Answer, given, refused}
 use Rattle.rules.specs.Sizes.{Room}
-use Rattle.rules.specs.Slots.{Slots, Placement, edition1}
+use Rattle.rules.specs.Slots.{Slots, Placement, Place, placing}
 use Rattle.rules.specs.Scopes.{Binding, freshScopes, getName}
 use Rattle.rules.specs.Frames.{State, start, Frame, child, pop, dangle, restore, popLast, alloc, allocIn, linear, define, get, takeFrom, free, freeQuietly, forget, drain, write, read, readName, newDefer, newAssigned, newIgnore, allocNeed, outputNeed, dropNeed, Line, Step, step, steps, Outcome, accepted, refusedAt, before, onward}
 use Rattle.rules.specs.Meaning.{Deed, showBound, deed, filled, unused, shown, unlessRefused, meaning, frameTakes, framesTake}
 use Rattle.rules.specs.Demand3.{Fair, Demand3}
 use Rattle.rules.proofs.Core.{Inv, Trace, ends, goes, told, deedTakes, deedsTake, prints, samples, touches}
 use Rattle.rules.proofs.Effects.{view, effect}
-use Rattle.rules.proofs.Editions.{InOrder, edition1-fair}
+use Rattle.rules.proofs.Editions.{InOrder, placing-fair}
 
 -- what stands behind the lines of an accepted script's first frame
 pub record Tail (first : List Line) (o : Outcome) (ls : List Line) (size : ℕ) : Type 0 where
@@ -121,8 +121,8 @@ module _ (room : Room) (place : Placement) (Ord : Slots → Type 0) (fair : Fair
 
   pub demand3 : Demand3 room place
   unfolding Demand3
-  demand3 fs ls size e =
-      let t = traced fs 0 start ls size start-in-order e in
+  demand3 i fs ls size e =
+      let t = traced fs i start ls size start-in-order e in
       let zeros : List ℕ = replicate size 0 in
       record {
         prints = λ vs cells fits. prints (view start) (t .deeds) ls size (t .trace) (λ h. 0) vs cells (at-start cells) fits ∙ t .means (λ h. 0) vs;
@@ -130,6 +130,6 @@ module _ (room : Room) (place : Placement) (Ord : Slots → Type 0) (fair : Fair
         inside = touches (view start) (t .deeds) ls size (t .trace) (λ h. 0) [] zeros (at-start zeros) (le-of-eq (sym (length-replicate size 0))) 0;
       }
 
--- of edition 1, in every room
-pub demand3-edition1 : (room : Room) → Demand3 room (edition1 (room .segments))
-demand3-edition1 room = demand3 room (edition1 (room .segments)) (InOrder (room .segments)) (edition1-fair room)
+-- of both editions, in every room
+pub demand3-editions : (room : Room) (p : Place) → Demand3 room (placing (room .segments) p)
+demand3-editions room p = demand3 room (placing (room .segments) p) (InOrder (room .segments)) (placing-fair room p)

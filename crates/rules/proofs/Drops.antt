@@ -9,12 +9,12 @@ use native.Mathlib.Omega.{arith}
 use lib.ListN.{length, length-append}
 use Rattle.rules.specs.Notation.{Answer, given, refused, _>>=_, refuse_when_, refuse_unless_, if_then_else_}
 use Rattle.rules.specs.Sizes.{Room, base}
-use Rattle.rules.specs.Slots.{Placement, edition1}
+use Rattle.rules.specs.Slots.{Placement, Place, placing}
 use Rattle.rules.specs.AddressSets.{member}
 use Rattle.rules.specs.Scopes.{Id, Scopes, Found, topScope}
 use Rattle.rules.specs.Needs.{Kind, local, dangling, assigned, freed, scope, address, isScope, goesBack, giveBack, Need, defer, at, ignore, freedNeed}
 use Rattle.rules.specs.Frames.{Frame, dropNeed, isScopeKind, State, start, lost, handBack, freeAs, freeOwn, Step, step, refusedAt, onward, steps}
-use Rattle.rules.specs.Text.{split}
+use Rattle.rules.specs.Text.{split, titled, title, readScript}
 use Rattle.rules.specs.Entries.{outcome, translated}
 use Rattle.rules.specs.Demand3.{Fair}
 use Rattle.rules.specs.Drops.{DropsUnlessLost, DropsUnlessLostBytes}
@@ -27,7 +27,8 @@ use Rattle.rules.proofs.Refusals.{behind, refused-from}
 use Rattle.rules.proofs.Small.{Small, small-start, small-step}
 use Rattle.rules.proofs.Fits.{Wide, base-wide}
 use Rattle.rules.proofs.Scripts.{read-well}
-use Rattle.rules.proofs.Bytes.{base-fair}
+use Rattle.rules.proofs.Editions.{placing-fair-sound}
+use Rattle.rules.proofs.Bytes.{title-short}
 use Rattle.rules.proofs.KeepsSteps.{keeps-step}
 use Rattle.rules.proofs.Reached.{start-sound}
 use Rattle.rules.proofs.OwnHandles.{Kept, Owned, start-owned, owned-step}
@@ -115,20 +116,22 @@ module _ (room : Room) (wide : Wide room) (place : Placement) (fair : Fair room 
 
   pub drops-unless-lost : DropsUnlessLost room place
   unfolding DropsUnlessLost
-  drops-unless-lost fs need more n few e =
-      drops fs 0 start need more n (omega arith) (start-sound room (wide .segments) (wide .scopes)) (start-owned room) small-start (e ∙ ap (refusedAt n) (omega arith))
+  drops-unless-lost i fs need more n few e = drops fs i start need more n few (start-sound room (wide .segments) (wide .scopes)) (start-owned room) (small-start i) e
 
-  pub drops-unless-lost-bytes : DropsUnlessLostBytes room place
-  unfolding DropsUnlessLost DropsUnlessLostBytes translated outcome
-  drops-unless-lost-bytes script fs need more n r e =
-      drops-unless-lost fs need more n
-      (omega (arith, read-well room (split script) 0 (fs ++ (dropNeed need ∷ more)) (omega arith) r .few, length-append fs (dropNeed need ∷ more)))
-      (sym (rw r) ∙ e)
+pub drops-unless-lost-bytes : (room : Room) → Wide room → DropsUnlessLostBytes room
+unfolding DropsUnlessLost DropsUnlessLostBytes translated outcome readScript
+drops-unless-lost-bytes room wide script fs need more n r e =
+    let p : Place = readScript room script .place in
+    let i : ℕ = length (title p) in
+    let all : List Frame = fs ++ (dropNeed need ∷ more) in
+    drops-unless-lost room wide (placing (room .segments) p) (placing-fair-sound room (wide .segments) p) i fs need more n
+    (omega (arith, read-well room (titled (split script) .rest) i all (title-short room wide p) r .few, length-append fs (dropNeed need ∷ more)))
+    (behind room (placing (room .segments) p) (title p) (steps room (placing (room .segments) p) i start all) n (i + length fs) (sym (rw r) ∙ e))
 
--- in the room of 01, by edition 1
+-- in the room of 01
+pub drops-base : (p : Place) → DropsUnlessLost base (placing 8 p)
+unfolding base
+drops-base p = drops-unless-lost base base-wide (placing 8 p) (placing-fair-sound base (base-wide .segments) p)
 
-pub drops-edition1 : DropsUnlessLost base (edition1 8)
-drops-edition1 = drops-unless-lost base base-wide (edition1 8) base-fair
-
-pub drops-bytes-edition1 : DropsUnlessLostBytes base (edition1 8)
-drops-bytes-edition1 = drops-unless-lost-bytes base base-wide (edition1 8) base-fair
+pub drops-bytes-base : DropsUnlessLostBytes base
+drops-bytes-base = drops-unless-lost-bytes base base-wide

@@ -1,14 +1,14 @@
--- Edition 1 is a fair placement: on slots that are in order, and so on those that are sound. Assumes nothing.
+-- Both editions are fair placements: on slots that are in order, and so on those that are sound. Assumes nothing.
 use mathlib.Core.Path.{_≡_, refl, sym, subst, _∙_}
-use mathlib.Core.Bool.{Bool, true, false, true≢false}
+use mathlib.Core.Bool.{Bool, true, false, not, true≢false}
 use mathlib.Core.Option.{Option, none, some}
-use Prim.Native.Nat.{ℕ, zero, suc, _+_, _*_, _-_, _/_, _%_, _≤_, _<_}
+use Prim.Native.Nat.{ℕ, zero, suc, _+_, _*_, _-_, _/_, _%_, max, _≤_, _<_}
 use native.Mathlib.Omega.{arith}
 use lib.Dec.{eqb, ltb}
 use borrow.Author.Tests.{eqb-true, eqb-false, ltb-false, not-true}
 use Rattle.rules.specs.Notation.{put, pastLast}
 use Rattle.rules.specs.Sizes.{Room}
-use Rattle.rules.specs.Slots.{Slots, Placed, Placement, freshSlots, insert, insertNew, pastGreatest, pushAt, pushes, pushRun, remove, edition1}
+use Rattle.rules.specs.Slots.{Slots, Placed, Placement, freshSlots, insert, insertNew, pastGreatest, pushAt, pushes, pushRun, remove, edition1, lowestOfAll, takeAt, insertLowest, edition2, Place, byHead, lowest, placing}
 use Rattle.rules.specs.Sound.{soundSlots}
 use Rattle.rules.specs.Demand3.{Gives, Fair}
 use Rattle.rules.proofs.Chains.{none-some}
@@ -57,7 +57,7 @@ module _ (n : ℕ) where
   abbrev Owed : ℕ → Slots → Placed → Type 0
   Owed m s p = InOrder n (p .next) × Gives m s p × (p .address + m ≤ 128 * n)
 
-  Given : ℕ → Slots → Option Placed → Type 0
+  unfoldable Given : ℕ → Slots → Option Placed → Type 0
   Given m s o = (p : Placed) → o ≡ some p → Owed m s p
 
   given-some : (m : ℕ) (s : Slots) (p : Placed) → Owed m s p → Given m s (some p)
@@ -194,23 +194,42 @@ module _ (n : ℕ) where
             fits,
           ))
 
-  edition1-given : (m : ℕ) (s : Slots) → InOrder n s → Given m s (edition1 n m s)
-  unfolding edition1
-  edition1-given m s o = go (eqb m 1) refl
+  -- ---- the lowest clear slot of all
+
+  lowest-fair : (s : Slots) → InOrder n s → Given 1 s (insertLowest n s)
+  unfolding insertLowest lowestOfAll takeAt
+  lowest-fair s o = go (lowestOfAll n s) refl
     where
-      go : (x : Bool) → eqb m 1 ≡ x → Given m s (edition1 n m s)
-      go true e = rw (e, edition1) (rw (eqb-true m 1 e) (insert-fair s o))
-      go false e = rw (e, edition1) (run-fair m s o)
+      go : (r : Option ℕ) → lowestOfAll n s ≡ r → Given 1 s (insertLowest n s)
+      go none e = rw (e, insertLowest) (given-none 1 s)
+      go (some a) e =
+          let f = first-found _ _ _ a e in
+          let l : a < 128 * n = omega (arith, f .high) in
+          rw (e, insertLowest) (given-some 1 s _ (one s a _ _ o (not-true (s .occupied a) (f .passes)) (omega arith) (omega arith) (omega (arith, o .segments)) (omega arith)))
 
--- ---- edition 1
+  -- ---- one slot by an insert, a run by pushes
 
-pub edition1-fair : (room : Room) → Fair room (edition1 (room .segments)) (InOrder (room .segments))
+  by-one : (m : ℕ) (s : Slots) (o : Option Placed) → InOrder n s → Given 1 s o → Given m s (elim (eqb m 1) [ true ↦ o | false ↦ pushRun n m s ])
+  by-one m s o ok g = go (eqb m 1) refl
+    where
+      go : (x : Bool) → eqb m 1 ≡ x → Given m s (elim x [ true ↦ o | false ↦ pushRun n m s ])
+      go true e = rw (eqb-true m 1 e) g
+      go false e = run-fair m s ok
+
+  placing-given : (p : Place) (m : ℕ) (s : Slots) → InOrder n s → Given m s (placing n p m s)
+  unfolding placing edition1 edition2
+  placing-given byHead m s o = by-one m s (insert n s) o (insert-fair s o)
+  placing-given lowest m s o = by-one m s (insertLowest n s) o (lowest-fair s o)
+
+-- ---- both editions
+
+pub placing-fair : (room : Room) (p : Place) → Fair room (placing (room .segments) p) (InOrder (room .segments))
 unfolding Given
-edition1-fair room =
+placing-fair room p =
     record {
       at-first = fresh-in-order (room .segments);
       removed = removed-in-order (room .segments);
-      placed = λ m s p e o. edition1-given (room .segments) m s o p e;
+      placed = λ m s q e o. placing-given (room .segments) p m s o q e;
     }
 
 -- a placement that is fair on some slots is fair on the same slots, said otherwise
@@ -223,9 +242,9 @@ fair-as there back f =
     }
 
 -- on sound slots, as a record and as the test, where there is room at all
-module _ (room : Room) (pos : 0 < room .segments) where
-  pub edition1-fair-sound : Fair room (edition1 (room .segments)) (SlotsSound (room .segments))
-  edition1-fair-sound = fair-as (λ s. in-order-sound (room .segments) s pos) (sound-in-order (room .segments)) (edition1-fair room)
+module _ (room : Room) (pos : 0 < room .segments) (p : Place) where
+  pub placing-fair-sound : Fair room (placing (room .segments) p) (SlotsSound (room .segments))
+  placing-fair-sound = fair-as (λ s. in-order-sound (room .segments) s pos) (sound-in-order (room .segments)) (placing-fair room p)
 
-  pub edition1-fair-test : Fair room (edition1 (room .segments)) (λ s. soundSlots (room .segments) s ≡ true)
-  edition1-fair-test = fair-as (λ s. tells-slots (room .segments) s .shows) (λ s. tells-slots (room .segments) s .holds) edition1-fair-sound
+  pub placing-fair-test : Fair room (placing (room .segments) p) (λ s. soundSlots (room .segments) s ≡ true)
+  placing-fair-test = fair-as (λ s. tells-slots (room .segments) s .shows) (λ s. tells-slots (room .segments) s .holds) placing-fair-sound

@@ -7,17 +7,18 @@ use mathlib.Core.List.{List, [], _∷_, reverse}
 use Prim.Native.Nat.{ℕ, suc, _*_, _/_, _≤_, _<_}
 use native.Mathlib.Omega.{arith}
 use lib.Dec.{ltb}
+use lib.ListN.{length}
 use borrow.Author.Tests.{lt-ltb, not-false}
 use Rattle.rules.specs.Notation.{Answer, given, refused, _>>=_, _▹_}
 use Rattle.rules.specs.Sizes.{Room, base}
-use Rattle.rules.specs.Slots.{Slots, Placement, removes, remove, removeAll, edition1}
+use Rattle.rules.specs.Slots.{Slots, Placement, removes, remove, removeAll, Place, placing}
 use Rattle.rules.specs.AddressSets.{member}
 use Rattle.rules.specs.Scopes.{Scopes, slots≔, Found, byNumber, closed, poppable, popScope, lastPoppable, popLastScope}
 use Rattle.rules.specs.Needs.{Kind, Address, giveBack, freeAddress, freeEach, freeRun, Need, defer, at, ignore, freedNeed, freeNeed}
 use Rattle.rules.specs.Frames.{Frame, child, pop, dangle, restore, popLast, alloc, allocIn, linear, define, get, takeFrom, free, freeQuietly, forget, drain, write, read, readName, newDefer, newAssigned, newIgnore, allocNeed, outputNeed, dropNeed, State, start, scopes≔, close, handBack, freeAs, freeHandle, freeOwn, Line, shows, Step, oneLine, step, Outcome, before, onward, steps}
 use Rattle.rules.specs.Sound.{soundSlots, sound, soundState}
 use Rattle.rules.specs.Demand3.{Fair}
-use Rattle.rules.specs.Text.{split, Script, frames, unread, scriptFrom}
+use Rattle.rules.specs.Text.{Script, frames, unread, title, readScript}
 use Rattle.rules.specs.Entries.{outcome, translated}
 use Rattle.rules.specs.FirstWording.{remove01, removeAll01, AllRemoved, none-left, yes-to, closed01, popScope01, popLastScope01, giveBack01, freeAddress01, freeEach01, freeRun01, freeNeed01, close01, handBack01, freeAs01, freeHandle01, freeOwn01, step01, steps01, outcome01, translated01, NoListChanges}
 use Rattle.rules.proofs.Chains.{All, all-given, all-when, all-unless, then-same}
@@ -33,7 +34,8 @@ use Rattle.rules.proofs.Naming.{Here, top-here, Named, by-number, named
 use Rattle.rules.proofs.Leaves.{back-leaves}
 use Rattle.rules.proofs.KeepsScopes.{poppable-is, last-is}
 use Rattle.rules.proofs.Fits.{base-wide}
-use Rattle.rules.proofs.Kept.{start-kept, free-kept, step-kept, base-fair}
+use Rattle.rules.proofs.Editions.{placing-fair-test}
+use Rattle.rules.proofs.Kept.{start-kept, free-kept, step-kept}
 
 -- ---- slots
 
@@ -212,14 +214,17 @@ module _ (room : Room) (big : 128 * room .segments ≤ room .size) (place : Plac
       (λ r e. steps-same fs (suc i) (r .1) (step-kept room big place fair s ok f .at r e))
       ∙ ap (λ (m : Step). onward i m (λ t. steps01 room place (suc i) t fs)) (step-same room s ok place f)
 
-  pub no-list-changes : 0 < room .segments → 0 < room .scopes → NoListChanges room place
+module _ (room : Room) (big : 128 * room .segments ≤ room .size) where
+  pub no-list-changes : 0 < room .segments → 0 < room .scopes → NoListChanges room
   unfolding NoListChanges translated translated01 outcome outcome01
-  no-list-changes segments scopes script = go (scriptFrom room 0 (split script))
+  no-list-changes segments scopes script = go (readScript room script .place) (readScript room script .script)
     where
-      go : (r : Script) → outcome room place r ≡ outcome01 room place r
-      go (frames fs) = steps-same fs 0 start (start-kept room segments scopes)
-      go (unread n i) = refl
+      go : (p : Place) (r : Script) → outcome room p r ≡ outcome01 room p r
+      go p (frames fs) =
+          ap (before (title p))
+          (steps-same room big (placing (room .segments) p) (placing-fair-test room segments p) fs (length (title p)) start (start-kept room segments scopes))
+      go p (unread n i) = refl
 
--- in the room of 01, by edition 1
-pub no-list-changes-edition1 : NoListChanges base (edition1 8)
-no-list-changes-edition1 = no-list-changes base (base-wide .slots) (edition1 8) base-fair (base-wide .segments) (base-wide .scopes)
+-- in the room of 01
+pub no-list-changes-base : NoListChanges base
+no-list-changes-base = no-list-changes base (base-wide .slots) (base-wide .segments) (base-wide .scopes)

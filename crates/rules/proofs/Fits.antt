@@ -25,18 +25,19 @@ use Rattle.rules.proofs.Sound.{SlotsSound, NeedAgrees, StateSound}
 use Rattle.rules.proofs.Needing.{found}
 use Rattle.rules.proofs.Small.{Small, allot-small}
 
--- a room with a slot and a scope, whose numbers fit four digits
+-- a room with a slot, a scope and a line, whose numbers fit four digits
 pub record Wide (room : Room) : Type 0 where
   pub segments : 0 < room .segments
   pub scopes : 0 < room .scopes
   pub slots : 128 * room .segments ≤ room .size
   pub size : room .size < 65536
   pub lines : room .lines < 65536
+  pub one-line : 0 < room .lines
   pub needs : room .needs < 65536
 
 pub base-wide : Wide base
 unfolding base
-base-wide = record { segments = lit< tt; scopes = lit< tt; slots = omega arith; size = lit< tt; lines = lit< tt; needs = lit< tt }
+base-wide = record { segments = lit< tt; scopes = lit< tt; slots = omega arith; size = lit< tt; lines = lit< tt; one-line = lit< tt; needs = lit< tt }
 
 -- "values are 16 bits"
 abbrev pub FitSource : Source → Type 0

@@ -9,7 +9,7 @@ use Prim.Native.Nat.{ℕ, _*_, _≤_, _<_}
 use lib.Dec.{lit<}
 use Rattle.rules.specs.Notation.{Answer}
 use Rattle.rules.specs.Sizes.{Room, base}
-use Rattle.rules.specs.Slots.{Placement, edition1}
+use Rattle.rules.specs.Slots.{Placement, Place, placing}
 use Rattle.rules.specs.Scopes.{Id, Scopes, freshScopes, Found, openChild, allocTop, allocIn, allocRun, popScope, popLastScope, dangleScope, restoreScope, topScope, bindIn, defineName, takeName, drainDangling}
 use Rattle.rules.specs.Needs.{Address, allocAddress, allocAddressIn, allocAddresses, giveBack, freeAddress, freeRun, Need, allocateNeed, freeNeed}
 use Rattle.rules.specs.Frames.{Frame, State, start, step}
@@ -19,7 +19,7 @@ use Rattle.rules.proofs.Chains.{All, all-as}
 use Rattle.rules.proofs.Sound.{SlotsSound, Sound}
 use Rattle.rules.proofs.Tests.{tells-slots, tells-sound}
 use Rattle.rules.proofs.HandleTests.{tells-state}
-use Rattle.rules.proofs.Editions.{fair-as, edition1-fair-test}
+use Rattle.rules.proofs.Editions.{fair-as, placing-fair-test}
 use Rattle.rules.proofs.Fits.{base-wide}
 use Rattle.rules.proofs.Naming.{top-here, Named, named-here}
 use Rattle.rules.proofs.KeepsScopes.{keeps-child, keeps-dangle, keeps-restore, keeps-pop, keeps-pop-last}
@@ -47,8 +47,8 @@ module _ (room : Room) where
   is-sound : (c : Scopes) → sound room c ≡ true → Sound room c
   is-sound c h = tells-sound room c .holds h
 
-  placing : (place : Placement) → Fair room place (λ t. soundSlots (room .segments) t ≡ true) → Fair room place (SlotsSound (room .segments))
-  placing place = fair-as (λ t. tells-slots (room .segments) t .holds) (λ t. tells-slots (room .segments) t .shows)
+  as-record : (place : Placement) → Fair room place (λ t. soundSlots (room .segments) t ≡ true) → Fair room place (SlotsSound (room .segments))
+  as-record place = fair-as (λ t. tells-slots (room .segments) t .holds) (λ t. tells-slots (room .segments) t .shows)
 
 module _ (room : Room) (c : Scopes) (h : sound room c ≡ true) where
   pub child-kept : All (λ r. sound room (r .1) ≡ true) (openChild room c)
@@ -56,13 +56,13 @@ module _ (room : Room) (c : Scopes) (h : sound room c ≡ true) where
 
   module _ (big : 128 * room .segments ≤ room .size) (place : Placement) (fair : Fair room place (λ t. soundSlots (room .segments) t ≡ true)) where
     pub alloc-kept : All (λ r. sound room (r .1) ≡ true) (allocTop place c)
-    alloc-kept = tested room (λ r. r .1) (keeps-alloc room c (is-sound room c h) big place (placing room place fair))
+    alloc-kept = tested room (λ r. r .1) (keeps-alloc room c (is-sound room c h) big place (as-record room place fair))
 
     pub alloc-in-kept : (o : Option Found) → Named room c o → All (λ r. sound room (r .1) ≡ true) (allocIn place o c)
-    alloc-in-kept o n = tested room (λ r. r .1) (keeps-alloc-in room c (is-sound room c h) big place (placing room place fair) o (named-here n))
+    alloc-in-kept o n = tested room (λ r. r .1) (keeps-alloc-in room c (is-sound room c h) big place (as-record room place fair) o (named-here n))
 
     pub linear-kept : (n : ℕ) → All (λ r. sound room (r .1) ≡ true) (allocRun place n c)
-    linear-kept n = tested room (λ r. r .1) (keeps-run room c (is-sound room c h) big place (placing room place fair) n)
+    linear-kept n = tested room (λ r. r .1) (keeps-run room c (is-sound room c h) big place (as-record room place fair) n)
 
   pub pop-kept : (o : Option Found) → Named room c o → All (λ d. sound room d ≡ true) (popScope room o c)
   pop-kept o n = tested room (λ d. d) (keeps-pop room c (is-sound room c h) o (named-here n))
@@ -96,13 +96,13 @@ module _ (room : Room) (c : Scopes) (h : sound room c ≡ true) where
 module _ (room : Room) (c : Scopes) (h : sound room c ≡ true) where
   module _ (big : 128 * room .segments ≤ room .size) (place : Placement) (fair : Fair room place (λ t. soundSlots (room .segments) t ≡ true)) where
     pub address-kept : All (λ r. sound room (r .1) ≡ true) (allocAddress place c)
-    address-kept = tested room (λ r. r .1) (keeps-address room big place (placing room place fair) c (is-sound room c h))
+    address-kept = tested room (λ r. r .1) (keeps-address room big place (as-record room place fair) c (is-sound room c h))
 
     pub address-in-kept : (id : Id) → All (λ r. sound room (r .1) ≡ true) (allocAddressIn room place id c)
-    address-in-kept id = tested room (λ r. r .1) (keeps-address-in room big place (placing room place fair) c (is-sound room c h) id)
+    address-in-kept id = tested room (λ r. r .1) (keeps-address-in room big place (as-record room place fair) c (is-sound room c h) id)
 
     pub addresses-kept : (n : ℕ) → All (λ r. sound room (r .1) ≡ true) (allocAddresses place n c)
-    addresses-kept n = tested room (λ r. r .1) (keeps-addresses room big place (placing room place fair) c (is-sound room c h) n)
+    addresses-kept n = tested room (λ r. r .1) (keeps-addresses room big place (as-record room place fair) c (is-sound room c h) n)
 
   pub back-kept : (dangles : Bool) (a : ℕ) → All (λ d. sound room d ≡ true) (giveBack dangles a c)
   back-kept dangles a = tested room (λ d. d) (keeps-back room c (is-sound room c h) dangles a)
@@ -115,7 +115,7 @@ module _ (room : Room) (c : Scopes) (h : sound room c ≡ true) where
 
   module _ (big : 128 * room .segments ≤ room .size) (place : Placement) (fair : Fair room place (λ t. soundSlots (room .segments) t ≡ true)) where
     pub need-kept : (d : Need) → All (λ r. sound room (r .scopes) ≡ true) (allocateNeed room place d c)
-    need-kept d = tested room (λ r. r .scopes) (keeps-need room big place (placing room place fair) c (is-sound room c h) d)
+    need-kept d = tested room (λ r. r .scopes) (keeps-need room big place (as-record room place fair) c (is-sound room c h) d)
 
   pub free-need-kept : (d : Need) → All (λ r. sound room (r .1) ≡ true) (freeNeed d c)
   free-need-kept d = tested room (λ r. r .1) (keeps-free-need room d c (is-sound room c h))
@@ -124,20 +124,21 @@ module _ (room : Room) (c : Scopes) (h : sound room c ≡ true) where
 
 module _ (room : Room) (big : 128 * room .segments ≤ room .size) (place : Placement) (fair : Fair room place (λ t. soundSlots (room .segments) t ≡ true)) where
   pub step-kept : (s : State) → soundState room s ≡ true → (f : Frame) → All (λ r. soundState room (r .1) ≡ true) (step room place s f)
-  step-kept s h f = all-as (λ r. tells-state room (r .1) .shows) (keeps-step room s (tells-state room s .holds h) big place (placing room place fair) f)
+  step-kept s h f = all-as (λ r. tells-state room (r .1) .shows) (keeps-step room s (tells-state room s .holds h) big place (as-record room place fair) f)
 
   pub frames-kept : (s t : State) (fs : List Frame) → soundState room s ≡ true → Reaches room place s fs t → soundState room t ≡ true
-  frames-kept s t fs h r = tells-state room t .shows (keeps-frames room big place (placing room place fair) r (tells-state room s .holds h))
+  frames-kept s t fs h r = tells-state room t .shows (keeps-frames room big place (as-record room place fair) r (tells-state room s .holds h))
 
--- ---- in the room of 01, by edition 1
+-- ---- in the room of 01, by either edition
 
-pub base-fair : Fair base (edition1 8) (λ t. soundSlots (base .segments) t ≡ true)
-unfolding base
-base-fair = edition1-fair-test base (lit< tt)
+module _ (p : Place) where
+  pub base-fair : Fair base (placing 8 p) (λ t. soundSlots (base .segments) t ≡ true)
+  unfolding base
+  base-fair = placing-fair-test base (lit< tt) p
 
-pub base-step-kept : (s : State) → soundState base s ≡ true → (f : Frame) → All (λ r. soundState base (r .1) ≡ true) (step base (edition1 8) s f)
-base-step-kept = step-kept base (base-wide .slots) (edition1 8) base-fair
+  pub base-step-kept : (s : State) → soundState base s ≡ true → (f : Frame) → All (λ r. soundState base (r .1) ≡ true) (step base (placing 8 p) s f)
+  base-step-kept = step-kept base (base-wide .slots) (placing 8 p) base-fair
 
--- whatever a script reaches is sound
-pub script-kept : (t : State) (fs : List Frame) → Reaches base (edition1 8) start fs t → soundState base t ≡ true
-script-kept t fs r = frames-kept base (base-wide .slots) (edition1 8) base-fair start t fs (start-kept base (base-wide .segments) (base-wide .scopes)) r
+  -- whatever a script reaches is sound
+  pub script-kept : (t : State) (fs : List Frame) → Reaches base (placing 8 p) start fs t → soundState base t ≡ true
+  script-kept t fs r = frames-kept base (base-wide .slots) (placing 8 p) base-fair start t fs (start-kept base (base-wide .segments) (base-wide .scopes)) r

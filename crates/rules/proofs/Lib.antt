@@ -38,6 +38,7 @@ pub mod Needing
 pub mod KeepsSteps
 pub mod AsNeeds
 pub mod Apart
+pub mod Placeless
 pub mod Held
 pub mod Lookups
 pub mod Exact
@@ -48,6 +49,10 @@ pub mod Small
 pub mod Fits
 pub mod Scripts
 pub mod Bytes
+pub mod Blanks
+pub mod Said
+pub mod Meant
+pub mod Full
 pub mod FirstWording
 pub mod LiveBefore
 pub mod OwnHandles

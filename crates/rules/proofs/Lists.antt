@@ -1,5 +1,5 @@
 -- A list that is written reads back as the same lines and size. Assumes nothing.
-use mathlib.Core.Path.{_≡_, refl, sym, ap, _∙_}
+use mathlib.Core.Path.{_≡_, refl, sym, ap, subst, _∙_}
 use mathlib.Core.Bool.{Bool, true, false}
 use mathlib.Core.Option.{none, some}
 use mathlib.Core.List.{List, [], _∷_, _++_, append-assoc}
@@ -9,8 +9,10 @@ use lib.Dec.{eqb, ltb}
 use lib.ListN.{length}
 use borrow.Author.Tests.{ne-eqb, le-leb}
 use Rattle.rules.specs.Sizes.{Room}
-use Rattle.rules.specs.Frames.{Line}
-use Rattle.rules.specs.Text.{digit, hex2, hex4, hexes, split, onto, Row, rowed, lineOf, opcodeOf, operandsOf, lineText, listText, lineTable, sizeTable, listed, sizeAt, listFrom}
+use Rattle.rules.specs.Slots.{Place, byHead, lowest}
+use Rattle.rules.specs.Frames.{Line, shows}
+use Rattle.rules.specs.Text.{digit, hex2, hex4, hexes, split, onto, Row, rowed, lineOf, opcodeOf, operandsOf, lineText, listText, lineTable, sizeTable, listed, sizeAt, listFrom, titleTable, Titled, titled, title, underTitle, readList}
+use Rattle.rules.proofs.Chains.{none-some}
 use Rattle.rules.proofs.Digits.{Fit, fit-nil, fit, raw-line}
 
 -- ---- lines
@@ -86,3 +88,31 @@ unfolding listText lineText listFrom
 reads-back room no-lines i size h s m = rw (split-end 0x90 (size ∷ []), size-read size (omega arith), le-leb size (room .size) s, sizeAt)
 reads-back room (lines {l = l} {ls = ls} f fs) i size h s m =
     rw (split-text (opcodeOf l) (operandsOf l) (listText ls size), no-size l f, ne-eqb i (room .lines) (λ e. omega arith), line-read l f, reads-back room fs (suc i) size (omega arith) s m)
+
+-- ---- under a title
+
+no-title : (l : Line) → FitLine l → lineOf titleTable (record { text = hex2 (opcodeOf l) ++ hexes (operandsOf l); ended = true }) ≡ none
+unfolding rowed titleTable lineTable
+no-title l f =
+    line-of titleTable (opcodeOf l) (operandsOf l) (f .small) (f .fits)
+    ∙ rw (ne-eqb 0xf0 (opcodeOf l) (λ e. none-some (subst (λ (o : ℕ). rowed lineTable (record { opcode = o; operands = operandsOf l }) ≡ some l) (sym e) (f .reads))), rowed)
+
+untitled : {ls : List Line} → FitLines ls → (size : ℕ) → size < 65536 → titled (split (listText ls size)) ≡ record { place = byHead; rest = split (listText ls size) }
+unfolding listText lineText titled rowed titleTable
+untitled no-lines size h = rw (split-end 0x90 (size ∷ []), line-of titleTable 0x90 (size ∷ []) (omega arith) (fit h fit-nil), titled)
+untitled (lines {l = l} {ls = ls} f fs) size h = rw (split-text (opcodeOf l) (operandsOf l) (listText ls size), no-title l f, titled)
+
+titled-text : (ls : List Line) (size : ℕ) → titled (split (listText (shows 0xf0 (2 ∷ []) ∷ ls) size)) ≡ record { place = lowest; rest = split (listText ls size) }
+unfolding listText lineText titled rowed titleTable
+titled-text ls size = rw (split-text 0xf0 (2 ∷ []) (listText ls size), line-of titleTable 0xf0 (2 ∷ []) (omega arith) (fit (omega arith) fit-nil), titled)
+
+-- a list under the title of its edition reads back
+pub title-back : (room : Room) (p : Place) {ls : List Line} → FitLines ls → (size : ℕ) → length (title p) + length ls ≤ room .lines → size ≤ room .size → room .size < 65536
+    → readList room (listText (title p ++ ls) size) ≡ listed (title p ++ ls) size
+unfolding readList
+title-back room byHead f size h s m =
+    ap (λ (t : Titled). underTitle (title (t .place)) (listFrom room (length (title (t .place))) (t .rest))) (untitled f size (omega arith))
+    ∙ ap (underTitle []) (reads-back room f 0 size h s m)
+title-back room lowest {ls = ls} f size h s m =
+    ap (λ (t : Titled). underTitle (title (t .place)) (listFrom room (length (title (t .place))) (t .rest))) (titled-text ls size)
+    ∙ ap (underTitle (shows 0xf0 (2 ∷ []) ∷ [])) (reads-back room f 1 size h s m)

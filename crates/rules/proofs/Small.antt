@@ -26,9 +26,9 @@ pub record Small (i : ℕ) (s : State) : Type 0 where
   pub count : s .scopes .counter ≤ suc i
   pub addresses : (h : ℕ) → s .handles h .address < 65536
 
-pub small-start : Small 0 start
+pub small-start : (i : ℕ) → Small i start
 unfolding start freshScopes
-small-start = record { count = omega arith; addresses = λ h. lit< tt }
+small-start i = record { count = omega arith; addresses = λ h. lit< tt }
 
 letGo-address : (l : List ℕ) (f : ℕ → Handle) (h : ℕ) → letGo l f h .address ≡ f h .address
 unfolding letGo

@@ -7,10 +7,10 @@ use mathlib.Core.List.{List, [], _∷_}
 use Prim.Native.Nat.{ℕ, zero, suc, _+_, _*_, _-_, _≤_, _<_}
 use lib.ListN.{length, drop}
 use Rattle.rules.specs.Sizes.{Room}
-use Rattle.rules.specs.Slots.{Slots, Placed, Placement, freshSlots, remove}
+use Rattle.rules.specs.Slots.{Slots, Placed, Placement, placing, freshSlots, remove}
 use Rattle.rules.specs.Frames.{State, start, Frame, Line, accepted, steps}
 use Rattle.rules.specs.Meaning.{Ran, obey, high, meaning, listTakes, framesTake, lacking}
-use Rattle.rules.specs.Text.{split, Script, frames, unread, scriptFrom, listText, listed, listFrom}
+use Rattle.rules.specs.Text.{frames, unread, readScript, listText, listed, readList}
 use Rattle.rules.specs.Recordings.{Recording, recorded}
 use Rattle.rules.specs.Entries.{translated, RunOutcome, ran, stopped, recordedOn}
 
@@ -41,17 +41,20 @@ pub record Holds (room : Room) (place : Placement) (fs : List Frame) (ls : List 
   pub inside : high size 0 ls ≡ none
 
 unfoldable pub Demand3 : Room → Placement → Type 0
-Demand3 room place = (fs : List Frame) (ls : List Line) (size : ℕ) → steps room place 0 start fs ≡ accepted ls size → Holds room place fs ls size
+Demand3 room place = (i : ℕ) (fs : List Frame) (ls : List Line) (size : ℕ) → steps room place i start fs ≡ accepted ls size → Holds room place fs ls size
 
--- ---- on bytes
+-- ---- on bytes, for a script of either edition
 
 -- what a script means with these samples, and how many it takes
-unfoldable pub scriptMeaning : Room → Placement → List ℕ → List ℕ → List ℕ
-scriptMeaning room place script vs =
-    elim (scriptFrom room 0 (split script)) [ frames fs ↦ meaning room place start (λ h. 0) vs fs | unread n i ↦ [] ]
+unfoldable pub scriptMeaning : Room → List ℕ → List ℕ → List ℕ
+scriptMeaning room script vs =
+    elim (readScript room script .script) [
+      | frames fs ↦ meaning room (placing (room .segments) (readScript room script .place)) start (λ h. 0) vs fs
+      | unread n i ↦ []
+    ]
 
 unfoldable pub scriptTakes : Room → List ℕ → ℕ
-scriptTakes room script = elim (scriptFrom room 0 (split script)) [ frames fs ↦ framesTake fs | unread n i ↦ 0 ]
+scriptTakes room script = elim (readScript room script .script) [ frames fs ↦ framesTake fs | unread n i ↦ 0 ]
 
 -- The frame machine accepts the list's bytes on these cells with this recording, loads these values and leaves so many samples over; the
 -- cells from `size` on stay.
@@ -62,12 +65,12 @@ pub record Runs (room : Room) (size : ℕ) (cells : List ℕ) (r : Recording) (l
 
 -- W-205: "For every recording with samples enough, what is printed equals the meaning with those samples in order, each used once. The
 -- number of samples left over is reported."
-unfoldable pub Demand3Bytes : Room → Placement → Type 0
-Demand3Bytes room place =
-    (script : List ℕ) (ls : List Line) (size : ℕ) → translated room place script ≡ accepted ls size
+unfoldable pub Demand3Bytes : Room → Type 0
+Demand3Bytes room =
+    (script : List ℕ) (ls : List Line) (size : ℕ) → translated room script ≡ accepted ls size
     → (cells : List ℕ) → size ≤ length cells
     → (n : ℕ) (vs : List ℕ) → scriptTakes room script ≤ n → scriptTakes room script ≤ length vs
-    → Runs room size cells (recorded n vs) (listText ls size) (scriptMeaning room place script vs) (n - scriptTakes room script)
+    → Runs room size cells (recorded n vs) (listText ls size) (scriptMeaning room script vs) (n - scriptTakes room script)
 
 -- "23 when there are too few samples", whatever the cells and what was kept; it shows "the first 14 line without a sample"
 pub record Lacks (room : Room) (cells : List ℕ) (r : Recording) (list : List ℕ) (first : Option ℕ) : Type 0 where
@@ -75,13 +78,13 @@ pub record Lacks (room : Room) (cells : List ℕ) (r : Recording) (list : List �
   pub is-first : first ≡ some line
   pub stops : recordedOn room cells r list ≡ stopped 23 line
 
-unfoldable pub TooFew : Room → Placement → Type 0
-TooFew room place =
-    (script : List ℕ) (ls : List Line) (size : ℕ) → translated room place script ≡ accepted ls size
+unfoldable pub TooFew : Room → Type 0
+TooFew room =
+    (script : List ℕ) (ls : List Line) (size : ℕ) → translated room script ≡ accepted ls size
     → (cells : List ℕ) (n : ℕ) (vs : List ℕ) → n < scriptTakes room script → Lacks room cells (recorded n vs) (listText ls size) (lacking 0 n ls)
 
 -- a list that we wrote reads back as the same lines and size
-unfoldable pub RoundTrip : Room → Placement → Type 0
-RoundTrip room place =
-    (script : List ℕ) (ls : List Line) (size : ℕ) → translated room place script ≡ accepted ls size
-    → listFrom room 0 (split (listText ls size)) ≡ listed ls size
+unfoldable pub RoundTrip : Room → Type 0
+RoundTrip room =
+    (script : List ℕ) (ls : List Line) (size : ℕ) → translated room script ≡ accepted ls size
+    → readList room (listText ls size) ≡ listed ls size

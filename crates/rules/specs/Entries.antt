@@ -1,4 +1,4 @@
--- Document 01, "Script frames" and "Numbers given back", and W-205 of document 02: what translate, run, read_recording and run_recorded
+-- Document 01, "Script frames" and "Numbers given back", and W-205 and W-211 of document 02: what translate, run, read_recording and run_recorded
 -- answer and what they leave in lent memory, for all bytes; and what the two programs print. Assumes nothing.
 use mathlib.Core.Bool.{Bool, true, false, _&&_, _||_}
 use mathlib.Core.Option.{Option, none, some}
@@ -8,21 +8,21 @@ use lib.ListN.{length, replicate, drop}
 use lib.Dec.{eqb, leb, ltb}
 use Rattle.rules.specs.Notation.{if_then_else_}
 use Rattle.rules.specs.Sizes.{Room}
-use Rattle.rules.specs.Slots.{Placement}
-use Rattle.rules.specs.Frames.{Line, start, Outcome, accepted, refusedAt, steps}
+use Rattle.rules.specs.Slots.{Place, placing}
+use Rattle.rules.specs.Frames.{Line, start, Outcome, accepted, refusedAt, before, steps}
 use Rattle.rules.specs.Meaning.{Ran, obey, high, listTakes, lacking}
-use Rattle.rules.specs.Text.{hex2, hex4, split, Script, frames, unread, scriptFrom, listText, Listed, listed, unlisted, listFrom}
+use Rattle.rules.specs.Text.{hex2, hex4, Script, frames, unread, title, readScript, listText, Listed, listed, unlisted, readList}
 use Rattle.rules.specs.Recordings.{Recording, recorded, malformed, Reader, readerOf, stateOf, isState, fed, kept, ended}
 
 -- ---- translate: "Text: the first line with 1 or 2, before any step", then the steps
 
-module _ (room : Room) (place : Placement) where
-  unfoldable pub outcome : Script → Outcome
-  outcome (frames fs) = steps room place 0 start fs
-  outcome (unread n i) = refusedAt n i
+-- the frames behind a title, whose allocations go as it says
+unfoldable pub outcome : Room → Place → Script → Outcome
+outcome room p (frames fs) = before (title p) (steps room (placing (room .segments) p) (length (title p)) start fs)
+outcome room p (unread n i) = refusedAt n i
 
-  unfoldable pub translated : List ℕ → Outcome
-  translated script = outcome (scriptFrom room 0 (split script))
+unfoldable pub translated : Room → List ℕ → Outcome
+translated room script = outcome room (readScript room script .place) (readScript room script .script)
 
 -- ---- run: "20 after 1 and 2"; W-205: 24 and 23, "both after 20"; then 17
 
@@ -50,7 +50,7 @@ runListed cells r (listed ls size) = elim (high size 0 ls) [ some i ↦ stopped 
 
 -- "The frame machine takes a recording beside the list."
 unfoldable pub recordedOn : Room → List ℕ → Recording → List ℕ → RunOutcome
-recordedOn room cells r list = runListed cells r (listFrom room 0 (split list))
+recordedOn room cells r list = runListed cells r (readList room list)
 
 -- without one it is as with an empty one
 unfoldable pub ranOn : Room → List ℕ → List ℕ → RunOutcome
@@ -87,8 +87,8 @@ listLeft (accepted ls size) list =
     then record { answer = length (listText ls size); list = overFront (listText ls size) list }
     else record { answer = refusalAnswer 17 0; list = list }
 
-unfoldable pub translateEntry : Room → Placement → List ℕ → List ℕ → Translation
-translateEntry room place script list = listLeft (translated room place script) list
+unfoldable pub translateEntry : Room → List ℕ → List ℕ → Translation
+translateEntry room script list = listLeft (translated room script) list
 
 -- "a cell is two bytes there, high first"; an odd last byte is no cell
 unfoldable pub cellsOf : List ℕ → List ℕ
@@ -184,8 +184,8 @@ runText (stopped n i) = eeText n i
 unfoldable pub unlessLonger : Room → List ℕ → List ℕ → List ℕ
 unlessLonger room input printed = if (ltb (room .text) (length input)) then eeText 17 0 else printed
 
-unfoldable pub translatorPrints : Room → Placement → List ℕ → List ℕ
-translatorPrints room place input = unlessLonger room input (outcomeText (translated room place input))
+unfoldable pub translatorPrints : Room → List ℕ → List ℕ
+translatorPrints room input = unlessLonger room input (outcomeText (translated room input))
 
 -- the program lends as many cells as a list may ask for
 unfoldable pub runnerPrints : Room → List ℕ → List ℕ

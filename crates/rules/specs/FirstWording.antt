@@ -5,13 +5,14 @@ use mathlib.Core.Bool.{Bool, true, false, not}
 use mathlib.Core.Option.{Option}
 use mathlib.Core.List.{List, [], _∷_, map, reverse}
 use Prim.Native.Nat.{ℕ, suc, _/_}
+use lib.ListN.{length}
 use Rattle.rules.specs.Notation.{Answer, given, _>>=_, refuse_when_, if_then_else_, _▹_, put}
 use Rattle.rules.specs.Sizes.{Room}
-use Rattle.rules.specs.Slots.{Slots, Placement, removes, remove}
+use Rattle.rules.specs.Slots.{Slots, Placement, Place, placing, removes, remove}
 use Rattle.rules.specs.Scopes.{Scopes, slots≔, Found, byNumber, closed, poppable, lastPoppable}
 use Rattle.rules.specs.Needs.{Kind, freed, Address, address, isFreed, goesBack, giveBack, forgetAddress, Need, defer, at, ignore, freedNeed}
-use Rattle.rules.specs.Frames.{Frame, child, pop, dangle, restore, popLast, alloc, allocIn, linear, define, get, takeFrom, free, freeQuietly, forget, drain, write, read, readName, newDefer, newAssigned, newIgnore, allocNeed, outputNeed, dropNeed, kind≔, held≔, noNeed, isScopeKind, State, start, scopes≔, setHandle, barred, close, setNeed, lost, shows, Step, oneLine, step, Outcome, accepted, refusedAt, onward}
-use Rattle.rules.specs.Text.{split, Script, frames, unread, scriptFrom}
+use Rattle.rules.specs.Frames.{Frame, child, pop, dangle, restore, popLast, alloc, allocIn, linear, define, get, takeFrom, free, freeQuietly, forget, drain, write, read, readName, newDefer, newAssigned, newIgnore, allocNeed, outputNeed, dropNeed, kind≔, held≔, noNeed, isScopeKind, State, start, scopes≔, setHandle, barred, close, setNeed, lost, shows, Step, oneLine, step, Outcome, accepted, refusedAt, before, onward}
+use Rattle.rules.specs.Text.{Script, frames, unread, title, readScript}
 use Rattle.rules.specs.Entries.{translated}
 
 -- ---- slots
@@ -150,13 +151,13 @@ module _ (room : Room) (place : Placement) where
   steps01 i s [] = accepted [] (s .scopes .size)
   steps01 i s (f ∷ fs) = onward i (step01 s f) (λ t. steps01 (suc i) t fs)
 
-  unfoldable pub outcome01 : Script → Outcome
-  outcome01 (frames fs) = steps01 0 start fs
-  outcome01 (unread n i) = refusedAt n i
+unfoldable pub outcome01 : Room → Place → Script → Outcome
+outcome01 room p (frames fs) = before (title p) (steps01 room (placing (room .segments) p) (length (title p)) start fs)
+outcome01 room p (unread n i) = refusedAt n i
 
-  unfoldable pub translated01 : List ℕ → Outcome
-  translated01 script = outcome01 (scriptFrom room 0 (split script))
+unfoldable pub translated01 : Room → List ℕ → Outcome
+translated01 room script = outcome01 room (readScript room script .place) (readScript room script .script)
 
--- "No accepted script changes its list", nor a refused one its number and line
-unfoldable pub NoListChanges : Room → Placement → Type 0
-NoListChanges room place = (script : List ℕ) → translated room place script ≡ translated01 room place script
+-- "No accepted script changes its list", nor a refused one its number and line: in either edition
+unfoldable pub NoListChanges : Room → Type 0
+NoListChanges room = (script : List ℕ) → translated room script ≡ translated01 room script

@@ -16,3 +16,4 @@ pub mod Demand3
 pub mod Sessions
 pub mod FirstWording
 pub mod Drops
+pub mod Editions

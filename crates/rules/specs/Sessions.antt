@@ -1,5 +1,5 @@
--- Document 01, "Sessions to hold", A to K: one list, and the statement over it; and of document 02 lists of sessions for needs (W-201) and
--- for recordings (W-205). Assumes nothing.
+-- Document 01, "Sessions to hold", A to K: one list, and the statement over it; and of document 02 lists of sessions for needs (W-201),
+-- for recordings (W-205) and for edition 2 (W-211). Assumes nothing.
 use mathlib.Core.Path.{_≡_}
 use mathlib.Core.List.{List, [], _∷_, _++_, map}
 use Prim.Native.Nat.{ℕ, zero, suc}
@@ -8,7 +8,6 @@ use Prim.Native.String.{String}
 use Prim.Native.String
 use lib.ListN.{replicate}
 use Rattle.rules.specs.Sizes.{Room, base}
-use Rattle.rules.specs.Slots.{edition1}
 use Rattle.rules.specs.Frames.{Outcome, accepted, refusedAt}
 use Rattle.rules.specs.Text.{listText}
 use Rattle.rules.specs.Recordings.{recording}
@@ -188,6 +187,57 @@ recordedSessions =
     ∷ beside "140000\n900001\n" "300001\n" 0 "ee110000\n"
     ∷ []
 
+-- W-211
+unfoldable pub editionSessions : List Session
+editionSessions =
+    -- the title alone; its list line repeats it, and it prints nothing
+    session "f00002\n" "f00002\n900000\n" ""
+    ∷ session "f00002\n06\n1000000007\n110000\n" "f00002\n060000\n1000000007\n110000\n900001\n" "a00007\n"
+    -- it counts as a frame
+    ∷ session "f00002\n110000\n" "ee0d0001\n" ""
+    -- `f0` with another number, or on a later line; torn, too short, too long
+    ∷ session "f00001\n" "ee010000\n" ""
+    ∷ session "f00003\n" "ee010000\n" ""
+    ∷ session "06\nf00002\n" "ee010001\n" ""
+    ∷ session "f00002\nf00002\n" "ee010001\n" ""
+    ∷ session "f00002" "ee010000\n" ""
+    ∷ session "f0\n" "ee010000\n" ""
+    ∷ session "f000020002\n" "ee010000\n" ""
+    -- slots 0 and 130 are clear, and 130 was removed last: edition 1 gives 130, edition 2 gives 0
+    ∷ session "080083\n0d0000\n0d0082\n06\n" "080000\n0d\n0d\n060082\n900083\n" ""
+    ∷ session "f00002\n080083\n0d0000\n0d0082\n06\n" "f00002\n080000\n0d\n0d\n060000\n900083\n" ""
+    -- so do 07, a run of one, and the first 23; a run of two is pushed
+    ∷ session "f00002\n080083\n0d0000\n0d0082\n070000\n" "f00002\n080000\n0d\n0d\n070000\n900083\n" ""
+    ∷ session "f00002\n080083\n0d0000\n0d0082\n080001\n" "f00002\n080000\n0d\n0d\n080000\n900083\n" ""
+    ∷ session "f00002\n080083\n0d0000\n0d0082\n200000\n230000\n" "f00002\n080000\n0d\n0d\n200000\n230000\n900083\n" ""
+    ∷ session "f00002\n080083\n0d0000\n0d0081\n080002\n" "f00002\n080000\n0d\n0d\n080083\n900085\n" ""
+    ∷ []
+
+-- two segments, all held but one slot below the head: edition 1 refuses by 7, edition 2 when that slot is held too
+unfoldable pub twoSegments : Room
+twoSegments =
+    record { segments = 2; scopes = base .scopes; bindings = base .bindings; handles = base .handles; needs = base .needs; lines = base .lines; size = base .size; text = base .text }
+
+unfoldable pub oneHole : List Session
+oneHole =
+    session "080100\n0d0005\n0d00ff\n06\n06\n" "ee070004\n" ""
+    ∷ session "f00002\n080100\n0d0005\n0d00ff\n06\n06\n" "f00002\n080000\n0d\n0d\n060005\n0600ff\n900100\n" ""
+    ∷ session "f00002\n080100\n0d0005\n0d00ff\n06\n06\n06\n" "ee070006\n" ""
+    ∷ []
+
+-- lists with a title, beside an empty recording
+unfoldable pub titledLists : List RecordedSession
+titledLists =
+    beside "f00002\n100000beef\n110000\n900001\n" "" 1 "a0beef\na100000000\n"
+    -- the title counts as a line: 20, 23, a missing size line
+    ∷ beside "f00002\n110001\n900001\n" "" 1 "ee140001\n"
+    ∷ beside "f00002\n140000\n900001\n" "" 1 "ee170001\n"
+    ∷ beside "f00002\n" "" 0 "ee010001\n"
+    ∷ beside "f00003\n900000\n" "" 0 "ee010000\n"
+    ∷ beside "0f0000\nf00002\n900000\n" "" 0 "ee010001\n"
+    ∷ beside "f00002\nf00002\n900000\n" "" 0 "ee010001\n"
+    ∷ []
+
 -- what an accepted script's list prints; nothing is run where it was refused
 abbrev pub runOf : Room → Outcome → List ℕ
 runOf room (accepted ls size) = runText (ranOn room (replicate size 0) (listText ls size))
@@ -195,7 +245,7 @@ runOf room (refusedAt n i) = []
 
 abbrev pub held : Room → List ℕ → Session
 held room script =
-    let o : Outcome = translated room (edition1 (room .segments)) script in
+    let o : Outcome = translated room script in
     record { script = script; list = outcomeText o; output = runOf room o }
 
 abbrev pub heldBeside : RecordedSession → RecordedSession
@@ -219,3 +269,6 @@ NeedSessionsHold = Hold base needSessions × Hold (narrow 128) noHandle × Hold 
 
 unfoldable pub RecordedSessionsHold : Type 0
 RecordedSessionsHold = Hold base sampleSessions × (map heldBeside recordedSessions ≡ recordedSessions)
+
+unfoldable pub EditionSessionsHold : Type 0
+EditionSessionsHold = Hold base editionSessions × Hold twoSegments oneHole × (map heldBeside titledLists ≡ titledLists)

@@ -1,8 +1,8 @@
--- Document 01, "Slots"; `remove` as W-202 of document 02 amends it. `n` is the most segments there may be. Assumes nothing.
+-- Document 01, "Slots"; `remove` as W-202 of document 02 amends it; edition 2 of W-211. `n` is the most segments there may be. Assumes nothing.
 use mathlib.Core.Bool.{Bool, true, false, not, _&&_}
 use mathlib.Core.Option.{Option, none, some}
 use mathlib.Core.List.{List, [], _∷_}
-use Prim.Native.Nat.{ℕ, zero, suc, _+_, _*_, _-_, _/_, _%_, min}
+use Prim.Native.Nat.{ℕ, zero, suc, _+_, _*_, _-_, _/_, _%_, min, max}
 use lib.Dec.{eqb, ltb}
 use Rattle.rules.specs.Notation.{isSome, orElse, put, first, pastLast}
 
@@ -120,3 +120,29 @@ pushRun m n s =
 -- Edition 1: one slot by insert, a run of two or more by pushes.
 unfoldable pub edition1 : ℕ → Placement
 edition1 m n s = elim (eqb n 1) [ true ↦ insert m s | false ↦ pushRun m n s ]
+
+-- ---- W-211, "Tight placement as a second edition"
+
+-- "insert gives the lowest clear slot of all, whatever was removed last"
+unfoldable pub lowestOfAll : ℕ → Slots → Option ℕ
+lowestOfAll m s = first (λ a. not (s .occupied a)) 0 (128 * m)
+
+-- ".. L grows to take in its segment, and H becomes it": the slot a becomes occupied
+unfoldable pub takeAt : ℕ → Slots → Slots
+takeAt a s = record { occupied = put (s .occupied) a true; segments = max (s .segments) (a / 128 + 1); head = a / 128 }
+
+-- "refused by 7 exactly if every slot is held"
+unfoldable pub insertLowest : ℕ → Slots → Option Placed
+insertLowest m s = elim (lowestOfAll m s) [ none ↦ none | some a ↦ placed a (takeAt a s) ]
+
+-- Edition 2: ".. push and the rest stay."
+unfoldable pub edition2 : ℕ → Placement
+edition2 m n s = elim (eqb n 1) [ true ↦ insertLowest m s | false ↦ pushRun m n s ]
+
+-- Where an allocation goes is a value: by the head (edition 1), or to the lowest clear slot (edition 2).
+pub data Place : Type 0 where
+  byHead lowest : Place
+
+unfoldable pub placing : ℕ → Place → Placement
+placing m byHead = edition1 m
+placing m lowest = edition2 m

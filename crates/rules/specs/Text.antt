@@ -1,4 +1,4 @@
--- Document 01, "Script frames" and "Numbers given back", 1 and 2: scripts and lists as bytes. Assumes nothing.
+-- Document 01, "Script frames" and "Numbers given back", 1 and 2, and the title of W-211: scripts and lists as bytes. Assumes nothing.
 use mathlib.Core.Bool.{Bool, true, false, _&&_}
 use mathlib.Core.Option.{Option, none, some}
 use mathlib.Core.List.{List, [], _∷_, _++_}
@@ -6,6 +6,7 @@ use Prim.Native.Nat.{ℕ, zero, suc, _+_, _*_, _-_, _/_, _%_}
 use lib.ListN.{length}
 use lib.Dec.{eqb, ltb, leb}
 use Rattle.rules.specs.Sizes.{Room}
+use Rattle.rules.specs.Slots.{Place, byHead, lowest}
 use Rattle.rules.specs.Frames.{Frame, child, pop, dangle, restore, popLast, alloc, allocIn, linear, define, get, takeFrom, free, freeQuietly, forget, drain, Source, constant, nextSample, write, read, readName, newDefer, newAssigned, newIgnore, allocNeed, outputNeed, dropNeed, Line, stores, loads, shows}
 
 -- ---- "lowercase hex"
@@ -157,6 +158,47 @@ scriptFrom room i [] = frames []
 scriptFrom room i (l ∷ ls) =
     elim (eqb i (room .lines)) [ true ↦ unread 2 i | false ↦ frameBefore i (lineOf frameTable l) (scriptFrom room (suc i) ls) ]
 
+-- ---- W-211: the title, before the frames
+
+abbrev pub editionTwo : List ℕ → Option Place
+editionTwo [] = none
+editionTwo (n ∷ []) = elim (eqb n 2) [ true ↦ some lowest | false ↦ none ]
+editionTwo (n ∷ m ∷ l) = none
+
+-- "A script whose first line is `f00002` follows edition 2"; no other line is a title
+unfoldable pub titleTable : List (Row Place)
+titleTable = row 0xf0 editionTwo ∷ []
+
+-- where allocations go, and the lines behind the title
+pub record Titled : Type 0 where
+  pub place : Place
+  pub rest : List Split
+
+-- "Scripts without it keep edition 1". "`f0` with another number or on a later line is 1", since no frame and no other line of a list has that
+-- opcode.
+unfoldable pub titled : List Split → Titled
+titled [] = record { place = byHead; rest = [] }
+titled (l ∷ ls) =
+    elim (lineOf titleTable l) [
+      | some p ↦ record { place = p; rest = ls }
+      | none ↦ record { place = byHead; rest = l ∷ ls }
+    ]
+
+-- "That line counts as a frame and its list line repeats it."
+abbrev pub title : Place → List Line
+title byHead = []
+title lowest = shows 0xf0 (2 ∷ []) ∷ []
+
+-- where a script's allocations go, and its frames behind the title
+pub record Read : Type 0 where
+  pub place : Place
+  pub script : Script
+
+unfoldable pub readScript : Room → List ℕ → Read
+readScript room bytes =
+    let t : Titled = titled (split bytes) in
+    record { place = t .place; script = scriptFrom room (length (title (t .place))) (t .rest) }
+
 -- ---- lists, written
 
 unfoldable pub hexes : List ℕ → List ℕ
@@ -254,3 +296,13 @@ listFrom room i [] = unlisted 1 i
 listFrom room i (l ∷ ls) =
     sizeOr room i (lineOf sizeTable l) ls
     (elim (eqb i (room .lines)) [ true ↦ unlisted 2 i | false ↦ lineBefore i (lineOf lineTable l) (listFrom room (suc i) ls) ])
+
+abbrev pub underTitle : List Line → Listed → Listed
+underTitle above (listed ls size) = listed (above ++ ls) size
+underTitle above (unlisted n i) = unlisted n i
+
+-- W-211: a list has its script's title as its first line, or none
+unfoldable pub readList : Room → List ℕ → Listed
+readList room bytes =
+    let t : Titled = titled (split bytes) in
+    underTitle (title (t .place)) (listFrom room (length (title (t .place))) (t .rest))
