@@ -128,13 +128,6 @@ module _ (n : ℕ) (s : Slots) where
             let d : a / 128 ≡ s .segments = omega arith in
             rw (f, insertShort, ne-eqb (s .segments) n (omega arith), insertNew, l, d, q)
 
-    pub insert-refused : a ≡ 128 * n → refusing 7 s ≡ placedOr7 s (insert n s)
-    insert-refused z = ap (placedOr7 s) (sym (insert-none z))
-
-    pub insert-placed : {f : ℕ → Bool} {l : ℕ} → (a ≡ 128 * n → ⊥) → f ≡ put (s .occupied) a true → l ≡ max (s .segments) (a / 128 + 1)
-        → record { next = record { occupied = f; segments = l; head = a / 128 }; says = given a } ≡ placedOr7 s (insert n s)
-    insert-placed z p q = shown p q ∙ ap (placedOr7 s) (sym (insert-some z))
-
   -- ---- push: g is one past the greatest occupied slot
 
   module _ (g : ℕ) (e : g ≡ pastLast (s .occupied) (128 * n)) where

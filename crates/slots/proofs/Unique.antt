@@ -11,7 +11,7 @@ use Rattle.rules.specs.Sizes.{base}
 use Rattle.rules.specs.Sound.{soundSlots}
 use Rattle.rules.specs.Slots as rule
 use Rattle.rules.proofs.Tells.{decided}
-use Rattle.slots.specs.Promises.{view, placeSays, removeSays, Seen, seenPlacing, seenRemoving, placedOr7, removal, checked, Typed, Promised, FreshPromise, InsertPromise, PushPromise, RemovePromise}
+use Rattle.slots.specs.Promises.{view, placeSays, removeSays, Seen, seenPlacing, seenRemoving, placedOr7, removal, checked, Typed, Promised, FreshPromise, InsertPromise, InsertLowestPromise, PushPromise, RemovePromise}
 use Rattle.slots.specs.declared.Slots.{Slots}
 use Rattle.slots.specs.declared.SlotAddress.{SlotAddress}
 use Rattle.slots.specs.declared.Placing.{Placing}
@@ -53,7 +53,7 @@ same-remove (remove.Refused n) remove.Yes e = differ (sym e)
 same-remove (remove.Refused n) remove.No e = differ (sym e)
 same-remove (remove.Refused n) (remove.Refused m) e = let q : n ≡ m = cc in ap remove.Refused q
 
--- ---- results: y is what the rules say
+-- ---- results: y is what the rules say, of either insert or of push
 
 place-one : (y : Seen ℕ) (r q : Placing) → Promised (seenPlacing r) y (r .state .halves) → Promised (seenPlacing q) y (q .state .halves) → r ≡ q
 place-one y r q p o =
@@ -64,6 +64,9 @@ place-one y r q p o =
 
 pub insert-one : (s : Slots) (r q : Placing) → InsertPromise s r → InsertPromise s q → r ≡ q
 insert-one s r q = place-one _ r q
+
+pub insert-lowest-one : (s : Slots) (r q : Placing) → InsertLowestPromise s r → InsertLowestPromise s q → r ≡ q
+insert-lowest-one s r q = place-one _ r q
 
 pub push-one : (s : Slots) (r q : Placing) → PushPromise s r → PushPromise s q → r ≡ q
 push-one s r q = place-one _ r q
@@ -103,6 +106,9 @@ module _ (s : Slots) (t : Typed (s .halves)) (n : ℕ) where
 
   pub insert-kept : (r : Placing) → InsertPromise s r → placeSays (r .answer) ≡ refused n → r .state ≡ s
   insert-kept r = placing-kept r (rule.insert (base .segments) (view s))
+
+  pub insert-lowest-kept : (r : Placing) → InsertLowestPromise s r → placeSays (r .answer) ≡ refused n → r .state ≡ s
+  insert-lowest-kept r = placing-kept r (rule.insertLowest (base .segments) (view s))
 
   pub push-kept : (r : Placing) → PushPromise s r → placeSays (r .answer) ≡ refused n → r .state ≡ s
   push-kept r = placing-kept r (rule.push (base .segments) (view s))

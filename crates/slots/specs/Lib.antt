@@ -1,2 +1,3 @@
 pub mod Halves
+pub mod Spots
 pub mod Promises

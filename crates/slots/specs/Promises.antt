@@ -10,8 +10,10 @@ use Rattle.rules.specs.Sizes.{base}
 use Rattle.rules.specs.Sound.{soundSlots}
 use Rattle.rules.specs.Slots as rule
 use Rattle.slots.specs.Halves.{slotsOf}
+use Rattle.slots.specs.Spots.{placementOf}
 use Rattle.slots.specs.declared.Slots.{Slots}
 use Rattle.slots.specs.declared.SlotAddress.{SlotAddress}
+use Rattle.slots.specs.declared.Place.{Place}
 use Rattle.slots.specs.declared.Placing.{Placing}
 use Rattle.slots.specs.declared.Removing.{Removing}
 use Rattle.slots.specs.declared.PlaceAnswer.{PlaceAnswer}
@@ -83,6 +85,19 @@ pub record FreshPromise (r : Slots) : Type 0 where
 abbrev pub InsertPromise : Slots → Placing → Type 0
 InsertPromise s r =
     Promised (seenPlacing r) (checked (base .segments) (view s) (placedOr7 (view s) (rule.insert (base .segments) (view s)))) (r .state .halves)
+
+-- W-211, of edition 2: "insert gives the lowest clear slot of all, whatever was removed last"
+abbrev pub InsertLowestPromise : Slots → Placing → Type 0
+InsertLowestPromise s r =
+    Promised (seenPlacing r) (checked (base .segments) (view s) (placedOr7 (view s) (rule.insertLowest (base .segments) (view s)))) (r .state .halves)
+
+-- one slot, where the edition puts it
+abbrev pub insertedBy : Place → rule.Slots → Option rule.Placed
+insertedBy place = placementOf place 1
+
+-- both at once: insert in the edition of this place
+abbrev pub InsertByPromise : Place → Slots → Placing → Type 0
+InsertByPromise place s r = Promised (seenPlacing r) (checked (base .segments) (view s) (placedOr7 (view s) (insertedBy place (view s)))) (r .state .halves)
 
 abbrev pub PushPromise : Slots → Placing → Type 0
 PushPromise s r =

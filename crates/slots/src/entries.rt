@@ -3,8 +3,9 @@ ghost use mathlib.Core.Path.{_≡_};
 ghost use mathlib.Core.Bool.{true};
 ghost use Rattle.rules.specs.Sizes.{base};
 ghost use Rattle.rules.specs.Sound.{soundSlots};
-ghost use Rattle.slots.specs.Promises.{view, seenPlacing, seenRemoving, placedOr7, removal, FreshPromise, InsertPromise, PushPromise, RemovePromise};
+ghost use Rattle.slots.specs.Promises.{view, seenPlacing, seenRemoving, placedOr7, removal, insertedBy, FreshPromise, InsertPromise, InsertLowestPromise, InsertByPromise, PushPromise, RemovePromise};
 ghost use Rattle.rules.specs.Slots as rule;
+use crate::Place;
 use crate::PlaceAnswer;
 use crate::Placing;
 use crate::RemoveAnswer;
@@ -12,6 +13,7 @@ use crate::Removing;
 use crate::SlotAddress;
 use crate::Slots;
 use crate::halves;
+use crate::spots;
 
 // No slot, no segment.
 pub fn fresh() -> Slots
@@ -24,11 +26,25 @@ pub fn fresh() -> Slots
     }
 }
 
+// insert of edition 1.
 pub fn insert(s: Slots) -> Placing
     ensures { λ r. ⌜ InsertPromise s r ⌝ }
 {
+    insert_by(s, Place::ByHead)
+}
+
+// insert of edition 2: the lowest clear slot of all.
+pub fn insert_lowest(s: Slots) -> Placing
+    ensures { λ r. ⌜ InsertLowestPromise s r ⌝ }
+{
+    insert_by(s, Place::Lowest)
+}
+
+fn insert_by(s: Slots, place: Place) -> Placing
+    ensures { λ r. ⌜ InsertByPromise place s r ⌝ }
+{
     if halves::are_sound(&s.halves, s.segments, s.head) {
-        insert_sound(s)
+        insert_sound(s, place)
     } else {
         Placing {
             state: s,
@@ -37,13 +53,13 @@ pub fn insert(s: Slots) -> Placing
     }
 }
 
-// The least clear slot from segment min(H, L) on is what 01's walk over the segments finds, where the state is sound.
-fn insert_sound(s: Slots) -> Placing
+fn insert_sound(s: Slots, place: Place) -> Placing
     requires { ⌜ soundSlots (base .segments) (view s) ≡ true ⌝ }
-    ensures { λ r. ⌜ seenPlacing r ≡ placedOr7 (view s) (rule.insert (base .segments) (view s)) ⌝ }
+    ensures { λ r. ⌜ seenPlacing r ≡ placedOr7 (view s) (insertedBy place (view s)) ⌝ }
 {
     let mut t = s;
-    let a = halves::first_clear(&t.halves, halves::least(t.head, t.segments));
+    let spot = spots::choose(&t.halves, t.segments, t.head, place, 1);
+    let a = spot.address;
     if a == 1024 {
         return Placing {
             state: t,
@@ -51,8 +67,8 @@ fn insert_sound(s: Slots) -> Placing
         };
     }
     halves::occupy(&mut t.halves, a);
-    t.segments = halves::most(t.segments, a / 128 + 1);
-    t.head = a / 128;
+    t.segments = spot.segments;
+    t.head = spot.head;
     let address = a as u16;
     Placing {
         state: t,

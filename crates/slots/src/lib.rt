@@ -1,11 +1,14 @@
 // Which of the 1,024 slots are occupied, in 8 segments of 128, each of two 64-bit halves; and where the next one goes.
-// Beside the original's slots.rs: `half` is one 64-bit half, `halves` the sixteen of a state, `entries` what a host calls.
+// Beside the original's slots.rs: `half` is one 64-bit half, `halves` the sixteen of a state, `spots` where an allocation goes,
+// `entries` what a host calls.
 pub mod entries;
 pub mod half;
 pub mod halves;
+pub mod spots;
 
 pub use entries::fresh;
 pub use entries::insert;
+pub use entries::insert_lowest;
 pub use entries::push;
 pub use entries::remove;
 
@@ -15,6 +18,19 @@ pub struct SlotAddress(pub u16);
 // The state, by value: the occupied slots, segment count L, head segment H.
 pub struct Slots {
     pub halves: [u64; 16],
+    pub segments: usize,
+    pub head: usize,
+}
+
+// Where an allocation goes: by the head (edition 1), or to the lowest clear slot of all (edition 2).
+pub enum Place {
+    ByHead,
+    Lowest,
+}
+
+// The first slot of an allocation, 1,024 where there is none; and L and H once its slots are occupied.
+pub struct Spot {
+    pub address: usize,
     pub segments: usize,
     pub head: usize,
 }

@@ -1,27 +1,15 @@
-use mathlib.Core.Path.{sym, _∙_}
+-- `insert` is what the edition's placement does with one slot. Assumes nothing.
+use Rattle.rules.specs.Slots as rule
 use borrow.Author.Needs.{needs}
-use Rattle.slots.proofs.Steps.{checked-yes, checked-no}
-use Rattle.slots.proofs.Unique.{wide-of}
 use Rattle.slots.proofs.entries.insert.Statement.{statement}
 use Rattle.slots.proofs.entries.insert.Tie as tie
 
-are-sound-requires : tie.Need-are-sound-requires
-are-sound-requires c κs = search needs
-
-insert-sound-requires : tie.Need-insert-sound-requires
-insert-sound-requires c κs = sym (c .before .are-sound .ensures) ∙ c .if1 .taken
+insert-by-requires : tie.Need-insert-by-requires
+insert-by-requires c κs = search needs
 
 returns : tie.Need-returns
-returns c = record {
-  shows = c .insert-sound .ensures ∙ checked-yes _ _ _ (sym (c .before .before .are-sound .ensures) ∙ c .before .if1 .taken);
-  typed = record { long = search needs; wide = λ i. wide-of (search needs) };
-}
-
-returns-2 : tie.Need-returns-2
-returns-2 c = record {
-  shows = checked-no _ _ _ (sym (c .before .are-sound .ensures) ∙ c .if1 .left);
-  typed = record { long = search needs; wide = λ i. wide-of (search needs) };
-}
+unfolding rule.placing rule.edition1 rule.edition2
+returns c = c .insert-by .ensures
 
 pub insert-spec : {M : Type 1} → statement M
-insert-spec = tie.close (tie.spec are-sound-requires insert-sound-requires returns returns-2)
+insert-spec = tie.close (tie.spec insert-by-requires returns)

@@ -1,52 +1,38 @@
-use borrow.Author.Needs.{needs}
+-- One slot, where the place puts it. Assumes nothing.
+use Prim.Native.Nat.{_+_, _≤_}
 use native.Mathlib.Omega.{arith}
+use borrow.Author.Needs.{needs}
 use Rattle.rules.specs.Sizes.{base}
 use Rattle.slots.specs.Promises.{view}
-use Rattle.slots.proofs.Steps.{sound-segments, sound-head, insert-within, insert-refused, insert-placed}
+use Rattle.slots.specs.Spots.{placeOf}
+use Rattle.slots.proofs.Going.{goes-vacant, one-refused, one-placed}
 use Rattle.slots.proofs.entries.insert_sound.Statement.{statement}
 use Rattle.slots.proofs.entries.insert_sound.Tie as tie
+use Rattle.slots.proofs.entries.insert_sound.Reads as reads
+use Rattle.slots.proofs.entries.insert_sound.Lts as lts
+use Rattle.slots.proofs.halves.occupy.Reads as occupy-reads
+use Rattle.slots.proofs.spots.choose.Reads as choose-reads
 
-least-requires : tie.Need-least-requires
-least-requires c κs = search needs
-
-first-clear-requires : tie.Need-first-clear-requires
-unfolding base
-first-clear-requires c κs =
-    omega (arith, sound-segments (base .segments) (view (c .before .before .before .args .s)) (c .before .before .before .pre), sound-head (base .segments) (view (c .before .before .before .args .s)) (c .before .before .before .pre))
+choose-requires : tie.Need-choose-requires
+choose-requires c κs = search needs
 
 returns : tie.Need-returns
+returns c = one-refused (c .before .choose .ensures) (c .if1 .taken)
+
+-- the slot is below the room
+below : (c : tie.Else1) → c .before .choose .result .address + 1 ≤ 1024
 unfolding base
-returns c = insert-refused (base .segments) (view (c .before .before .before .before .before .args .s)) (c .before .before .before .before .before .pre) _ _ (c .before .before .least .ensures) (c .before .first-clear .ensures) (c .if1 .taken)
+below c = let f = c .before in let w = f .before .before .before in goes-vacant (placeOf (w .args .place)) 1 (view (w .args .s)) (f .choose .result) (w .pre) (f .choose .ensures) (c .if1 .left) .0
 
 occupy-requires : tie.Need-occupy-requires
-unfolding base
-occupy-requires c κs = (omega (arith, insert-within (base .segments) (view (c .before .before .before .before .before .before .args .s)) (c .before .before .before .before .before .before .pre) _ _ (c .before .before .before .least .ensures) (c .before .before .first-clear .ensures)), search needs)
-
-add-most : tie.Need-add-most
-add-most c = search needs
-
-most-requires : tie.Need-most-requires
-most-requires c κs = search needs
+occupy-requires c κs = (omega (arith, below (c .before)), search needs)
 
 cast-address : tie.Need-cast-address
-unfolding base
-cast-address c = omega (arith, insert-within (base .segments) (view (c .before .before .before .before .before .before .before .before .args .s)) (c .before .before .before .before .before .before .before .before .pre) _ _ (c .before .before .before .before .before .least .ensures) (c .before .before .before .before .first-clear .ensures))
+cast-address c = omega (arith, below (c .before .before))
 
 returns-2 : tie.Need-returns-2
-unfolding base
-returns-2 c =
-    insert-placed (base .segments) (view (c .before .before .before .before .before .before .before .before .args .s)) (c .before .before .before .before .before .before .before .before .pre) _ _ (c .before .before .before .before .before .least .ensures) (c .before .before .before .before .first-clear .ensures)
-    (c .before .before .before .if1 .left) (c .before .occupy .ensures .0) (c .most .ensures)
+returns-2 c = one-placed (c .before .before .before .choose .ensures) (c .before .before .if1 .left) (c .occupy .ensures .0)
 
 pub insert-sound-spec : {M : Type 1} → statement M
 insert-sound-spec =
-    tie.close
-    (tie.spec
-    least-requires
-    first-clear-requires
-    returns
-    occupy-requires
-    add-most
-    most-requires
-    cast-address
-    returns-2)
+    tie.close (tie.spec choose-requires returns occupy-requires cast-address returns-2)

@@ -1,0 +1,73 @@
+// Where the slots of an allocation go, by either placement. Nothing changes here.
+ghost use mathlib.Core.Path.{_≡_};
+ghost use mathlib.Core.Bool.{true};
+ghost use Prim.Native.Nat.{_≤_, _<_};
+ghost use Rattle.rules.specs.Sizes.{base};
+ghost use Rattle.rules.specs.Sound.{soundSlots};
+ghost use Rattle.slots.specs.Halves.{slotsOf};
+ghost use Rattle.slots.specs.Spots.{placementOf, takenAt, pushedFrom, GoesFrom, Goes};
+use crate::Place;
+use crate::Spot;
+use crate::halves as bits;
+
+// The slot a is taken: L grows to take in its segment, and H becomes it.
+fn taken(segments: usize, a: usize) -> Spot
+    requires { ⌜ a ≤ 1024 ⌝ }
+    ensures { λ r. ⌜ r ≡ takenAt segments a ⌝ }
+{
+    Spot {
+        address: a,
+        segments: bits::most(segments, a / 128 + 1),
+        head: a / 128,
+    }
+}
+
+// The slots from g on are pushed: where there is a first slot of a segment among them, L becomes the last one's segment and one.
+fn pushed(segments: usize, head: usize, g: usize, many: usize) -> Spot
+    requires { ⌜ (g ≤ 1024) × (0 < many) × (many < 65536) ⌝ }
+    ensures { λ r. ⌜ r ≡ pushedFrom segments head g many ⌝ }
+{
+    let last = g + many - 1;
+    if last % 128 < many {
+        return Spot {
+            address: g,
+            segments: last / 128 + 1,
+            head: head,
+        };
+    }
+    Spot {
+        address: g,
+        segments: segments,
+        head: head,
+    }
+}
+
+// One slot goes to the least clear one from segment `from` on, two or more past the greatest that is occupied.
+fn from_on(halves: &[u64; 16], segments: usize, head: usize, from: usize, many: usize) -> Spot
+    requires { ⌜ (from ≤ 8) × (0 < many) × (many < 65536) ⌝ }
+    ensures { λ r. ⌜ GoesFrom from many (slotsOf (now (halves .entry)) segments head) r ⌝ }
+{
+    if many == 1 {
+        return taken(segments, bits::first_clear(halves, from));
+    }
+    let g = bits::past_greatest(halves);
+    if 1024 < g + many {
+        return Spot {
+            address: 1024,
+            segments: segments,
+            head: head,
+        };
+    }
+    pushed(segments, head, g, many)
+}
+
+// Where `many` slots go. Both editions walk the same halves, from another segment on: edition 1 from min(H, L), edition 2 from 0.
+pub fn choose(halves: &[u64; 16], segments: usize, head: usize, place: Place, many: usize) -> Spot
+    requires { ⌜ (soundSlots (base .segments) (slotsOf (now halves) segments head) ≡ true) × (0 < many) × (many < 65536) ⌝ }
+    ensures { λ r. ⌜ Goes (placementOf place) many (slotsOf (now (halves .entry)) segments head) r ⌝ }
+{
+    match place {
+        Place::ByHead => from_on(halves, segments, head, bits::least(head, segments), many),
+        Place::Lowest => from_on(halves, segments, head, 0, many),
+    }
+}
