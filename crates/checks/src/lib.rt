@@ -3,6 +3,7 @@ ghost use mathlib.Core.Path.{_≡_};
 ghost use Rattle.scopes.specs.Sound.{Sound};
 use scopes::HandleNumber;
 use scopes::Scopes;
+use slots::Place;
 use slots::SlotAddress;
 
 // 64 scopes in one line.
@@ -38,7 +39,7 @@ fn bound(t: Scopes) -> Scopes
 fn full() -> Scopes
     ensures { λ r. ⌜ Sound r ⌝ }
 {
-    let o = scopes::place::alloc_run(opened(), 1024);
+    let o = scopes::place::alloc_run(opened(), 1024, Place::ByHead);
     bound(o.state)
 }
 

@@ -1,37 +1,35 @@
--- A slot for a scope: alloc, alloc in s, and a run of one. Assumes nothing.
-use mathlib.Core.Path.{_≡_, refl, sym, ap, _∙_, subst}
+-- Slots for a scope, by either placement: alloc, alloc in s, and runs. Assumes nothing.
+use mathlib.Core.Path.{_≡_, refl, sym, ap, _∙_}
 use mathlib.Core.Logic.{_≢_, by-cases}
 use mathlib.Core.Bool.{Bool, true, false}
 use mathlib.Core.Option.{Option, none, some}
 use mathlib.Core.List.{List}
-use Prim.Native.Nat.{ℕ, zero, suc, _+_, _-_, _*_, _/_, _≤_, _<_, min, max}
+use Prim.Native.Nat.{ℕ, zero, suc, _+_, _*_, _≤_, _<_, max}
 use native.Mathlib.Decide.{decLt}
 use native.Mathlib.Omega.{arith}
-use lib.ListN.{length, getD}
-use Rattle.rules.specs.Notation.{Answer, given, refused, _>>=_, refuse_unless_, put}
-use Rattle.rules.specs.AddressSets.{added, without, addedAll, withoutAll, run}
+use Rattle.rules.specs.Notation.{Answer, given, refused, _>>=_, refuse_unless_}
 use Rattle.rules.specs.Sizes.{base}
-use Rattle.rules.specs.Slots.{edition1, insert}
+use Rattle.rules.specs.Slots.{Place, Placement, placing}
 use Rattle.rules.specs.Sound.{soundSlots}
 use Rattle.rules.specs.Scopes as rule
-use Rattle.rules.proofs.Tables.{put-other}
-use Rattle.rules.proofs.Tells.{clash}
+use Rattle.rules.proofs.Tells.{clash, is-false}
 use Rattle.rules.proofs.Tests.{tells-slots}
-use Rattle.slots.specs.Halves.{occ, firstClear}
-use Rattle.slots.proofs.Finds.{clear-of}
-use Rattle.slots.proofs.Steps.{insert-within, insert-none, insert-some}
-use Rattle.links.specs.Links.{Held, leaves, gains}
-use Rattle.scopes.specs.View.{held, index, view, scopeOf, foundAt, at, atFirst, told}
-use Rattle.scopes.specs.Sound.{Slotted, Sound, Sized}
-use Rattle.scopes.specs.Lent.{Whole}
+use Rattle.rules.proofs.Editions.{InOrder}
+use Rattle.slots.specs.Halves.{occ}
+use Rattle.slots.specs.Spots.{Vacant, after, Goes}
+use Rattle.slots.specs.declared.Spot.{Spot}
+use Rattle.slots.proofs.Going.{goes-in-order, goes-vacant}
+use Rattle.scopes.specs.View.{index, view, foundAt, at, atFirst, told}
+use Rattle.scopes.specs.Sound.{Slotted, Sound}
+use Rattle.scopes.specs.Lent.{numbersOf, withSlots, Whole, Handed}
 use Rattle.scopes.specs.declared.Scopes.{Scopes}
 use Rattle.scopes.specs.declared.Reply.the-variants.{Empty, Refused}
 use Rattle.scopes.proofs.Finds.{no-top, Topped, Known}
-use Rattle.scopes.proofs.Places.{taken, at-64, live-is, sound, sized}
 
--- ---- the slots as the rules' test sees them
+-- ---- the slots as the rules see them
 
-pub slots-sound : (s : Scopes) → Slotted (s .halves) (s .segments) (s .head) → soundSlots 8 (view s .slots) ≡ true
+pub slots-sound : (s : Scopes) → Slotted (s .halves) (s .segments) (s .head) → soundSlots (base .segments) (view s .slots) ≡ true
+unfolding base
 slots-sound s h =
     tells-slots 8 (view s .slots) .shows
     (record {
@@ -40,63 +38,105 @@ slots-sound s h =
       low = λ b l o. by-cases (decLt b (128 * s .segments)) (λ x. x) (λ x. clash o (h .none b (omega arith) l));
     })
 
-module _ (s : Scopes) (h : Sound s) (k : ℕ) (hk : k < 64) (lk : getD (s .live) k false ≡ true) (m a : ℕ) (em : m ≡ min (s .head) (s .segments))
-    (ea : a ≡ firstClear (occ (s .halves)) (128 * m) (1024 - 128 * m)) where
-  pub alloc-full : a ≡ 1024 → record { next = view s; says = Refused 7 } ≡ told at (view s) (rule.allocate (edition1 (base .segments)) (foundAt s k) 1 (view s))
-  unfolding rule.allocate edition1 base _>>=_ refuse_unless_
-  alloc-full e = rw (insert-none 8 (view s .slots) (slots-sound s (h .slotted)) m a em ea e)
+-- ---- n slots for scope k, which go where r says
 
-  module _ (ne : a ≢ 1024) where
-    pub small : a < 1024
-    small = omega (arith, insert-within 8 (view s .slots) (slots-sound s (h .slotted)) m a em ea)
+module _ (s : Scopes) (k : ℕ) (p : Place) (n : ℕ) (r : Spot) (g : Goes (placing (base .segments) p) n (view s .slots) r) where
+  pub alloc-full : r .address ≡ 1024 → record { next = view s; says = Refused 7 } ≡ told at (view s) (rule.allocate (placing (base .segments) p) (foundAt s k) n (view s))
+  unfolding rule.allocate _>>=_ refuse_unless_
+  alloc-full e = rw (g .nowhere e)
 
-    pub clear : occ (s .halves) a ≡ false
-    clear = clear-of (occ (s .halves)) (128 * m) (1024 - 128 * m) a ea .here (omega (arith, small, h .slotted .most))
+  module _ (h : Sound s) (ne : r .address ≢ 1024) where
+    -- every placement gives clear slots below the room, and leaves them in order
+    pub alloc-vacant : Vacant (occ (s .halves)) (r .address) n
+    unfolding base
+    alloc-vacant = goes-vacant p n (view s .slots) r (slots-sound s (h .slotted)) g ne
 
-    module _ (z : Sized s) (halves links : List ℕ) (segments size : ℕ) (slot : occ halves ≡ put (occ (s .halves)) a true)
-        (c : Held 1024 65 links (gains k a (leaves a (held (s .links))))) (es : segments ≡ max (s .segments) (a / 128 + 1)) (ez : size ≡ max (s .size) (a + 1)) where
-      rule-is : rule.allocate (edition1 (base .segments)) (foundAt s k) 1 (view s) ≡ given (a, view (taken s k a halves links segments (a / 128) size))
-      unfolding rule.allocate rule.setScope edition1 base addedAll withoutAll run _>>=_ refuse_unless_
-      rule-is =
-          let l = live-is s h z k hk lk a small clear halves links slot c segments (a / 128) size in
-          let d = at-64 s h z k hk lk a small clear halves links slot c in
-          rw (insert-some 8 (view s .slots) (slots-sound s (h .slotted)) m a em ea ne)
-          (sym (λ t. given (a, record { slots = record { occupied = slot t; segments = es t; head = a / 128 }; live = l t; top = index (s .top); counter = s .counter; bindings = view s .bindings; dangling = d t; size = ez t })))
+    then-in-order : InOrder 8 (after (view s .slots) n r)
+    unfolding base
+    then-in-order = goes-in-order p n (view s .slots) r (slots-sound s (h .slotted)) g ne
 
-      slotted : Slotted halves segments (a / 128)
-      slotted =
-          record {
-            most = omega (arith, h .slotted .most, small);
-            front = omega (arith, small);
-            none = λ b lo hi. ap (λ (f : ℕ → Bool). f b) slot ∙ put-other (occ (s .halves)) a true b (omega arith) ∙ h .slotted .none b (omega arith) hi;
-          }
+    module _ (halves links owner : List ℕ) (size : ℕ) (es : size ≡ max (s .size) (r .address + n)) where
+      abbrev then : Scopes
+      then = withSlots s halves links owner (record { count = s .count; segments = r .segments; head = r .head; top = s .top; counter = s .counter; size = size })
 
-      pub alloc-gives : length halves ≡ 16 → length links ≡ 2178
-          → (record { next = view (taken s k a halves links segments (a / 128) size); says = at a } ≡ told at (view s) (rule.allocate (edition1 (base .segments)) (foundAt s k) 1 (view s)))
-          × Whole (taken s k a halves links segments (a / 128) size)
-      alloc-gives lh ll = (
-        ap (told at (view s)) (sym rule-is),
-        record {
-          sound = sound s h z k hk lk a small clear halves links slot c segments (a / 128) size slotted (omega arith) (omega arith) (omega (arith, h .owned .most, small));
-          sized = sized s h z k hk lk a small clear halves links slot c segments (a / 128) size lh ll;
-        },
-      )
+      module _ (t : Handed s k (r .address) n (withSlots s halves links owner (numbersOf s)) (max (s .size) (r .address + n))) where
+        gives : record { next = view then; says = at (r .address) } ≡ told at (view s) (rule.allocate (placing (base .segments) p) (foundAt s k) n (view s))
+        unfolding rule.allocate rule.setScope _>>=_ refuse_unless_
+        gives =
+            rw (g .there ne)
+            (λ u. record {
+              next = record {
+                slots = record { occupied = t .is u .slots .occupied; segments = r .segments; head = r .head };
+                live = t .is u .live;
+                top = index (s .top);
+                counter = s .counter;
+                bindings = view s .bindings;
+                dangling = t .is u .dangling;
+                size = es u;
+              };
+              says = at (r .address);
+            })
+
+        -- the placement leaves slots in order
+        slotted : Slotted halves (r .segments) (r .head)
+        unfolding rule.setScope
+        slotted =
+            record {
+              most = then-in-order .segments;
+              front = then-in-order .head (omega arith);
+              none = λ b lo hi. ap (λ (c : rule.Scopes). c .slots .occupied b) (t .is) ∙ is-false _ (λ e. omega (arith, then-in-order .low b hi e));
+            }
+
+        pub alloc-gives : (record { next = view then; says = at (r .address) } ≡ told at (view s) (rule.allocate (placing (base .segments) p) (foundAt s k) n (view s))) × Whole then
+        alloc-gives =
+            let w = t .whole .sound in
+            let z = t .whole .sized in (
+              gives,
+              record {
+                sound = record {
+                  slotted = slotted;
+                  ringed = w .ringed;
+                  owned = record { taken = w .owned .taken; alive = w .owned .alive; above = λ a ha o. omega (arith, w .owned .above a ha o); most = omega (arith, w .owned .most) };
+                  rooted = w .rooted;
+                  named = w .named;
+                };
+                sized = record { halves = z .halves; links = z .links; owner = z .owner; live = z .live; dangled = z .dangled; parent = z .parent; number = z .number; bindings = z .bindings };
+              },
+            )
 
 -- ---- which scope it is for
 
-module _ (s : Scopes) where
-  pub alloc-no-top : s .top ≡ 64 → record { next = view s; says = Refused 3 } ≡ told at (view s) (rule.allocTop (edition1 (base .segments)) (view s))
+module _ (place : Placement) (s : Scopes) where
+  pub alloc-no-top : s .top ≡ 64 → record { next = view s; says = Refused 3 } ≡ told at (view s) (rule.allocTop place (view s))
   unfolding rule.allocTop _>>=_ refuse_unless_
   alloc-no-top e = rw (no-top s e)
 
-  pub alloc-top : Topped s → rule.allocate (edition1 (base .segments)) (foundAt s (s .top)) 1 (view s) ≡ rule.allocTop (edition1 (base .segments)) (view s)
+  pub alloc-top : Topped s → rule.allocate place (foundAt s (s .top)) 1 (view s) ≡ rule.allocTop place (view s)
   unfolding rule.allocTop _>>=_ refuse_unless_
   alloc-top t = rw (t .is)
 
-  pub alloc-in-none : (o : Option rule.Found) → o ≡ none → record { next = view s; says = Refused 4 } ≡ told at (view s) (rule.allocIn (edition1 (base .segments)) o (view s))
+  pub alloc-in-none : (o : Option rule.Found) → o ≡ none → record { next = view s; says = Refused 4 } ≡ told at (view s) (rule.allocIn place o (view s))
   unfolding rule.allocIn _>>=_ refuse_unless_
   alloc-in-none o e = rw e
 
-  pub alloc-in-is : (o : Option rule.Found) (i : ℕ) → Known s o i → rule.allocate (edition1 (base .segments)) (foundAt s i) 1 (view s) ≡ rule.allocIn (edition1 (base .segments)) o (view s)
+  pub alloc-in-is : (o : Option rule.Found) (i : ℕ) → Known s o i → rule.allocate place (foundAt s i) 1 (view s) ≡ rule.allocIn place o (view s)
   unfolding rule.allocIn _>>=_ refuse_unless_
   alloc-in-is o i e = rw (e .is)
+
+  pub run-no-top : (n : ℕ) → s .top ≡ 64 → record { next = view s; says = Refused 3 } ≡ told atFirst (view s) (rule.allocRun place n (view s))
+  unfolding rule.allocRun _>>=_ refuse_unless_
+  run-no-top zero e = rw (no-top s e)
+  run-no-top (suc m) e = rw (no-top s e)
+
+  pub run-empty : (n : ℕ) → Topped s → n ≡ 0 → record { next = view s; says = Empty } ≡ told atFirst (view s) (rule.allocRun place n (view s))
+  unfolding rule.allocRun _>>=_ refuse_unless_
+  run-empty n t e = rw (e, t .is)
+
+  pub run-is : (n : ℕ) → Topped s → n ≢ 0 → told at (view s) (rule.allocate place (foundAt s (s .top)) n (view s)) ≡ told atFirst (view s) (rule.allocRun place n (view s))
+  unfolding rule.allocRun _>>=_ refuse_unless_
+  run-is zero t ne = absurd (ne refl)
+  run-is (suc m) t ne = rw (t .is) (go (rule.allocate place (foundAt s (s .top)) (suc m) (view s)))
+    where
+      go : (r : Answer (ℕ × rule.Scopes)) → told at (view s) r ≡ told atFirst (view s) (r >>= (λ x. given (some (x .0), x .1)))
+      go (given x) = refl
+      go (refused m) = refl

@@ -1,4 +1,4 @@
--- A clear slot is given to a scope: by alloc, and by each push of a run. Assumes nothing.
+-- A clear slot is given to a scope: one after another, those that a placement chose. Assumes nothing.
 use mathlib.Core.Path.{_≡_, refl, sym, ap, _∙_, subst}
 use mathlib.Core.Logic.{_≢_}
 use mathlib.Core.Bool.{Bool, true, false}

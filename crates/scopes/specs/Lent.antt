@@ -2,15 +2,20 @@
 use mathlib.Core.Path.{_≡_}
 use mathlib.Core.Bool.{Bool, true, false}
 use mathlib.Core.List.{List, []}
-use Prim.Native.Nat.{ℕ, _+_, _≤_, _<_}
+use Prim.Native.Nat.{ℕ, _+_, _<_, max}
 use lib.ListN.{getD, take}
-use Rattle.rules.specs.Notation.{Answer, given, _>>=_, refuse_when_, pastLast}
+use denote.Ref.{RefT, now}
+use denote.Triple.Both.{Both}
+use Rattle.rules.specs.Notation.{Answer, given, _>>=_, refuse_when_}
 use Rattle.rules.specs.Sizes.{base}
+use Rattle.rules.specs.Slots.{Placement}
 use Rattle.rules.specs.Scopes as rule
 use Rattle.slots.specs.Halves.{occ}
-use Rattle.scopes.specs.View.{held, foundAt, view, Seen, toldOnly, runFor}
+use Rattle.slots.specs.Spots.{Vacant}
+use Rattle.scopes.specs.View.{held, foundAt, view, Seen, at, told, toldOnly, runFor}
 use Rattle.scopes.specs.Sound.{Sound, Sized}
 use Rattle.scopes.specs.declared.Scopes.{Scopes}
+use Rattle.scopes.specs.declared.LentOutcome.{LentOutcome}
 use Rattle.scopes.specs.declared.Numbers.{Numbers}
 use Rattle.scopes.specs.declared.Reply.{Reply}
 
@@ -47,6 +52,21 @@ withScopes s live dangled parent number n = made (s .halves) (s .links) (s .owne
 abbrev pub withNames : Scopes → (bindings : List ℕ) → Numbers → Scopes
 withNames s bindings n = made (s .halves) (s .links) (s .owner) (s .live) (s .dangled) (s .parent) (s .number) bindings n
 
+-- an array that is lent to be changed: as it came in, and as it is left
+abbrev pub LentArray : Type 0 → Type 0
+LentArray A = Both (RefT (List A)) (RefT (List A))
+
+-- the state s, with the lent arrays of the slots as they came in, and as they are left
+abbrev pub slotsIn : Scopes → (halves links owner : LentArray ℕ) → Numbers → Scopes
+slotsIn s halves links owner n = withSlots s (now (halves .entry)) (now (links .entry)) (now (owner .entry)) n
+
+abbrev pub slotsOut : Scopes → (halves links owner : LentArray ℕ) → Numbers → Scopes
+slotsOut s halves links owner n = withSlots s (now (halves .exit)) (now (links .exit)) (now (owner .exit)) n
+
+-- the arrays of the scopes that are read only, in the place of those of s
+abbrev pub scopesIn : Scopes → LentArray Bool → LentArray ℕ → Numbers → Scopes
+scopesIn s live number n = withScopes s (now (live .entry)) (s .dangled) (s .parent) (now (number .entry)) n
+
 -- sound, and its arrays as long as their types say
 pub record Whole (s : Scopes) : Type 0 where
   pub sound : Sound s
@@ -56,17 +76,46 @@ pub record Whole (s : Scopes) : Type 0 where
 abbrev pub Becomes : Scopes → Scopes → Reply → (rule.Scopes → Seen) → Type 0
 Becomes s t reply f = Whole s → (record { next = view t; says = reply } ≡ f (view s)) × Whole t
 
+-- the same where the arrays of the slots are lent, whatever the other arrays of the state hold
+abbrev pub LentBecomes : (halves links owner : LentArray ℕ) → Numbers → LentOutcome → (rule.Scopes → Seen) → Type 0
+LentBecomes halves links owner n r f = (s : Scopes) → Becomes (slotsIn s halves links owner n) (slotsOut s halves links owner (r .numbers)) (r .reply) f
+
 -- scope k is live
 abbrev pub Lives : Scopes → ℕ → Type 0
 Lives s k = (k < 64) × (getD (s .live) k false ≡ true)
 
--- g is one past the greatest occupied slot, and there is room for n slots from there
-abbrev pub Fits : Scopes → ℕ → ℕ → Type 0
-Fits s g n = (g ≡ pastLast (occ (s .halves)) 1024) × (g + n ≤ 1024)
+-- s with all segments, and this size: as long as slots are handed out
+abbrev pub roomy : Scopes → ℕ → Scopes
+roomy s size =
+    made (s .halves) (s .links) (s .owner) (s .live) (s .dangled) (s .parent) (s .number) (s .bindings)
+    (record { count = s .count; segments = 8; head = s .head; top = s .top; counter = s .counter; size = size })
 
--- what n pushes for scope k leave
-abbrev pub Pushes : Scopes → ℕ → ℕ → ℕ → Scopes → Type 0
-Pushes s k g n t = Whole s → Lives s k → Fits s g n → (view t ≡ runFor s k g n) × Whole t
+-- the n slots from a on, which were clear, went to scope k; L and H have still to be set
+pub record Handed (s : Scopes) (k a n : ℕ) (t : Scopes) (size : ℕ) : Type 0 where
+  pub is : view (roomy t size) ≡ runFor (roomy s size) k a n
+  pub whole : Whole (roomy t size)
+
+-- what handing out the n slots from a on to scope k comes to, where they are clear
+abbrev pub Takes : Scopes → ℕ → ℕ → ℕ → Scopes → Type 0
+Takes s k a n t = Whole s → Lives s k → Vacant (occ (s .halves)) a n → Handed s k a n t (max (s .size) (a + n))
+
+-- the same where the arrays of the slots are lent
+abbrev pub LentTakes : (halves links owner : LentArray ℕ) (k a n : ℕ) → Type 0
+LentTakes halves links owner k a n = (s : Scopes) → Takes (slotsIn s halves links owner (numbersOf s)) k a n (slotsOut s halves links owner (numbersOf s))
+
+-- scope k, which is live, gets `many` slots where the placement puts them
+abbrev pub AllotsAt : (halves links owner : LentArray ℕ) → Numbers → (k many : ℕ) → Placement → LentOutcome → Type 0
+AllotsAt halves links owner n k many place r =
+    (s : Scopes) → Lives s k
+    → Becomes (slotsIn s halves links owner n) (slotsOut s halves links owner (r .numbers)) (r .reply)
+    (λ c. told at c (rule.allocate place (foundAt (slotsIn s halves links owner n) k) many c))
+
+-- the scope with this id gets a slot where the placement puts it; the arrays that tell which scope it is are read only
+abbrev pub AllotsIn : (halves links owner : LentArray ℕ) → LentArray Bool → LentArray ℕ → Numbers → rule.Id → Placement → LentOutcome → Type 0
+AllotsIn halves links owner live number n id place r =
+    (s : Scopes)
+    → Becomes (slotsIn (scopesIn s live number n) halves links owner n) (slotsOut (scopesIn s live number n) halves links owner (r .numbers)) (r .reply)
+    (λ c. told at c (rule.allocIn place (rule.byId base c id) c))
 
 -- the top owns the slot a
 abbrev pub TopOwns : Scopes → ℕ → Type 0

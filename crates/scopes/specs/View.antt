@@ -7,10 +7,10 @@ use lib.ListN.{getD, take}
 use lib.Dec.{ltb, eqb}
 use Rattle.rules.specs.Notation.{Answer, given, refused, _>>=_, refuse_unless_, _▹_}
 use Rattle.rules.specs.Sizes.{base}
-use Rattle.rules.specs.Slots.{pushes}
 use Rattle.rules.specs.AddressSets.{addedAll, withoutAll, run}
 use Rattle.rules.specs.Scopes as rule
-use Rattle.slots.specs.Halves.{slotsOf}
+use Rattle.slots.specs.Halves.{occ, slotsOf}
+use Rattle.slots.specs.Spots.{filled}
 use Rattle.links.specs.Follow.{lists}
 use Rattle.scopes.specs.declared.Scopes.{Scopes}
 use Rattle.scopes.specs.declared.ScopeId.{ScopeId}
@@ -120,11 +120,11 @@ defined name address handle c = do
   t ← refuse 3 unless (rule.topScope c)
   rule.bindIn base t name address handle c
 
--- what n pushes for the scope at index k leave, of which the first gives g
+-- what the n slots from a on leave, given to the scope at index k; L and H stay
 abbrev pub runFor : Scopes → ℕ → ℕ → ℕ → rule.Scopes
-runFor s k g n =
+runFor s k a n =
     view s
-    ▹ rule.slots≔ (pushes g n (view s .slots))
-    ▹ rule.setScope (foundAt s k) (rule.owned≔ (addedAll (run g n) (held (s .links) k)) (scopeOf s k))
-    ▹ rule.dangling≔ (withoutAll (run g n) (held (s .links) 64))
-    ▹ rule.size≔ (max (s .size) (g + n))
+    ▹ rule.slots≔ (record { occupied = filled a n (occ (s .halves)); segments = s .segments; head = s .head })
+    ▹ rule.setScope (foundAt s k) (rule.owned≔ (addedAll (run a n) (held (s .links) k)) (scopeOf s k))
+    ▹ rule.dangling≔ (withoutAll (run a n) (held (s .links) 64))
+    ▹ rule.size≔ (max (s .size) (a + n))

@@ -1,9 +1,9 @@
 // Slots are given to scopes, and go back: `lent::place` by value.
 ghost use mathlib.Core.Path.{_≡_};
 ghost use Rattle.rules.specs.Sizes.{base};
-ghost use Rattle.rules.specs.Slots.{edition1};
 ghost use Rattle.rules.specs.Scopes as rule;
 ghost use Rattle.rules.specs.Needs.{giveBack};
+ghost use Rattle.slots.specs.Spots.{placementOf};
 ghost use Rattle.scopes.specs.View.{view, idOf, at, atFirst, seen, told, toldOnly};
 ghost use Rattle.scopes.specs.Sound.{Sound};
 ghost use Rattle.scopes.specs.Lent.{withSlots};
@@ -13,6 +13,7 @@ use crate::ScopeId;
 use crate::Scopes;
 use crate::lent::place as lent;
 use crate::numbers_of;
+use slots::Place;
 use slots::SlotAddress;
 
 // The outcome for the whole state, where the arrays of its slots were lent.
@@ -41,22 +42,22 @@ fn with_slots(
 }
 
 // alloc: a slot for the top.
-pub fn alloc(s: Scopes) -> Outcome
+pub fn alloc(s: Scopes, place: Place) -> Outcome
     requires { ⌜ Sound s ⌝ }
-    ensures { λ r. ⌜ (seen r ≡ told at (view s) (rule.allocTop (edition1 (base .segments)) (view s))) × Sound (r .state) ⌝ }
+    ensures { λ r. ⌜ (seen r ≡ told at (view s) (rule.allocTop (placementOf place) (view s))) × Sound (r .state) ⌝ }
 {
     let n = numbers_of(s);
     let mut halves = s.halves;
     let mut links = s.links;
     let mut owner = s.owner;
-    let o = lent::alloc(&mut halves, &mut links, &mut owner, n);
+    let o = lent::alloc(&mut halves, &mut links, &mut owner, n, place);
     with_slots(s, halves, links, owner, o)
 }
 
 // alloc in s: a slot for the scope with this id.
-pub fn alloc_in(s: Scopes, id: ScopeId) -> Outcome
+pub fn alloc_in(s: Scopes, id: ScopeId, place: Place) -> Outcome
     requires { ⌜ Sound s ⌝ }
-    ensures { λ r. ⌜ (seen r ≡ told at (view s) (rule.allocIn (edition1 (base .segments)) (rule.byId base (view s) (idOf id)) (view s))) × Sound (r .state) ⌝ }
+    ensures { λ r. ⌜ (seen r ≡ told at (view s) (rule.allocIn (placementOf place) (rule.byId base (view s) (idOf id)) (view s))) × Sound (r .state) ⌝ }
 {
     let n = numbers_of(s);
     let mut halves = s.halves;
@@ -70,20 +71,21 @@ pub fn alloc_in(s: Scopes, id: ScopeId) -> Outcome
         &s.number,
         n,
         id,
+        place,
     );
     with_slots(s, halves, links, owner, o)
 }
 
-// linear: 0 gives an empty run, 1 acts as alloc, more are pushed.
-pub fn alloc_run(s: Scopes, many: u16) -> Outcome
+// linear: 0 gives an empty run; the placement tells 1 from more.
+pub fn alloc_run(s: Scopes, many: u16, place: Place) -> Outcome
     requires { ⌜ Sound s ⌝ }
-    ensures { λ r. ⌜ (seen r ≡ told atFirst (view s) (rule.allocRun (edition1 (base .segments)) many (view s))) × Sound (r .state) ⌝ }
+    ensures { λ r. ⌜ (seen r ≡ told atFirst (view s) (rule.allocRun (placementOf place) many (view s))) × Sound (r .state) ⌝ }
 {
     let n = numbers_of(s);
     let mut halves = s.halves;
     let mut links = s.links;
     let mut owner = s.owner;
-    let o = lent::alloc_run(&mut halves, &mut links, &mut owner, n, many);
+    let o = lent::alloc_run(&mut halves, &mut links, &mut owner, n, many, place);
     with_slots(s, halves, links, owner, o)
 }
 

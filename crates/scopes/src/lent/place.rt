@@ -1,49 +1,74 @@
 // Slots are given to scopes, and go back.
-ghost use Prim.Native.Nat.{_+_, _<_};
-ghost use Rattle.rules.specs.Sizes.{base};
-ghost use Rattle.rules.specs.Slots.{edition1};
+ghost use Prim.Native.Nat.{_<_};
 ghost use Rattle.rules.specs.Scopes as rule;
 ghost use Rattle.rules.specs.Needs.{giveBack};
-ghost use Rattle.scopes.specs.View.{idOf, foundAt, at, atFirst, told, toldOnly};
-ghost use Rattle.scopes.specs.Lent.{withSlots, withScopes, Whole, Becomes, Lives, Fits, Pushes, TopOwns};
+ghost use Rattle.slots.specs.Halves.{occ};
+ghost use Rattle.slots.specs.Spots.{placementOf, Vacant};
+ghost use Rattle.scopes.specs.View.{idOf, at, atFirst, told, toldOnly};
+ghost use Rattle.scopes.specs.Lent.{withSlots, withScopes, numbersOf, Whole, Becomes, LentBecomes, Lives, LentTakes, AllotsAt, AllotsIn, TopOwns};
 use crate::LentOutcome;
 use crate::Numbers;
 use crate::Reply;
 use crate::ScopeId;
 use crate::Scopes;
 use crate::open;
+use slots::Place;
 use slots::SlotAddress;
 use slots::halves as bits;
+use slots::spots;
 
-// A slot for scope k, which is live.
+// The slots from a on, `many` of them, which are clear, go to scope k, one after another.
+pub fn take_run(
+    halves: &mut [u64; 16],
+    links: &mut [u16; 2178],
+    owner: &mut [u8; 1024],
+    k: usize,
+    a: usize,
+    many: usize,
+)
+    requires { ⌜ ((s : Scopes) × Whole (withSlots s (now halves) (now links) (now owner) (numbersOf s)) × Lives s k × Vacant (occ (now halves)) a many) ⌝ }
+    ensures { λ r. ⌜ LentTakes halves links owner k a many ⌝ }
+{
+    let end = a + many;
+    let mut b = a;
+    while b < end {
+        bits::occupy(halves, b);
+        links::place(links, k, b);
+        owner[b] = k as u8;
+        b += 1;
+    }
+}
+
+// `many` slots for scope k, which is live. 7.
 pub fn alloc_at(
     halves: &mut [u64; 16],
     links: &mut [u16; 2178],
     owner: &mut [u8; 1024],
     n: Numbers,
     k: usize,
+    many: usize,
+    place: Place,
 ) -> LentOutcome
-    requires { ⌜ ((s : Scopes) × Whole (withSlots s (now halves) (now links) (now owner) n) × Lives s k) ⌝ }
-    ensures { λ r. ⌜ ((s : Scopes) → Lives s k → Becomes (withSlots s (now (halves .entry)) (now (links .entry)) (now (owner .entry)) n) (withSlots s (now (halves .exit)) (now (links .exit)) (now (owner .exit)) (r .numbers)) (r .reply) (λ c. told at c (rule.allocate (edition1 (base .segments)) (foundAt (withSlots s (now (halves .entry)) (now (links .entry)) (now (owner .entry)) n) k) 1 c))) ⌝ }
+    requires { ⌜ ((s : Scopes) × Whole (withSlots s (now halves) (now links) (now owner) n) × Lives s k × (0 < many) × (many < 65536)) ⌝ }
+    ensures { λ r. ⌜ AllotsAt halves links owner n k many (placementOf place) r ⌝ }
 {
-    let a = bits::first_clear(halves, bits::least(n.head, n.segments));
+    let spot = spots::choose(halves, n.segments, n.head, place, many);
+    let a = spot.address;
     if a == 1024 {
         return LentOutcome {
             numbers: n,
             reply: Reply::Refused(7),
         };
     }
-    bits::occupy(halves, a);
-    links::place(links, k, a);
-    owner[a] = k as u8;
+    take_run(halves, links, owner, k, a, many);
     LentOutcome {
         numbers: Numbers {
             count: n.count,
-            segments: bits::most(n.segments, a / 128 + 1),
-            head: a / 128,
+            segments: spot.segments,
+            head: spot.head,
             top: n.top,
             counter: n.counter,
-            size: bits::most(n.size, a + 1),
+            size: bits::most(n.size, a + many),
         },
         reply: Reply::At(SlotAddress(a as u16)),
     }
@@ -55,9 +80,10 @@ pub fn alloc(
     links: &mut [u16; 2178],
     owner: &mut [u8; 1024],
     n: Numbers,
+    place: Place,
 ) -> LentOutcome
     requires { ⌜ ((s : Scopes) × Whole (withSlots s (now halves) (now links) (now owner) n)) ⌝ }
-    ensures { λ r. ⌜ ((s : Scopes) → Becomes (withSlots s (now (halves .entry)) (now (links .entry)) (now (owner .entry)) n) (withSlots s (now (halves .exit)) (now (links .exit)) (now (owner .exit)) (r .numbers)) (r .reply) (λ c. told at c (rule.allocTop (edition1 (base .segments)) c))) ⌝ }
+    ensures { λ r. ⌜ LentBecomes halves links owner n r (λ c. told at c (rule.allocTop (placementOf place) c)) ⌝ }
 {
     let top = n.top;
     if top == 64 {
@@ -66,7 +92,7 @@ pub fn alloc(
             reply: Reply::Refused(3),
         };
     }
-    alloc_at(halves, links, owner, n, top)
+    alloc_at(halves, links, owner, n, top, 1, place)
 }
 
 // alloc in s: a slot for the scope with this id. 4, 7.
@@ -78,9 +104,10 @@ pub fn alloc_in<'a>(
     number: &'a [u32; 64],
     n: Numbers,
     id: ScopeId,
+    place: Place,
 ) -> LentOutcome
     requires { ⌜ ((s : Scopes) × Whole (withSlots (withScopes s (now live) (s .dangled) (s .parent) (now number) n) (now halves) (now links) (now owner) n)) ⌝ }
-    ensures { λ r. ⌜ ((s : Scopes) → Becomes (withSlots (withScopes s (now (live .entry)) (s .dangled) (s .parent) (now (number .entry)) n) (now (halves .entry)) (now (links .entry)) (now (owner .entry)) n) (withSlots (withScopes s (now (live .entry)) (s .dangled) (s .parent) (now (number .entry)) n) (now (halves .exit)) (now (links .exit)) (now (owner .exit)) (r .numbers)) (r .reply) (λ c. told at c (rule.allocIn (edition1 (base .segments)) (rule.byId base c (idOf id)) c))) ⌝ }
+    ensures { λ r. ⌜ AllotsIn halves links owner live number n (idOf id) (placementOf place) r ⌝ }
 {
     let i = open::place_of(live, number, id);
     if i == 64 {
@@ -89,53 +116,20 @@ pub fn alloc_in<'a>(
             reply: Reply::Refused(4),
         };
     }
-    alloc_at(halves, links, owner, n, i)
+    alloc_at(halves, links, owner, n, i, 1, place)
 }
 
-// The slots from g on, `many` of them, go to scope k, one push after another: g is one past the greatest occupied slot.
-pub fn push_run(
-    halves: &mut [u64; 16],
-    links: &mut [u16; 2178],
-    owner: &mut [u8; 1024],
-    n: Numbers,
-    k: usize,
-    g: usize,
-    many: usize,
-) -> Numbers
-    requires { ⌜ ((s : Scopes) × Whole (withSlots s (now halves) (now links) (now owner) n) × Lives s k × Fits (withSlots s (now halves) (now links) (now owner) n) g many) ⌝ }
-    ensures { λ r. ⌜ ((s : Scopes) → Pushes (withSlots s (now (halves .entry)) (now (links .entry)) (now (owner .entry)) n) k g many (withSlots s (now (halves .exit)) (now (links .exit)) (now (owner .exit)) r)) ⌝ }
-{
-    let end = g + many;
-    let size = bits::most(n.size, end);
-    let mut segments = n.segments;
-    let mut a = g;
-    while a < end {
-        bits::occupy(halves, a);
-        links::place(links, k, a);
-        owner[a] = k as u8;
-        segments = bits::grown(segments, a);
-        a += 1;
-    }
-    Numbers {
-        count: n.count,
-        segments: segments,
-        head: n.head,
-        top: n.top,
-        counter: n.counter,
-        size: size,
-    }
-}
-
-// linear: 0 gives an empty run, 1 acts as alloc, more are pushed. The room is looked at before anything changes. 3, 7.
+// linear: 0 gives an empty run; the placement tells 1 from more. 3, 7.
 pub fn alloc_run(
     halves: &mut [u64; 16],
     links: &mut [u16; 2178],
     owner: &mut [u8; 1024],
     n: Numbers,
     many: u16,
+    place: Place,
 ) -> LentOutcome
     requires { ⌜ ((s : Scopes) × Whole (withSlots s (now halves) (now links) (now owner) n)) ⌝ }
-    ensures { λ r. ⌜ ((s : Scopes) → Becomes (withSlots s (now (halves .entry)) (now (links .entry)) (now (owner .entry)) n) (withSlots s (now (halves .exit)) (now (links .exit)) (now (owner .exit)) (r .numbers)) (r .reply) (λ c. told atFirst c (rule.allocRun (edition1 (base .segments)) many c))) ⌝ }
+    ensures { λ r. ⌜ LentBecomes halves links owner n r (λ c. told atFirst c (rule.allocRun (placementOf place) many c)) ⌝ }
 {
     let top = n.top;
     let m = many as usize;
@@ -151,20 +145,7 @@ pub fn alloc_run(
             reply: Reply::Empty,
         };
     }
-    if m == 1 {
-        return alloc_at(halves, links, owner, n, top);
-    }
-    let g = bits::past_greatest(halves);
-    if 1024 < g + m {
-        return LentOutcome {
-            numbers: n,
-            reply: Reply::Refused(7),
-        };
-    }
-    LentOutcome {
-        numbers: push_run(halves, links, owner, n, top, g, m),
-        reply: Reply::At(SlotAddress(g as u16)),
-    }
+    alloc_at(halves, links, owner, n, top, m, place)
 }
 
 // The slot a, which the top owns, is clear then, and dangles or not.
@@ -208,7 +189,7 @@ pub fn give_back(
     dangles: bool,
 ) -> LentOutcome
     requires { ⌜ ((s : Scopes) × Whole (withSlots s (now halves) (now links) (now owner) n)) ⌝ }
-    ensures { λ r. ⌜ ((s : Scopes) → Becomes (withSlots s (now (halves .entry)) (now (links .entry)) (now (owner .entry)) n) (withSlots s (now (halves .exit)) (now (links .exit)) (now (owner .exit)) (r .numbers)) (r .reply) (λ c. toldOnly c (giveBack dangles (a .0) c))) ⌝ }
+    ensures { λ r. ⌜ LentBecomes halves links owner n r (λ c. toldOnly c (giveBack dangles (a .0) c)) ⌝ }
 {
     let x = a.0 as usize;
     let top = n.top;

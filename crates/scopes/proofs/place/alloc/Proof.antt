@@ -1,8 +1,9 @@
 -- A slot for the top scope, by value. Assumes nothing.
 use borrow.Author.Needs.{needs}
 use Rattle.rules.specs.Sizes.{base}
-use Rattle.rules.specs.Slots.{edition1}
+use Rattle.rules.specs.Slots.{placing}
 use Rattle.rules.specs.Scopes as rule
+use Rattle.slots.specs.Spots.{placeOf}
 use Rattle.scopes.specs.View.{at, told}
 use Rattle.scopes.specs.Lent.{Whole}
 use Rattle.scopes.proofs.Wraps.{lends, by-value}
@@ -30,7 +31,7 @@ with-slots-requires : tie.Need-with-slots-requires
 with-slots-requires c κs = search needs
 
 returns : tie.Need-returns
-returns c = let n = lending (c .before .before) in by-value _ (whole (n .before)) _ (n .numbers-of .ensures) _ _ (λ x. told at x (rule.allocTop (edition1 (base .segments)) x)) (c .before .alloc .ensures (n .before .args .s)) _ (c .with-slots .ensures)
+returns c = let n = lending (c .before .before) in by-value _ (whole (n .before)) _ (n .numbers-of .ensures) _ _ (λ x. told at x (rule.allocTop (placing (base .segments) (placeOf (n .before .args .place))) x)) (c .before .alloc .ensures (n .before .args .s)) _ (c .with-slots .ensures)
 
 pub alloc-spec : {M : Type 1} → statement M
 alloc-spec = tie.close (tie.spec numbers-of-requires alloc-requires with-slots-requires returns)

@@ -1,8 +1,9 @@
 -- A run of slots for the top, by value. Assumes nothing.
 use borrow.Author.Needs.{needs}
 use Rattle.rules.specs.Sizes.{base}
-use Rattle.rules.specs.Slots.{edition1}
+use Rattle.rules.specs.Slots.{placing}
 use Rattle.rules.specs.Scopes as rule
+use Rattle.slots.specs.Spots.{placeOf}
 use Rattle.scopes.specs.View.{atFirst, told}
 use Rattle.scopes.specs.Lent.{Whole}
 use Rattle.scopes.proofs.Wraps.{lends, by-value}
@@ -30,7 +31,7 @@ with-slots-requires : tie.Need-with-slots-requires
 with-slots-requires c κs = search needs
 
 returns : tie.Need-returns
-returns c = let n = lending (c .before .before) in by-value _ (whole (n .before)) _ (n .numbers-of .ensures) _ _ (λ x. told atFirst x (rule.allocRun (edition1 (base .segments)) (n .before .args .many) x)) (c .before .alloc-run .ensures (n .before .args .s)) _ (c .with-slots .ensures)
+returns c = let n = lending (c .before .before) in by-value _ (whole (n .before)) _ (n .numbers-of .ensures) _ _ (λ x. told atFirst x (rule.allocRun (placing (base .segments) (placeOf (n .before .args .place))) (n .before .args .many) x)) (c .before .alloc-run .ensures (n .before .args .s)) _ (c .with-slots .ensures)
 
 pub alloc-run-spec : {M : Type 1} → statement M
 alloc-run-spec =

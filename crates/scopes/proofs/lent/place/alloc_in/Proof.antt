@@ -1,5 +1,6 @@
 -- A slot for the scope with an id. Assumes nothing.
 use mathlib.Core.Path.{ap, _∙_}
+use native.Mathlib.Omega.{arith}
 use Rattle.rules.specs.Sizes.{base}
 use Rattle.rules.specs.Scopes as rule
 use Rattle.scopes.specs.View.{view, idOf, at, told}
@@ -29,14 +30,14 @@ place-of-requires : tie.Need-place-of-requires
 place-of-requires c κs = search needs
 
 returns : tie.Need-returns
-returns c s h = let w = c .before .before in (alloc-in-none (state w s) _ (unknown (state w s) (idOf (w .args .id)) _ (c .before .place-of .ensures) (c .if1 .taken)), h)
+returns c s h = let w = c .before .before in (alloc-in-none _ (state w s) _ (unknown (state w s) (idOf (w .args .id)) _ (c .before .place-of .ensures) (c .if1 .taken)), h)
 
 alloc-at-requires : tie.Need-alloc-at-requires
 alloc-at-requires c κs =
     let e = c .before .before .before in
     let w = e .before .before in
     let m = meant e (w .pre .0) in
-    (scopes w (w .pre .0), w .pre .1, (m .small, m .live))
+    (scopes w (w .pre .0), w .pre .1, (m .small, m .live), omega arith, omega arith)
 
 returns-2 : tie.Need-returns-2
 returns-2 c s h =
@@ -44,7 +45,7 @@ returns-2 c s h =
     let w = e .before .before in
     let m = meant e s in
     let r = c .alloc-at .ensures (scopes w s) (m .small, m .live) h in
-    (r .0 ∙ ap (told at (view (state w s))) (alloc-in-is (state w s) _ _ m), r .1)
+    (r .0 ∙ ap (told at (view (state w s))) (alloc-in-is _ (state w s) _ _ m), r .1)
 
 pub alloc-in-spec : {M : Type 1} → statement M
 alloc-in-spec = tie.close (tie.spec place-of-requires returns alloc-at-requires returns-2)
