@@ -15,8 +15,8 @@ use Rattle.rules.specs.Slots as rule
 use Rattle.rules.proofs.Kept.{base-fair}
 use Rattle.slots.specs.Halves.{occ, slotsOf, firstClear}
 use Rattle.slots.specs.Promises.{Seen, placedOr7, removal, checked}
-use Rattle.slots.proofs.Steps.{checked-yes, insert-within, insert-refused, insert-placed}
-use Rattle.bare.specs.Bare.{Called, numbered, placeNumber, removeNumber, inserting, pushing, called, callRow, rows, addressGiven, inserts, halfFull, summed, segmentsAfter, headAfter, addressAt, Inserted}
+use Rattle.slots.proofs.Steps.{checked-yes, insert-within, insert-none, insert-some}
+use Rattle.bare.specs.Bare.{Called, numbered, placeNumber, removeNumber, inserting, insertingLowest, pushing, called, callRow, rows, addressGiven, inserts, halfFull, summed, segmentsAfter, headAfter, addressAt, Inserted}
 
 -- ---- soundness
 
@@ -24,18 +24,18 @@ abbrev pub Sound : rule.Slots → Type 0
 Sound s = soundSlots (base .segments) s ≡ true
 
 pub fresh-sound : Sound rule.freshSlots
-fresh-sound = base-fair .at-first
+fresh-sound = base-fair rule.byHead .at-first
 
 pub removed-sound : (a : ℕ) (s : rule.Slots) → Sound s → Sound (rule.remove a s)
-removed-sound a s y = base-fair .removed a s y
+removed-sound a s y = base-fair rule.byHead .removed a s y
 
 pub inserted-sound : (s : rule.Slots) → Sound s → Sound (inserting s .next)
-unfolding base rule.edition1
+unfolding base rule.placing rule.edition1
 inserted-sound s y = go (rule.insert 8 s) refl
   where
     go : (o : Option rule.Placed) → rule.insert 8 s ≡ o → Sound (placedOr7 s (rule.insert 8 s) .next)
     go none e = rw e y
-    go (some p) e = rw e (base-fair .placed 1 s p e y .0)
+    go (some p) e = rw e (base-fair rule.byHead .placed 1 s p e y .0)
 
 -- what an entry shows of sound slots
 pub unchecked : {A : Type 0} (s : rule.Slots) (x y : Seen A) → Sound s → x ≡ checked (base .segments) s y → x ≡ y
@@ -126,7 +126,7 @@ module _ (hs : List ℕ) (l h : ℕ) (y : Sound (slotsOf hs l h)) (m a : ℕ) (s
   pub put-none : a ≡ 1024 → Inserted (slotsOf hs l h) hs a
   unfolding base
   put-none z =
-      let q = insert-refused 8 (slotsOf hs l h) y m a start e z in
+      let q : placedOr7 (slotsOf hs l h) none ≡ inserting (slotsOf hs l h) = ap (placedOr7 (slotsOf hs l h)) (sym (insert-none 8 (slotsOf hs l h) y m a start e z)) in
       record {
         within = put-within;
         next = (λ u. record { occupied = occ hs; segments = sym (segments-none a z l) u; head = sym (head-none a z h) u }) ∙ ap (λ (x : Seen ℕ). x .next) q;
@@ -136,10 +136,10 @@ module _ (hs : List ℕ) (l h : ℕ) (y : Sound (slotsOf hs l h)) (m a : ℕ) (s
   pub put-some : (new : List ℕ) → (a ≡ 1024 → ⊥) → occ new ≡ put (occ hs) a true → Inserted (slotsOf hs l h) new a
   unfolding base
   put-some new z p =
-      let q = insert-placed 8 (slotsOf hs l h) y m a start e {f = occ new} {l = max l (a / 128 + 1)} z p refl in
+      let q = ap (placedOr7 (slotsOf hs l h)) (sym (insert-some 8 (slotsOf hs l h) y m a start e z)) in
       record {
         within = put-within;
-        next = (λ u. record { occupied = occ new; segments = sym (segments-some a z l) u; head = sym (head-some a z h) u }) ∙ ap (λ (x : Seen ℕ). x .next) q;
+        next = (λ u. record { occupied = p u; segments = sym (segments-some a z l) u; head = sym (head-some a z h) u }) ∙ ap (λ (x : Seen ℕ). x .next) q;
         gives = sym (address-some a z) ∙ ap (λ (x : Seen ℕ). addressGiven (x .says)) q;
       }
 
@@ -162,6 +162,11 @@ module _ (c : ℕ) (s : rule.Slots) (r : Called) where
   unfolding called
   call-push n e p q = rw (ne-eqb c 65535 n, eq-eqb c 65534 e, called) (p ∙ ap (numbered placeNumber) q)
 
-  pub call-remove : {x : Seen Bool} → (c ≡ 65535 → ⊥) → (c ≡ 65534 → ⊥) → r ≡ numbered removeNumber x → x ≡ checked (base .segments) s (removal c s) → r ≡ called c s
+  pub call-lowest : {x : Seen ℕ} → (c ≡ 65535 → ⊥) → (c ≡ 65534 → ⊥) → c ≡ 65533 → r ≡ numbered placeNumber x → x ≡ checked (base .segments) s (insertingLowest s)
+      → r ≡ called c s
   unfolding called
-  call-remove n m p q = rw (ne-eqb c 65535 n, ne-eqb c 65534 m, called) (p ∙ ap (numbered removeNumber) q)
+  call-lowest n m e p q = rw (ne-eqb c 65535 n, ne-eqb c 65534 m, eq-eqb c 65533 e, called) (p ∙ ap (numbered placeNumber) q)
+
+  pub call-remove : {x : Seen Bool} → (c ≡ 65535 → ⊥) → (c ≡ 65534 → ⊥) → (c ≡ 65533 → ⊥) → r ≡ numbered removeNumber x → x ≡ checked (base .segments) s (removal c s) → r ≡ called c s
+  unfolding called
+  call-remove n m o p q = rw (ne-eqb c 65535 n, ne-eqb c 65534 m, ne-eqb c 65533 o, called) (p ∙ ap (numbered removeNumber) q)

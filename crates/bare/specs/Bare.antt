@@ -39,17 +39,24 @@ numbered f x = record { next = x .next; says = f (x .says) }
 abbrev pub inserting : rule.Slots → Seen ℕ
 inserting s = placedOr7 s (rule.insert (base .segments) s)
 
+-- .. and what edition 2's insert shows
+abbrev pub insertingLowest : rule.Slots → Seen ℕ
+insertingLowest s = placedOr7 s (rule.insertLowest (base .segments) s)
+
 abbrev pub pushing : rule.Slots → Seen ℕ
 pushing s = placedOr7 s (rule.push (base .segments) s)
 
--- 65,535 inserts, 65,534 pushes, every other number removes; 29 first
+-- 65,535 inserts, 65,534 pushes, 65,533 inserts by edition 2, every other number removes; 29 first
 unfoldable pub called : ℕ → rule.Slots → Called
 called c s =
     elim (eqb c 65535) [
       | true ↦ numbered placeNumber (checked (base .segments) s (inserting s))
       | false ↦ elim (eqb c 65534) [
         | true ↦ numbered placeNumber (checked (base .segments) s (pushing s))
-        | false ↦ numbered removeNumber (checked (base .segments) s (removal c s))
+        | false ↦ elim (eqb c 65533) [
+          | true ↦ numbered placeNumber (checked (base .segments) s (insertingLowest s))
+          | false ↦ numbered removeNumber (checked (base .segments) s (removal c s))
+        ]
       ]
     ]
 

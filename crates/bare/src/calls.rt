@@ -1,4 +1,5 @@
-// A call on the slots as a number: 65,535 inserts, 65,534 pushes, every other number removes the slot of that address.
+// A call on the slots as a number: 65,535 inserts, 65,534 pushes, 65,533 inserts by edition 2, every other number removes the slot of
+// that address.
 ghost use mathlib.Core.Path.{_≡_};
 ghost use Rattle.slots.specs.Promises.{view, seenPlacing, seenRemoving, placeSays, removeSays};
 ghost use Rattle.bare.specs.Bare.{shownCall, numbered, placeNumber, removeNumber, called};
@@ -9,6 +10,7 @@ use slots::Removing;
 use slots::SlotAddress;
 use slots::Slots;
 use slots::insert;
+use slots::insert_lowest;
 use slots::push;
 use slots::remove;
 
@@ -63,6 +65,9 @@ pub fn call(s: Slots, c: u16) -> Shown
     }
     if c == 65534 {
         return placed(push(s));
+    }
+    if c == 65533 {
+        return placed(insert_lowest(s));
     }
     removed(remove(s, SlotAddress(c)))
 }
