@@ -4,7 +4,7 @@ use mathlib.Core.List.{List}
 use Prim.Native.Nat.{ℕ}
 use Rattle.rules.specs.Notation.{Answer, given, refused}
 use Rattle.rules.specs.Sizes.{base}
-use Rattle.rules.specs.Slots.{edition1}
+use Rattle.rules.specs.Slots.{Placement, edition1}
 use Rattle.rules.specs.Scopes.{Scopes}
 use Rattle.rules.specs.Needs as rule
 use Rattle.scopes.specs.View.{view}
@@ -63,12 +63,24 @@ allocatedOutput x = record { next = x .scopes; need = x .need; says = given (rul
 abbrev pub doneFreeing : rule.Need × Scopes → SeenBoth (Unit {0})
 doneFreeing x = record { next = x .1; need = x .0; says = given tt }
 
--- what each operation does and says
+-- ---- what each operation does and says
+
+-- allocating a need, where its slot goes by this placement
+abbrev pub allocationBy : Placement → rule.Need → Scopes → SeenBoth (Option ℕ)
+allocationBy place d c = toldBoth allocatedSlot c d (rule.allocateNeed base place d c)
+
+-- .. in edition 1
 abbrev pub allocation : rule.Need → Scopes → SeenBoth (Option ℕ)
-allocation d c = toldBoth allocatedSlot c d (rule.allocateNeed base (edition1 (base .segments)) d c)
+allocation d c = allocationBy (edition1 (base .segments)) d c
 
+-- allocating a need "as output", by this placement
+abbrev pub outputBy : Placement → rule.Need → Scopes → SeenBoth rule.Output
+outputBy place d c = toldBoth allocatedOutput c d (rule.allocateNeed base place d c)
+
+-- .. in edition 1
 abbrev pub outputAllocation : rule.Need → Scopes → SeenBoth rule.Output
-outputAllocation d c = toldBoth allocatedOutput c d (rule.allocateNeed base (edition1 (base .segments)) d c)
+outputAllocation d c = outputBy (edition1 (base .segments)) d c
 
+-- freeing a need
 abbrev pub freeingNeed : rule.Need → Scopes → SeenBoth (Unit {0})
 freeingNeed d c = toldBoth doneFreeing c d (rule.freeNeed d c)

@@ -1,8 +1,8 @@
 // One address: allocated, freed.
 ghost use mathlib.Core.Path.{_≡_};
 ghost use Rattle.rules.specs.Sizes.{base};
-ghost use Rattle.rules.specs.Slots.{edition1};
 ghost use Rattle.rules.specs.Needs as rule;
+ghost use Rattle.slots.specs.Spots.{placementOf};
 ghost use Rattle.scopes.specs.View.{view, idOf};
 ghost use Rattle.scopes.specs.Sound.{Sound};
 ghost use Rattle.needs.specs.Kinds.{addressOf};
@@ -19,6 +19,7 @@ use scopes::Reply;
 use scopes::ScopeId;
 use scopes::Scopes;
 use scopes::place;
+use slots::Place;
 
 fn as_address(reply: Reply, kind: AddressKind) -> AddressAnswer
     ensures { λ r. ⌜ r ≡ asAddress kind reply ⌝ }
@@ -34,11 +35,11 @@ fn as_address(reply: Reply, kind: AddressKind) -> AddressAnswer
 }
 
 // Local, in the top scope: 3, 7.
-pub fn alloc(s: Scopes) -> AddressOutcome
+pub fn alloc(s: Scopes, place: Place) -> AddressOutcome
     requires { ⌜ Sound s ⌝ }
-    ensures { λ r. ⌜ (seenAddress r ≡ toldState (view s) (rule.allocAddress (edition1 (base .segments)) (view s))) × Sound (r .state) ⌝ }
+    ensures { λ r. ⌜ (seenAddress r ≡ toldState (view s) (rule.allocAddress (placementOf place) (view s))) × Sound (r .state) ⌝ }
 {
-    let o = place::alloc(s);
+    let o = place::alloc(s, place);
     let t = o.state;
     let reply = o.reply;
     AddressOutcome {
@@ -48,11 +49,11 @@ pub fn alloc(s: Scopes) -> AddressOutcome
 }
 
 // Scope, in the scope that has this id: 4, 7.
-pub fn alloc_in(s: Scopes, id: ScopeId) -> AddressOutcome
+pub fn alloc_in(s: Scopes, id: ScopeId, place: Place) -> AddressOutcome
     requires { ⌜ Sound s ⌝ }
-    ensures { λ r. ⌜ (seenAddress r ≡ toldState (view s) (rule.allocAddressIn base (edition1 (base .segments)) (idOf id) (view s))) × Sound (r .state) ⌝ }
+    ensures { λ r. ⌜ (seenAddress r ≡ toldState (view s) (rule.allocAddressIn base (placementOf place) (idOf id) (view s))) × Sound (r .state) ⌝ }
 {
-    let o = place::alloc_in(s, id);
+    let o = place::alloc_in(s, id, place);
     let t = o.state;
     let reply = o.reply;
     AddressOutcome {

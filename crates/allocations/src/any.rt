@@ -1,10 +1,11 @@
 // A need: allocated, freed; a refusal leaves it as it was.
 ghost use mathlib.Core.Path.{_≡_};
 ghost use Rattle.rules.specs.Needs as rule;
+ghost use Rattle.slots.specs.Spots.{placementOf};
 ghost use Rattle.scopes.specs.View.{view, idOf};
 ghost use Rattle.scopes.specs.Sound.{Sound};
 ghost use Rattle.needs.specs.Kinds.{needOf};
-ghost use Rattle.allocations.specs.Outcomes.{seenSlot, seenOutput, seenFree, allocation, outputAllocation, freeingNeed, doneFreeing};
+ghost use Rattle.allocations.specs.Outcomes.{seenSlot, seenOutput, seenFree, allocationBy, outputBy, freeingNeed, doneFreeing};
 use crate::FreeOutcome;
 use crate::OutputOutcome;
 use crate::SlotOutcome;
@@ -17,13 +18,14 @@ use needs::addresses::allocated;
 use needs::any::as_output;
 use scopes::ScopeId;
 use scopes::Scopes;
+use slots::Place;
 
 // An address for a deferred need, on behalf of its scope; a refusal leaves it deferred.
-fn deferred(s: Scopes, id: ScopeId) -> SlotOutcome
+fn deferred(s: Scopes, id: ScopeId, place: Place) -> SlotOutcome
     requires { ⌜ Sound s ⌝ }
-    ensures { λ r. ⌜ (seenSlot r ≡ allocation (rule.defer (idOf id)) (view s)) × Sound (r .state) ⌝ }
+    ensures { λ r. ⌜ (seenSlot r ≡ allocationBy (placementOf place) (rule.defer (idOf id)) (view s)) × Sound (r .state) ⌝ }
 {
-    let o = addresses::alloc_in(s, id);
+    let o = addresses::alloc_in(s, id, place);
     let t = o.state;
     let answer = o.answer;
     match answer {
@@ -44,12 +46,12 @@ fn deferred(s: Scopes, id: ScopeId) -> SlotOutcome
 }
 
 // 4, 7.
-pub fn allocate(s: Scopes, need: Need) -> SlotOutcome
+pub fn allocate(s: Scopes, need: Need, place: Place) -> SlotOutcome
     requires { ⌜ Sound s ⌝ }
-    ensures { λ r. ⌜ (seenSlot r ≡ allocation (needOf need) (view s)) × Sound (r .state) ⌝ }
+    ensures { λ r. ⌜ (seenSlot r ≡ allocationBy (placementOf place) (needOf need) (view s)) × Sound (r .state) ⌝ }
 {
     match need {
-        Need::Defer(id) => deferred(s, id),
+        Need::Defer(id) => deferred(s, id, place),
         Need::Address(a) => {
             let slot = a.slot;
             SlotOutcome {
@@ -72,11 +74,11 @@ pub fn allocate(s: Scopes, need: Need) -> SlotOutcome
 }
 
 // As allocate; what has no address is discarded.
-pub fn allocate_output(s: Scopes, need: Need) -> OutputOutcome
+pub fn allocate_output(s: Scopes, need: Need, place: Place) -> OutputOutcome
     requires { ⌜ Sound s ⌝ }
-    ensures { λ r. ⌜ (seenOutput r ≡ outputAllocation (needOf need) (view s)) × Sound (r .state) ⌝ }
+    ensures { λ r. ⌜ (seenOutput r ≡ outputBy (placementOf place) (needOf need) (view s)) × Sound (r .state) ⌝ }
 {
-    let o = allocate(s, need);
+    let o = allocate(s, need, place);
     let t = o.state;
     let d = o.need;
     let answer = o.answer;

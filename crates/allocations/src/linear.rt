@@ -1,8 +1,7 @@
 // A run of addresses: allocated in one piece, freed last address first.
 ghost use mathlib.Core.Path.{_≡_};
-ghost use Rattle.rules.specs.Sizes.{base};
-ghost use Rattle.rules.specs.Slots.{edition1};
 ghost use Rattle.rules.specs.Needs as rule;
+ghost use Rattle.slots.specs.Spots.{placementOf};
 ghost use Rattle.scopes.specs.View.{view, seen, toldOnly};
 ghost use Rattle.scopes.specs.Sound.{Sound};
 ghost use Rattle.needs.specs.Kinds.{runOf};
@@ -24,6 +23,7 @@ use scopes::Outcome;
 use scopes::Reply;
 use scopes::Scopes;
 use scopes::place;
+use slots::Place;
 use slots::SlotAddress;
 
 fn as_run(reply: Reply, n: u16) -> RunAnswer
@@ -44,11 +44,11 @@ fn as_run(reply: Reply, n: u16) -> RunAnswer
 }
 
 // n addresses: 3, 7.
-pub fn linear(s: Scopes, n: u16) -> RunOutcome
+pub fn linear(s: Scopes, n: u16, place: Place) -> RunOutcome
     requires { ⌜ Sound s ⌝ }
-    ensures { λ r. ⌜ (seenRun r ≡ toldState (view s) (rule.allocAddresses (edition1 (base .segments)) n (view s))) × PlainRun (r .answer) × Sound (r .state) ⌝ }
+    ensures { λ r. ⌜ (seenRun r ≡ toldState (view s) (rule.allocAddresses (placementOf place) n (view s))) × PlainRun (r .answer) × Sound (r .state) ⌝ }
 {
-    let o = place::alloc_run(s, n);
+    let o = place::alloc_run(s, n, place);
     let t = o.state;
     let reply = o.reply;
     RunOutcome {

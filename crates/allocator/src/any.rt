@@ -1,7 +1,9 @@
-// A need: allocated, freed; a refusal leaves it as it was. The calls over a need alone take no state, and are those of crate needs.
+// A need: allocated, freed; a refusal leaves it as it was. `allocate` and `allocate_output` are edition 1; in those with `_by` the edition
+// is a value. The calls over a need alone take no state, and are those of crate needs.
+ghost use Rattle.slots.specs.Spots.{placementOf};
 ghost use Rattle.scopes.specs.View.{view};
 ghost use Rattle.needs.specs.Kinds.{needOf};
-ghost use Rattle.allocations.specs.Outcomes.{allocation, outputAllocation, freeingNeed};
+ghost use Rattle.allocations.specs.Outcomes.{allocation, allocationBy, outputAllocation, outputBy, freeingNeed};
 ghost use Rattle.allocator.specs.Entries.{SlotCall, OutputCall, FreeCall};
 use allocations::FreeOutcome;
 use allocations::OutputOutcome;
@@ -17,10 +19,18 @@ pub use needs::any::into_addr;
 pub use needs::any::output;
 pub use needs::any::try_as_addr;
 use scopes::Scopes;
+use slots::Place;
 
 // Defer becomes a Scope address, Dangling becomes Local; the slot, or nothing.
 pub fn allocate(s: Scopes, need: Need) -> SlotOutcome
     ensures { λ r. ⌜ SlotCall s need (allocation (needOf need) (view s)) r ⌝ }
+{
+    allocate_by(s, need, Place::ByHead)
+}
+
+// The same, in the edition of this place.
+pub fn allocate_by(s: Scopes, need: Need, place: Place) -> SlotOutcome
+    ensures { λ r. ⌜ SlotCall s need (allocationBy (placementOf place) (needOf need) (view s)) r ⌝ }
 {
     if !soundness::is_sound(s) {
         return SlotOutcome {
@@ -29,12 +39,19 @@ pub fn allocate(s: Scopes, need: Need) -> SlotOutcome
             answer: SlotAnswer::Refused(29),
         };
     }
-    any::allocate(s, need)
+    any::allocate(s, need, place)
 }
 
-// The same, as output: keep, or discard.
+// As allocate, as output: keep, or discard.
 pub fn allocate_output(s: Scopes, need: Need) -> OutputOutcome
     ensures { λ r. ⌜ OutputCall s need (outputAllocation (needOf need) (view s)) r ⌝ }
+{
+    allocate_output_by(s, need, Place::ByHead)
+}
+
+// The same, in the edition of this place.
+pub fn allocate_output_by(s: Scopes, need: Need, place: Place) -> OutputOutcome
+    ensures { λ r. ⌜ OutputCall s need (outputBy (placementOf place) (needOf need) (view s)) r ⌝ }
 {
     if !soundness::is_sound(s) {
         return OutputOutcome {
@@ -43,7 +60,7 @@ pub fn allocate_output(s: Scopes, need: Need) -> OutputOutcome
             answer: OutputAnswer::Refused(29),
         };
     }
-    any::allocate_output(s, need)
+    any::allocate_output(s, need, place)
 }
 
 // Its address is freed; the need is Freed.

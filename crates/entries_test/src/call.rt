@@ -16,7 +16,7 @@ use scopes::Scopes;
 use slots::SlotAddress;
 
 // The state's L stands at the end of a line where it isn't what a sound state has.
-fn state(s: Scopes) -> Scopes {
+pub fn state(s: Scopes) -> Scopes {
     if 8 < s.segments {
         show::number(b", L ", s.segments as u64);
     }

@@ -1,6 +1,7 @@
 // A session through every entry of crate allocator, and an unsound state handed to each: one line a call, with what it answered. The file
-// `stdout` is what document 01 says.
+// `stdout` is what documents 01 and 02 say.
 mod call;
+mod editions;
 mod needing;
 mod show;
 
@@ -112,6 +113,8 @@ fn main() {
     s = closed(s);
     needing::alone();
     needing::with_state(scopes::fresh());
+    editions::both();
     s = turned_away(unsound());
     turned_away_too(s);
+    editions::turned_away(unsound());
 }

@@ -3,10 +3,11 @@ use mathlib.Core.Option.{some}
 use borrow.Author.Needs.{needs}
 use Rattle.rules.specs.Notation.{given}
 use Rattle.rules.specs.Needs as rule
+use Rattle.slots.specs.Spots.{placementOf}
 use Rattle.scopes.specs.View.{view}
 use Rattle.needs.specs.Kinds.{needOf}
 use Rattle.needs.specs.declared.Need.{Need}
-use Rattle.allocations.specs.Outcomes.{allocation}
+use Rattle.allocations.specs.Outcomes.{allocationBy}
 use Rattle.allocations.proofs.any.allocate.Statement.{statement}
 use Rattle.allocations.proofs.any.allocate.Tie as tie
 
@@ -29,13 +30,13 @@ enum-told-2 : tie.Need-enum-told-2
 enum-told-2 c = search needs
 
 returns : tie.Need-returns
-returns c = (c .deferred .ensures .0 ∙ sym (ap (λ (d : Need). allocation (needOf d) (view (c .before .before .before .before .args .s))) (c .before .before .need .given .1)), c .deferred .ensures .1)
+returns c = (c .deferred .ensures .0 ∙ sym (ap (λ (d : Need). allocationBy (placementOf (c .before .before .before .before .args .place)) (needOf d) (view (c .before .before .before .before .args .s))) (c .before .before .need .given .1)), c .deferred .ensures .1)
 
 returns-2 : tie.Need-returns-2
 unfolding rule.allocateNeed
 returns-2 c = (
   ap (λ (b : rule.Address). record { next = view (c .before .before .before .before .before .args .s); need = rule.at b; says = given (some (c .before .before .before .need2 .given .0 .0 .slot .0)) }) (c .allocated .ensures)
-      ∙ sym (ap (λ (d : Need). allocation (needOf d) (view (c .before .before .before .before .before .args .s))) (c .before .before .before .need2 .given .1)),
+      ∙ sym (ap (λ (d : Need). allocationBy (placementOf (c .before .before .before .before .before .args .place)) (needOf d) (view (c .before .before .before .before .before .args .s))) (c .before .before .before .need2 .given .1)),
   c .before .before .before .before .before .pre,
 )
 

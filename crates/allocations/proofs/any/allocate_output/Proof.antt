@@ -1,8 +1,8 @@
 use mathlib.Core.Path.{ap, _∙_}
 use Rattle.rules.specs.Notation.{Answer}
 use Rattle.rules.specs.Sizes.{base}
-use Rattle.rules.specs.Slots.{edition1}
 use Rattle.rules.specs.Needs as rule
+use Rattle.slots.specs.Spots.{placementOf}
 use Rattle.scopes.specs.View.{view}
 use Rattle.needs.specs.Kinds.{needOf}
 use Rattle.needs.specs.Answers.{outputSays}
@@ -21,7 +21,7 @@ returns : tie.Need-returns
 returns c = (
   ap (λ (a : Answer rule.Output). record { next = view (c .before .before .allocate .result .state); need = needOf (c .before .before .allocate .result .need); says = a }) (ap outputSays (c .as-output .ensures) ∙ output-says (c .before .before .allocate .result .answer))
       ∙ ap outputSeen (c .before .before .allocate .ensures .0)
-      ∙ output-told (view (c .before .before .before .args .s)) (needOf (c .before .before .before .args .need)) (rule.allocateNeed base (edition1 (base .segments)) (needOf (c .before .before .before .args .need)) (view (c .before .before .before .args .s))),
+      ∙ output-told (view (c .before .before .before .args .s)) (needOf (c .before .before .before .args .need)) (rule.allocateNeed base (placementOf (c .before .before .before .args .place)) (needOf (c .before .before .before .args .need)) (view (c .before .before .before .args .s))),
   c .before .before .allocate .ensures .1,
 )
 

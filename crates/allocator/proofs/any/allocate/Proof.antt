@@ -1,14 +1,9 @@
--- `any::allocate` meets its contract. Assumes nothing.
+-- `any::allocate` meets its contract: edition 1 is the placement by head. Assumes nothing.
 use borrow.Author.Needs.{needs}
-use Rattle.allocator.proofs.Entered.{gives, refuses, passed}
+use Rattle.rules.specs.Slots.{placing}
 use Rattle.allocator.proofs.any.allocate.Statement.{statement}
 use Rattle.allocator.proofs.any.allocate.Tie as tie
 
 pub allocate-spec : {M : Type 1} → statement M
-allocate-spec =
-    tie.close
-    (tie.spec
-    (λ c κs. search needs)
-    (λ c. search refuses)
-    (λ c κs. search passed)
-    (λ c. search gives))
+unfolding placing
+allocate-spec = tie.close (tie.spec (λ c κs. search needs) (λ c. search needs))
