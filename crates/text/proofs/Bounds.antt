@@ -7,12 +7,13 @@ use mathlib.Core.Option.{Option, none, some}
 use Prim.Native.Nat.{ℕ, suc, _+_, _≤_}
 use native.Mathlib.Omega.{arith}
 use lib.Dec.{eqb, leb}
-use lib.ListN.{length}
+use lib.ListN.{length, length-append}
 use borrow.Author.Tests.{eqb-false, leb-true}
 use Rattle.rules.specs.Sizes.{Room}
+use Rattle.rules.specs.Slots.{Place, byHead, lowest}
 use Rattle.rules.specs.Frames as rules
 use Rattle.rules.specs.Frames.{Line}
-use Rattle.rules.specs.Text.{Split, split, lineOf, frameTable, lineTable, sizeTable, Script, frames, unread, frameBefore, scriptFrom, Listed, listed, unlisted, lineBefore, sizeOr, listFrom}
+use Rattle.rules.specs.Text.{Split, split, lineOf, frameTable, lineTable, sizeTable, Script, frames, unread, frameBefore, scriptFrom, titled, title, readScript, Listed, listed, unlisted, lineBefore, sizeOr, listFrom, underTitle, readList}
 use Rattle.text.specs.Whole.{ofScript, ofListed, scriptChecked, listing}
 use Rattle.text.specs.declared.whole.Checked.the-variants.{Good, Refused}
 use Rattle.text.specs.declared.whole.Listing.the-variants.{Read, Unread}
@@ -76,26 +77,49 @@ not-good e = absurd (let z : _≡_ {A = ℕ} 0 1 = cc in omega arith)
 not-read : {P : Type 0} {size n m j : ℕ} → Read size n ≡ Unread m j → P
 not-read e = absurd (let z : _≡_ {A = ℕ} 0 1 = cc in omega arith)
 
-module _ (room : Room) (s : List ℕ) where
+-- the title is one line at most
+titles-few : (p : Place) → length (title p) ≤ 1
+titles-few byHead = omega arith
+titles-few lowest = omega arith
+
+under-in : (room : Room) (above : List Line) (r : Listed) → ListIn room (length above) r → ListIn room 0 (underTitle above r)
+under-in room above (listed ls n) h = (omega (arith, h .0, length-append above ls), h .1)
+under-in room above (unlisted n j) h = h
+
+-- in a room for a title
+module _ (room : Room) (one : 1 ≤ room .lines) (s : List ℕ) where
+  abbrev titles : ℕ
+  titles = length (title (readScript room s .place))
+
+  pub read-in : ScriptIn room titles (readScript room s .script)
+  unfolding readScript
+  read-in = script-in room (titled (split s) .rest) _ (omega (arith, one, titles-few (titled (split s) .place)))
+
+  pub read-list-in : ListIn room 0 (readList room s)
+  unfolding readList
+  read-list-in =
+      let above = title (titled (split s) .place) in
+      under-in room above (listFrom room (length above) (titled (split s) .rest)) (list-in room (titled (split s) .rest) (length above) (omega (arith, one, titles-few (titled (split s) .place))))
+
   pub script-refused : (n j : ℕ) → scriptChecked room s ≡ Refused n j → Refusal room n j
   unfolding scriptChecked
-  script-refused n j e = go (scriptFrom room 0 (split s)) e (script-in room (split s) 0 (omega arith))
+  script-refused n j e = go (readScript room s .script) e read-in
     where
-      go : (r : Script) → ofScript 0 r ≡ Refused n j → ScriptIn room 0 r → Refusal room n j
+      go : (r : Script) → ofScript titles r ≡ Refused n j → ScriptIn room titles r → Refusal room n j
       go (frames fs) e h = not-good e
       go (unread m i) e h = let a : m ≡ n = cc in let b : i ≡ j = cc in (omega (arith, h .0), omega (arith, h .1), omega (arith, h .2))
 
   pub script-good : (n : ℕ) → scriptChecked room s ≡ Good n → n ≤ room .lines
   unfolding scriptChecked
-  script-good n e = go (scriptFrom room 0 (split s)) e (script-in room (split s) 0 (omega arith))
+  script-good n e = go (readScript room s .script) e read-in
     where
-      go : (r : Script) → ofScript 0 r ≡ Good n → ScriptIn room 0 r → n ≤ room .lines
-      go (frames fs) e h = let a : 0 + length fs ≡ n = cc in omega (arith, h)
+      go : (r : Script) → ofScript titles r ≡ Good n → ScriptIn room titles r → n ≤ room .lines
+      go (frames fs) e h = let a : titles + length fs ≡ n = cc in omega (arith, h)
       go (unread m i) e h = not-good (sym e)
 
   pub list-refused : (n j : ℕ) → listing room s ≡ Unread n j → Refusal room n j
   unfolding listing
-  list-refused n j e = go (listFrom room 0 (split s)) e (list-in room (split s) 0 (omega arith))
+  list-refused n j e = go (readList room s) e read-list-in
     where
       go : (r : Listed) → ofListed 0 r ≡ Unread n j → ListIn room 0 r → Refusal room n j
       go (listed ls m) e h = not-read e
@@ -103,7 +127,7 @@ module _ (room : Room) (s : List ℕ) where
 
   pub list-good : (size n : ℕ) → listing room s ≡ Read size n → (size ≤ room .size) × (n ≤ room .lines)
   unfolding listing
-  list-good size n e = go (listFrom room 0 (split s)) e (list-in room (split s) 0 (omega arith))
+  list-good size n e = go (readList room s) e read-list-in
     where
       go : (r : Listed) → ofListed 0 r ≡ Read size n → ListIn room 0 r → (size ≤ room .size) × (n ≤ room .lines)
       go (listed ls m) e h = let a : m ≡ size = cc in let b : 0 + length ls ≡ n = cc in (omega (arith, h .1), omega (arith, h .0))

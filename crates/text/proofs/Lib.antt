@@ -5,6 +5,7 @@ pub mod Rows
 pub mod Numbers
 pub mod Told
 pub mod Splits
+pub mod Titling
 pub mod Texts
 pub mod Bounds
 pub mod Over

@@ -136,7 +136,7 @@ word-below : (t : List ℕ) → allHex t ≡ true → (j : ℕ) → j + 4 ≤ le
 word-below t h j b =
     omega (arith, hex-at t h j (omega arith), hex-at t h (j + 1) (omega arith), hex-at t h (j + 2) (omega arith), hex-at t h (j + 3) (omega arith))
 
-record Parts (t : List ℕ) (n : ℕ) : Type 0 where
+pub record Parts (t : List ℕ) (n : ℕ) : Type 0 where
   pub sum : n ≡ ofParts (codeAt t) (operandAt t 0) (operandAt t 1)
   pub first : operandAt t 0 < 65536
   pub second : operandAt t 1 < 65536
@@ -164,7 +164,7 @@ parts-more t h q =
       second = omega (arith, b, word-below t h 6 (omega arith));
     }
 
-parts : (t : List ℕ) → 2 ≤ length t → allHex t ≡ true → (length t - 2) % 4 ≡ 0 → Parts t (numberOf t 0 (length t))
+pub parts : (t : List ℕ) → 2 ≤ length t → allHex t ≡ true → (length t - 2) % 4 ≡ 0 → Parts t (numberOf t 0 (length t))
 parts t k h m = by-eqb (length t) 2 (parts-two t) (λ a. by-eqb (length t) 6 (parts-six t h) (λ b. parts-more t h (omega (arith, a, b))))
 
 -- a line of digits reads as its number says
@@ -190,12 +190,12 @@ module _ (s : List ℕ) (p e : ℕ) (pe : p ≤ e) (es : e ≤ length s) where
   slice-at : (j m : ℕ) → m ≡ p + j → m < e → getD (slice p e s) j 0 ≡ getD s m 0
   slice-at j m q h = getD-drop p (take e s) j 0 ∙ ap (λ (n : ℕ). getD (take e s) n 0) (sym q) ∙ getD-take e s m 0 h
 
-  hex-in : ((k : ℕ) → p ≤ k → k < e → value (getD s k 0) < 16) → allHex (slice p e s) ≡ true
+  pub hex-in : ((k : ℕ) → p ≤ k → k < e → value (getD s k 0) < 16) → allHex (slice p e s) ≡ true
   hex-in f =
       hex-all (slice p e s)
       (λ k b. subst (λ (x : ℕ). value x < 16) (sym (slice-at k (p + k) refl (omega (arith, b, length-slice p e s es)))) (f (p + k) (omega arith) (omega (arith, b, length-slice p e s es))))
 
-  number-slice : (k : ℕ) → p + k ≤ e → numberOf s p k ≡ numberOf (slice p e s) 0 k
+  pub number-slice : (k : ℕ) → p + k ≤ e → numberOf s p k ≡ numberOf (slice p e s) 0 k
   unfolding numberOf
   number-slice zero h = refl
   number-slice (suc k) h = rw (number-slice k (omega arith), slice-at (0 + k) (p + k) (omega arith) (omega arith))

@@ -24,7 +24,7 @@ use Rattle.text.proofs.Words.{raw-short}
 use Rattle.text.proofs.Numbers.{line-reads, line-bad}
 
 -- a line that LF ends
-split-ended : (n : ℕ) (s : List ℕ) (p e : ℕ) → e ≡ p + n → e < length s → getD s e 0 ≡ 10 → ((k : ℕ) → p ≤ k → k < e → getD s k 0 ≡ 10 → ⊥)
+pub split-ended : (n : ℕ) (s : List ℕ) (p e : ℕ) → e ≡ p + n → e < length s → getD s e 0 ≡ 10 → ((k : ℕ) → p ≤ k → k < e → getD s k 0 ≡ 10 → ⊥)
     → split (drop p s) ≡ ended (slice p e s) ∷ split (drop (suc e) s)
 unfolding split
 split-ended zero s p e q h z f =
@@ -35,7 +35,7 @@ split-ended (suc n) s p e q h z f =
     rw (drop-cons s p 0 (omega arith), ne-eqb (getD s p 0) 10 (f p (omega arith) (omega arith)), slice-cons p e s 0 (omega arith) (omega arith), ih, split)
 
 -- a line that the end of the text ends
-split-open : (n : ℕ) (s : List ℕ) (p e : ℕ) → e ≡ p + suc n → e ≡ length s → ((k : ℕ) → p ≤ k → k < e → getD s k 0 ≡ 10 → ⊥)
+pub split-open : (n : ℕ) (s : List ℕ) (p e : ℕ) → e ≡ p + suc n → e ≡ length s → ((k : ℕ) → p ≤ k → k < e → getD s k 0 ≡ 10 → ⊥)
     → split (drop p s) ≡ record { text = slice p e s; ended = false } ∷ []
 unfolding split
 split-open zero s p e q h f =
@@ -118,6 +118,9 @@ lf : value 10 ≡ 16
 unfolding value
 lf = refl
 
+pub not-lf : (c : ℕ) → value c < 16 → c ≡ 10 → ⊥
+not-lf c h e = let v : value 10 < 16 = subst (λ (x : ℕ). value x < 16) e h in omega (arith, v, lf)
+
 -- digits before a line's rest
 ends-on : (s : List ℕ) (p e q : ℕ) → p ≤ e → ((k : ℕ) → p ≤ k → k < e → value (getD s k 0) < 16) → Ends s e q → Ends s p q
 ends-on s p e q pe f h = record { from = omega (arith, h .from); to = h .to; none-before = none; last = h .last }
@@ -126,7 +129,7 @@ ends-on s p e q pe f h = record { from = omega (arith, h .from); to = h .to; non
     none k a b x = go (ltb k e) refl
       where
         go : (t : Bool) → ltb k e ≡ t → ⊥
-        go true u = let v : value 10 < 16 = subst (λ (c : ℕ). value c < 16) x (f k a (ltb-true k e u)) in omega (arith, v, lf)
+        go true u = not-lf (getD s k 0) (f k a (ltb-true k e u)) x
         go false u = h .none-before k (ltb-false k e u) b x
 
 ends-here : (s : List ℕ) (e : ℕ) → e ≤ length s → (e < length s → getD s e 0 ≡ 10) → Ends s e e

@@ -1,12 +1,11 @@
 -- What the check of a whole text answers, over the rules' own readings. Assumes nothing.
-use mathlib.Core.Bool.{Bool, true, false}
-use mathlib.Core.List.{List, [], _∷_}
-use Prim.Native.Nat.{ℕ, zero, suc, _+_}
+use mathlib.Core.Bool.{Bool}
+use mathlib.Core.List.{List}
+use Prim.Native.Nat.{ℕ, _+_}
 use lib.ListN.{length}
 use lib.Dec.{eqb, leb}
 use Rattle.rules.specs.Sizes.{Room}
-use Rattle.rules.specs.Text.{Split, split, Script, frames, unread, scriptFrom, Listed, listed, unlisted, listFrom}
-use Rattle.text.specs.declared.lines.Frame.{Frame}
+use Rattle.rules.specs.Text.{Script, frames, unread, title, readScript, Listed, listed, unlisted, readList}
 use Rattle.text.specs.declared.lines.Reading.{Reading}
 use Rattle.text.specs.declared.lines.Reading.the-variants.{Malformed, One}
 use Rattle.text.specs.declared.whole.Checked.{Checked}
@@ -25,11 +24,13 @@ abbrev pub ofListed : ℕ → Listed → Listing
 ofListed i (listed ls size) = Read size (i + length ls)
 ofListed i (unlisted n j) = Unread n j
 
+-- a script's title, if it has one, is line 0
 unfoldable pub scriptChecked : Room → List ℕ → Checked
-scriptChecked room s = ofScript 0 (scriptFrom room 0 (split s))
+scriptChecked room s = ofScript (length (title (readScript room s .place))) (readScript room s .script)
 
+-- a list's title is one of its lines
 unfoldable pub listing : Room → List ℕ → Listing
-listing room s = ofListed 0 (listFrom room 0 (split s))
+listing room s = ofListed 0 (readList room s)
 
 -- ---- line i of a list: 2, 1, its size, or the rest
 

@@ -37,9 +37,9 @@ pub struct Coded {
 pub const NONE: u64 = 0x100_0000_0000;
 
 // The digits from a place on: where they end, and the number that the first ten make, with zeros after them where there are fewer.
-struct Digits {
-    end: usize,
-    number: u64,
+pub struct Digits {
+    pub end: usize,
+    pub number: u64,
 }
 
 // Where the line that starts at p ends: its LF, or the end of the text.
@@ -84,7 +84,7 @@ fn tenth(n: usize, p: usize) -> usize
 }
 
 // The digits from p on, in one walk: a line's LF stands where they end. Past the tenth they are only passed over.
-fn digits_from(s: &[u8], p: usize) -> Digits
+pub fn digits_from(s: &[u8], p: usize) -> Digits
     requires { ⌜ p ≤ length (now s) ⌝ }
     ensures { λ r. ⌜ DigitsFrom (now (s .entry)) p r ⌝ }
 {

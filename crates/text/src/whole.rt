@@ -1,10 +1,14 @@
-// The check of a whole text before any step: the first line with 1 or 2.
+// The title of a text, and the check of a whole text before any step: the first line with 1 or 2.
 use crate::lines::NONE;
 use crate::lines::Reading;
+use crate::lines::digits_from;
 use crate::lines::frame_at;
 use crate::lines::list_line_at;
 ghost use mathlib.Core.Path.{_≡_};
+ghost use Prim.Native.Nat.{_≤_};
+ghost use lib.ListN.{length};
 ghost use Rattle.rules.specs.Sizes.{base};
+ghost use Rattle.text.specs.Titles.{Titles, titleIn};
 ghost use Rattle.text.specs.Whole.{scriptChecked, listing, sizeListing};
 ghost use Rattle.text.specs.Table.{RowsFor, Tabled};
 
@@ -13,7 +17,10 @@ const LINES: usize = 2048;
 
 const MOST: usize = 1024;
 
-// Of a script how many frames it has; or the number and the line of a refusal.
+// The number of a title's digits, which are `f00002`.
+const TITLE: u64 = 0xf0_0002_0000;
+
+// Of a script how many frames it has, its title among them; or the number and the line of a refusal.
 pub enum Checked {
     Good(usize),
     Refused(u8, usize),
@@ -25,11 +32,35 @@ pub enum Listing {
     Unread(u8, usize),
 }
 
+// How many title lines a script has, or a list: one, or none.
+pub fn title_lines(s: &[u8]) -> usize
+    ensures { λ r. ⌜ Titles (now (s .entry)) r ⌝ }
+{
+    let d = digits_from(s, 0);
+    let e = d.end;
+    let number = d.number;
+    if e != 6 {
+        return 0;
+    }
+    if number != TITLE {
+        return 0;
+    }
+    if s.len() == 6 {
+        return 0;
+    }
+    if s[6] != 10 {
+        return 0;
+    }
+    1
+}
+
+// Begins behind the title, which is line 0.
 pub fn check_script(s: &[u8]) -> Checked
     ensures { λ r. ⌜ r ≡ scriptChecked base (now (s .entry)) ⌝ }
 {
-    let mut p: usize = 0;
-    let mut i: usize = 0;
+    let first = title_lines(s);
+    let mut p = 7 * first;
+    let mut i = first;
     while p < s.len() {
         if i == LINES {
             return Checked::Refused(2, i);
@@ -61,14 +92,27 @@ fn sized(n: usize, last: bool, i: usize) -> Listing
     Listing::Unread(1, i)
 }
 
-// Reads a list once: the table has its lines afterwards.
+// The title is a line of the list: row 0 of the table is its.
+fn put_title(table: &mut [u64], titles: usize)
+    requires { ⌜ titles ≤ length (now table) ⌝ }
+    ensures { λ _. ⌜ now (table .exit) ≡ titleIn titles (now (table .entry)) ⌝ }
+{
+    if titles == 0 {
+        return;
+    }
+    table[0] = TITLE;
+}
+
+// Reads a list once: the table has its lines afterwards, its title among them.
 pub fn check_list(s: &[u8], table: &mut [u64]) -> Listing
     requires { ⌜ RowsFor (now s) (now table) ⌝ }
     ensures { λ r. ⌜ r ≡ listing base (now (s .entry)) ⌝ }
     ensures tabled { λ r. ⌜ Tabled (now (s .entry)) (now (table .exit)) r ⌝ }
 {
-    let mut p: usize = 0;
-    let mut i: usize = 0;
+    let titles = title_lines(s);
+    put_title(table, titles);
+    let mut p = 7 * titles;
+    let mut i = titles;
     while p < s.len() {
         let t = list_line_at(s, p);
         let code = t.code;
