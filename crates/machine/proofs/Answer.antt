@@ -13,11 +13,11 @@ use Rattle.rules.specs.Notation.{if_then_else_}
 use Rattle.rules.specs.Sizes.{Room, base}
 use Rattle.rules.specs.Frames.{constant, nextSample, Line, stores, loads, shows}
 use Rattle.rules.specs.Meaning.{Ran, obey, high, listTakes, lacking}
-use Rattle.rules.specs.Text.{split, Listed, listed, unlisted, listFrom}
+use Rattle.rules.specs.Text.{Listed, listed, unlisted, readList}
 use Rattle.rules.specs.Recordings.{Recording, recorded, malformed, readerOf, isState, ended}
 use Rattle.rules.specs.Entries.{RunOutcome, ran, stopped, runSampled, runListed, recordedOn, ranOn, loadsText, cellsOf, Running, runLeft, runEntry, RecordedRunning, recordedLeft, recordedEntry}
 use Rattle.rules.proofs.Tells.{decided}
-use Rattle.text.proofs.Bounds.{ListIn, list-in}
+use Rattle.text.proofs.Bounds.{ListIn, read-list-in}
 use Rattle.text.proofs.Halves.{Halves, by-count, by-number}
 use Rattle.machine.specs.Machine.{Leaves}
 use Rattle.machine.proofs.Link.{text-most}
@@ -57,7 +57,7 @@ lacking-below (stores a nextSample ∷ ls) i (suc n) j e = omega (arith, lacking
 lacking-below (loads o a ∷ ls) i n j e = omega (arith, lacking-below ls (suc i) n j e)
 lacking-below (shows o l ∷ ls) i n j e = omega (arith, lacking-below ls (suc i) n j e)
 
-module _ (room : Room) (cells : List ℕ) where
+module _ (room : Room) (one : 1 ≤ room .lines) (cells : List ℕ) where
   -- no line of the recording is malformed
   whole : (ls : List Line) (size n : ℕ) (vs : List ℕ) → 0 + length ls ≤ room .lines → Comes (room .lines) (runSampled cells size ls (recorded n vs))
   whole ls size n vs h = go (lacking 0 n ls) refl
@@ -81,7 +81,7 @@ module _ (room : Room) (cells : List ℕ) where
 
   pub comes-whole : (n : ℕ) (vs list : List ℕ) → Comes (room .lines) (recordedOn room cells (recorded n vs) list)
   unfolding recordedOn runListed
-  comes-whole n vs list = go (listFrom room 0 (split list)) (list-in room (split list) 0 (omega arith))
+  comes-whole n vs list = go (readList room list) (read-list-in room one list)
     where
       go : (l : Listed) → ListIn room 0 l → Comes (room .lines) (runListed cells (recorded n vs) l)
       go (unlisted k i) h = to-stop k i (h .0) (omega (arith, h .1)) (h .2)
@@ -89,7 +89,7 @@ module _ (room : Room) (cells : List ℕ) where
 
   pub comes-torn : (j : ℕ) (list : List ℕ) → ComesWith (room .lines) j (recordedOn room cells (malformed j) list)
   unfolding recordedOn runListed
-  comes-torn j list = go (listFrom room 0 (split list)) (list-in room (split list) 0 (omega arith))
+  comes-torn j list = go (readList room list) (read-list-in room one list)
     where
       go : (l : Listed) → ListIn room 0 l → ComesWith (room .lines) j (runListed cells (malformed j) l)
       go (unlisted k i) h = as-whole (to-stop k i (h .0) (omega (arith, h .1)) (h .2))
@@ -100,9 +100,9 @@ module _ (room : Room) (cells : List ℕ) where
   comes-told line vs list true = as-whole (comes-whole line vs list)
   comes-told line vs list false = comes-torn line list
 
-pub comes : (room : Room) (cells list : List ℕ) → Comes (room .lines) (ranOn room cells list)
+pub comes : (room : Room) → 1 ≤ room .lines → (cells list : List ℕ) → Comes (room .lines) (ranOn room cells list)
 unfolding ranOn
-comes room cells list = comes-whole room cells 0 [] list
+comes room one cells list = comes-whole room one cells 0 [] list
 
 -- ---- the two halves of the answer of `run`
 
@@ -119,14 +119,14 @@ halves-of greatest most k h cells out _ (to-end {r = r} {left = left} a) = go (l
     go false e = rw (e, if_then_else_) (by-number _ _ _ _ _ 17 0 (omega arith) (omega arith) (omega arith) (omega arith) (refl, refl))
 
 -- a number is at most 23
-pub run-halves : (greatest : ℕ) → 23 ≤ greatest → (room : Room) → room .lines ≤ 65535 → (list cells out : List ℕ) → HalvesOf cells out greatest (room .lines) (runEntry room list cells out)
+pub run-halves : (greatest : ℕ) → 23 ≤ greatest → (room : Room) → 1 ≤ room .lines → room .lines ≤ 65535 → (list cells out : List ℕ) → HalvesOf cells out greatest (room .lines) (runEntry room list cells out)
 unfolding runEntry
-run-halves greatest k room h list cells out = halves-of greatest (room .lines) k h cells out _ (comes room (cellsOf cells) list)
+run-halves greatest k room one h list cells out = halves-of greatest (room .lines) k h cells out _ (comes room one (cellsOf cells) list)
 
 -- as `run` promises it
 pub run-answer : (list cells out : List ℕ) → HalvesOf cells out 23 2048 (runEntry base list cells out)
 unfolding base
-run-answer list cells out = run-halves 23 (omega arith) base (omega arith) list cells out
+run-answer list cells out = run-halves 23 (omega arith) base (omega arith) (omega arith) list cells out
 
 -- ---- of `run_recorded`: a number is at most 29, and a line, of the list or of the recording, at most 4,294,967,295
 
@@ -149,14 +149,14 @@ module _ (most : ℕ) (h : most ≤ 65535) (cells out left : List ℕ) where
       (λ f. rw (e, f, if_then_else_) (by-number _ _ _ _ _ 17 0 (omega arith) (omega arith) (omega arith) (omega arith) (refl, refl, refl))))
       (λ e. rw (e, if_then_else_) (by-number _ _ _ _ _ 17 0 (omega arith) (omega arith) (omega arith) (omega arith) (refl, refl, refl)))
 
-  pub recorded-halves : (room : Room) → room .lines ≡ most → (list : List ℕ) (state : ℕ) (samples : List ℕ) → RecordedHalves most cells out left (recordedEntry room list state samples cells out left)
+  pub recorded-halves : (room : Room) → 1 ≤ room .lines → room .lines ≡ most → (list : List ℕ) (state : ℕ) (samples : List ℕ) → RecordedHalves most cells out left (recordedEntry room list state samples cells out left)
   unfolding recordedEntry if_then_else_
-  recorded-halves room q list state samples =
+  recorded-halves room one q list state samples =
       decided (isState state)
-      (λ s. rw (s, recordedEntry) (recorded-of (readerOf state .line) (omega arith) _ (rw (← q) (comes-told room (cellsOf cells) (readerOf state .line) (cellsOf samples) list (eqb (readerOf state .column) 0)))))
+      (λ s. rw (s, recordedEntry) (recorded-of (readerOf state .line) (omega arith) _ (rw (← q) (comes-told room one (cellsOf cells) (readerOf state .line) (cellsOf samples) list (eqb (readerOf state .column) 0)))))
       (λ s. rw (s, recordedEntry) (by-number _ _ _ _ _ 29 0 (omega arith) (omega arith) (omega arith) (omega arith) (refl, refl, refl)))
 
 -- as `run_recorded` promises it
 pub recorded-answer : (list : List ℕ) (state : ℕ) (samples cells out left : List ℕ) → RecordedHalves 2048 cells out left (recordedEntry base list state samples cells out left)
 unfolding base
-recorded-answer list state samples cells out left = recorded-halves 2048 (omega arith) cells out left base refl list state samples
+recorded-answer list state samples cells out left = recorded-halves 2048 (omega arith) cells out left base (omega arith) refl list state samples

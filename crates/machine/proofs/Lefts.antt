@@ -8,16 +8,16 @@ use lib.Dec.{ltb}
 use lib.ListN.{length, getD, take, drop, replicate}
 use borrow.Author.Tests.{ltb-false, lt-ltb, le-ltb, eq-eqb, ne-eqb}
 use Rattle.rules.specs.Sizes.{Room}
-use Rattle.rules.specs.Text.{Split, split}
 use Rattle.rules.specs.Entries.{refusalAnswer, bytes4, overFront, RecordedRunning}
 use Rattle.rules.proofs.Tells.{decided, clash}
-use Rattle.text.specs.Lines.{lineReading, unpacked}
+use Rattle.text.specs.Lines.{unpacked}
 use Rattle.text.specs.Table.{readings, Rows}
 use Rattle.text.specs.Whole.{listing}
+use Rattle.text.specs.declared.lines.Reading.{Reading}
 use Rattle.text.specs.declared.lines.Reading.the-variants.{Malformed, One}
 use Rattle.text.specs.declared.whole.Listing.{Listing}
 use Rattle.text.specs.declared.whole.Listing.the-variants.{Read, Unread}
-use Rattle.machine.specs.Entries.{entryOf, entryAt, entries, entryIn, entriesOf}
+use Rattle.machine.specs.Entries.{entryOf, entries, entryIn, entriesOf}
 use Rattle.machine.specs.Survey.{surveyOf, lackingOf}
 use Rattle.machine.specs.Work.{filledFrom, obeyCells, obeyText, loadsIn}
 use Rattle.machine.specs.Recorded.{LeavesAll, refusal, lacksOf, enoughLeft, wholeLeft, surveyedLeft, surveyLeft, listedLeft, listLeft}
@@ -104,20 +104,20 @@ module _ (samples cells out left : List ℕ) (size column recorded : ℕ) (es : 
 
 -- ---- the table has the entries of the list
 
-table-rows : (t : List ℕ) (ks : List Split) (i n : ℕ) → ((j : ℕ) → j < n → One (unpacked (getD t (i + j) 0)) ≡ getD (map lineReading ks) j Malformed) → entriesOf t i n ≡ take n (map entryAt ks)
+table-rows : (t : List ℕ) (rs : List Reading) (i n : ℕ) → ((j : ℕ) → j < n → One (unpacked (getD t (i + j) 0)) ≡ getD rs j Malformed) → entriesOf t i n ≡ take n (map entryOf rs)
 unfolding entriesOf
-table-rows t ks i zero h = refl
+table-rows t rs i zero h = refl
 table-rows t [] i (suc n) h = absurd (let q = h 0 (omega arith) in let z : _≡_ {A = ℕ} 0 1 = cc in omega arith)
-table-rows t (k ∷ ks) i (suc n) h =
+table-rows t (x ∷ rs) i (suc n) h =
     let e : i + 0 ≡ i = omega arith in
-    let q : One (unpacked (getD t i 0)) ≡ lineReading k = ap (λ (m : ℕ). One (unpacked (getD t m 0))) (sym e) ∙ h 0 (omega arith) in
-    let r : entryIn t i ≡ entryAt k = ap entryOf q in
-    let more = table-rows t ks (i + 1) n (λ j l. let f : i + 1 + j ≡ i + suc j = omega arith in ap (λ (m : ℕ). One (unpacked (getD t m 0))) f ∙ h (suc j) (omega arith)) in
+    let q : One (unpacked (getD t i 0)) ≡ x = ap (λ (m : ℕ). One (unpacked (getD t m 0))) (sym e) ∙ h 0 (omega arith) in
+    let r : entryIn t i ≡ entryOf x = ap entryOf q in
+    let more = table-rows t rs (i + 1) n (λ j l. let f : i + 1 + j ≡ i + suc j = omega arith in ap (λ (m : ℕ). One (unpacked (getD t m 0))) f ∙ h (suc j) (omega arith)) in
     rw (r, more)
 
 table-entries : (s t : List ℕ) (n : ℕ) → Rows s t n → entriesOf t 0 n ≡ take n (entries s)
-unfolding entries readings
-table-entries s t n h = table-rows t (split s) 0 n (λ j l. let e : 0 + j ≡ j = omega arith in ap (λ (m : ℕ). One (unpacked (getD t m 0))) e ∙ h j l)
+unfolding entries
+table-entries s t n h = table-rows t (readings s) 0 n (λ j l. let e : 0 + j ≡ j = omega arith in ap (λ (m : ℕ). One (unpacked (getD t m 0))) e ∙ h j l)
 
 module _ (room : Room) (list samples cells out left : List ℕ) (column recorded : ℕ) (l : Listing) (e : l ≡ listing room list) (r : ℕ) where
   listed-as : (l′ : Listing) → l ≡ l′ → listLeft room list samples column recorded cells out left ≡ listedLeft samples column recorded (entries list) l′ cells out left

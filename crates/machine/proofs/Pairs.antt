@@ -2,19 +2,21 @@
 use mathlib.Core.Path.{_≡_, refl, sym, ap, subst}
 use mathlib.Core.Bool.{Bool, true, false, true≢false}
 use mathlib.Core.Option.{Option, none, some}
-use mathlib.Core.List.{List, [], _∷_, map}
+use mathlib.Core.List.{List, [], _∷_, _++_, map, map-append}
 use Prim.Native.Nat.{ℕ, suc}
 use native.Mathlib.Omega.{arith}
 use lib.Dec.{eqb, leb}
 use lib.ListN.{length, take}
 use borrow.Author.Tests.{eqb-true}
 use Rattle.rules.specs.Sizes.{Room}
+use Rattle.rules.specs.Slots.{Place, byHead, lowest}
 use Rattle.rules.specs.Frames.{constant, nextSample, Line, stores, loads, shows}
-use Rattle.rules.specs.Text.{Split, lineOf, lineTable, sizeTable, Listed, listed, unlisted, lineBefore, sizeOr, listFrom}
+use Rattle.rules.specs.Text.{Split, split, lineOf, lineTable, sizeTable, Titled, titled, title, Listed, listed, unlisted, lineBefore, sizeOr, listFrom, underTitle, readList}
 use Rattle.text.specs.Shapes.{pick}
 use Rattle.text.specs.Lines.{lineReading, lined, sizedOr}
+use Rattle.text.specs.Table.{readings}
 use Rattle.text.proofs.Told.{isLoad, isPlain, told, told-line}
-use Rattle.machine.specs.Entries.{entryOf, entryAt}
+use Rattle.machine.specs.Entries.{entryOf, entries}
 use Rattle.machine.specs.declared.entries.Entry.{Entry}
 use Rattle.machine.specs.declared.entries.Entry.the-variants.{Skip, Store, Sample, Load}
 
@@ -69,25 +71,45 @@ pair-on i n ls e l es (listed m k) q ih h =
     let b : k ≡ n = cc in
     subst (λ (x : List Line). Pairs (e ∷ es) x) a (step q (ih m (ap (listed m) b)))
 
+-- the entries of lines
+abbrev entriesFor : List Split → List Entry
+entriesFor ks = map entryOf (map lineReading ks)
+
 module _ (room : Room) where
   pair-one : (ks : List Split) (i n : ℕ) (ls : List Line) (a : Option ℕ) (o : Option Line) → ((x : Line) → o ≡ some x → told x ≡ true)
-      → ((m : List Line) → listFrom room (suc i) ks ≡ listed m n → Pairs (map entryAt ks) m)
+      → ((m : List Line) → listFrom room (suc i) ks ≡ listed m n → Pairs (entriesFor ks) m)
       → sizeOr room i a ks (elim (eqb i (room .lines)) [ true ↦ unlisted 2 i | false ↦ lineBefore i o (listFrom room (suc i) ks) ]) ≡ listed ls n
-      → Pairs (entryOf (sizedOr a (lined o)) ∷ map entryAt ks) ls
+      → Pairs (entryOf (sizedOr a (lined o)) ∷ entriesFor ks) ls
   pair-one [] i n ls (some k) o t ih h = pair-last i k n ls (leb k (room .size)) h
   pair-one (x ∷ ks) i n ls (some k) o t ih h = not-listed h
   pair-one ks i n ls none o t ih h = go (eqb i (room .lines)) o t h
     where
       go : (b : Bool) (o : Option Line) → ((x : Line) → o ≡ some x → told x ≡ true) → elim b [ true ↦ unlisted 2 i | false ↦ lineBefore i o (listFrom room (suc i) ks) ] ≡ listed ls n
-          → Pairs (entryOf (lined o) ∷ map entryAt ks) ls
+          → Pairs (entryOf (lined o) ∷ entriesFor ks) ls
       go true o t h = not-listed h
       go false none t h = not-listed h
-      go false (some l) t h = pair-on i n ls (entryOf (lined (some l))) l (map entryAt ks) (listFrom room (suc i) ks) (entry-line l (t l refl)) ih h
+      go false (some l) t h = pair-on i n ls (entryOf (lined (some l))) l (entriesFor ks) (listFrom room (suc i) ks) (entry-line l (t l refl)) ih h
 
-  pub pairs : (ks : List Split) (i n : ℕ) (ls : List Line) → listFrom room i ks ≡ listed ls n → Pairs (map entryAt ks) ls
+  pairs : (ks : List Split) (i n : ℕ) (ls : List Line) → listFrom room i ks ≡ listed ls n → Pairs (entriesFor ks) ls
   unfolding listFrom lineReading
   pairs [] i n ls h = not-listed h
   pairs (k ∷ ks) i n ls h = pair-one ks i n ls (lineOf sizeTable k) (lineOf lineTable k) (told-line k) (λ m e. pairs ks (suc i) n m e) h
+
+  -- the title, which asks nothing of the machine
+  pairs-title : (p : Place) (r : Listed) (es : List Entry) (n : ℕ) (ls : List Line) → ((k : ℕ) (m : List Line) → r ≡ listed m k → Pairs es m) → underTitle (title p) r ≡ listed ls n
+      → Pairs (map entryOf (map (λ l. lined (some l)) (title p)) ++ es) ls
+  pairs-title p (unlisted m j) es n ls h e = not-listed e
+  pairs-title byHead (listed m k) es n ls h e = let q : m ≡ ls = cc in subst (λ (x : List Line). Pairs es x) q (h k m refl)
+  pairs-title lowest (listed m k) es n ls h e =
+      let q : shows 0xf0 (2 ∷ []) ∷ m ≡ ls = cc in subst (λ (x : List Line). Pairs (Skip ∷ es) x) q (step refl (h k m refl))
+
+  pub pairs-read : (list : List ℕ) (n : ℕ) (ls : List Line) → readList room list ≡ listed ls n → Pairs (entries list) ls
+  unfolding readList entries readings
+  pairs-read list n ls e =
+      let t : Titled = titled (split list) in
+      let above = title (t .place) in
+      rw (map-append entryOf (map (λ l. lined (some l)) above) (map lineReading (t .rest)))
+      (pairs-title (t .place) (listFrom room (length above) (t .rest)) (entriesFor (t .rest)) n ls (λ k m q. pairs (t .rest) (length above) k m q) e)
 
 -- ---- the lines before the size line
 

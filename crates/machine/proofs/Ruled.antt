@@ -14,7 +14,7 @@ use Rattle.rules.specs.Notation.{if_then_else_}
 use Rattle.rules.specs.Sizes.{Room}
 use Rattle.rules.specs.Frames.{Line}
 use Rattle.rules.specs.Meaning.{obey, high, listTakes, lacking}
-use Rattle.rules.specs.Text.{split, Listed, listed, unlisted, listFrom}
+use Rattle.rules.specs.Text.{Listed, listed, unlisted, readList}
 use Rattle.rules.specs.Recordings.{Recording, recorded, malformed, limit, isReader, readerOf, isState}
 use Rattle.rules.specs.Entries.{RunOutcome, ran, stopped, runSampled, runListed, recordedOn, ranOn, loadsText, refusalAnswer, cellsOf, oddByte, runLeft, runEntry, recordedLeft, recordedEntry, RecordedRunning}
 use Rattle.rules.proofs.Tells.{decided}
@@ -25,7 +25,7 @@ use Rattle.machine.specs.Entries.{entries}
 use Rattle.machine.specs.Recorded.{LeavesAll, enoughLeft, wholeLeft, surveyedLeft, listedLeft, listLeft}
 use Rattle.machine.specs.declared.entries.Entry.{Entry}
 use Rattle.machine.specs.declared.survey.Survey.{Survey}
-use Rattle.machine.proofs.Pairs.{Lined, pairs, lines-only}
+use Rattle.machine.proofs.Pairs.{Lined, pairs-read, lines-only}
 use Rattle.machine.proofs.Cells.{cells-length, zero-bytes}
 use Rattle.machine.proofs.Lefts.{stops}
 use Rattle.machine.proofs.Link.{linesLoads, ofHigh, surveys, lacks-at, obeyed-cells, obeyed-text, text-length}
@@ -116,13 +116,13 @@ module _ (m cells out left : List ℕ) (ok : Bytes cells) where
 
   pub listed-is : (room : Room) (list : List ℕ) (column rec : ℕ) → listLeft room list m column rec cells out left ≡ leftOf (recordedOn room (cellsOf cells) (told column rec) list)
   unfolding listLeft listing entries recordedOn runListed recordedLeft
-  listed-is room list column rec = go (listFrom room 0 (split list)) refl
+  listed-is room list column rec = go (readList room list) refl
     where
-      go : (l : Listed) → listFrom room 0 (split list) ≡ l → listedLeft m column rec (entries list) (ofListed 0 l) cells out left ≡ leftOf (runListed (cellsOf cells) (told column rec) l)
+      go : (l : Listed) → readList room list ≡ l → listedLeft m column rec (entries list) (ofListed 0 l) cells out left ≡ leftOf (runListed (cellsOf cells) (told column rec) l)
       go (unlisted n i) e = refl
       go (listed ls size) e =
           let es : List Entry = take (length ls) (entries list) in
-          let p : Lined es ls = lines-only (pairs room (split list) 0 size ls e) in
+          let p : Lined es ls = lines-only (pairs-read room list size ls e) in
           rw zero-add
           (ap (λ (v : Survey). surveyedLeft m size column rec es v cells out left) (surveys p size 0 0 0) ∙ surveyed es ls size column rec p (high size 0 ls) refl)
 
@@ -177,5 +177,5 @@ pub run-none : (room : Room) (list m cells out left : List ℕ) → length m ≤
     → LeavesAll (recordedEntry room list 0 m cells out left) r cells′ out′ left′ → Leaves (runEntry room list cells out) r cells′ out′
 unfolding runEntry ranOn recordedOn recordedEntry if_then_else_ isReader limit
 run-none room list m cells out left hm h r cells′ out′ left′ l =
-    same-left (runListed (cellsOf cells) (recorded 0 []) (listFrom room 0 (split list))) cells out left h r cells′ out′ left′
-    (subst (λ (o : RunOutcome). LeavesAll (recordedLeft o cells out left) r cells′ out′ left′) (none-kept (cellsOf cells) m (listFrom room 0 (split list)) hm) l)
+    same-left (runListed (cellsOf cells) (recorded 0 []) (readList room list)) cells out left h r cells′ out′ left′
+    (subst (λ (o : RunOutcome). LeavesAll (recordedLeft o cells out left) r cells′ out′ left′) (none-kept (cellsOf cells) m (readList room list) hm) l)

@@ -4,9 +4,9 @@ use mathlib.Core.List.{List, [], _∷_, map}
 use Prim.Native.Nat.{ℕ, zero, suc, _+_}
 use lib.ListN.{getD}
 use lib.Dec.{eqb, leb}
-use Rattle.rules.specs.Text.{Split, split}
 use Rattle.text.specs.Shapes.{pick}
-use Rattle.text.specs.Lines.{lineReading, unpacked}
+use Rattle.text.specs.Lines.{unpacked}
+use Rattle.text.specs.Table.{readings}
 use Rattle.text.specs.declared.lines.Frame.{Frame}
 use Rattle.text.specs.declared.lines.Reading.{Reading}
 use Rattle.text.specs.declared.lines.Reading.the-variants.{Malformed, One}
@@ -22,12 +22,9 @@ abbrev pub entryOf : Reading → Entry
 entryOf Malformed = Skip
 entryOf (One f) = entryFor f
 
-abbrev pub entryAt : Split → Entry
-entryAt l = entryOf (lineReading l)
-
--- the entries of a list; the size line is the last
+-- the entries of a list; its title is the first, if it has one, and the size line is the last
 unfoldable pub entries : List ℕ → List Entry
-entries s = map entryAt (split s)
+entries s = map entryOf (readings s)
 
 -- ---- in a table of lines
 

@@ -54,12 +54,17 @@ fn part(label: &[u8], list: &[u8], end: usize)
     case(label, &list[..end], 6, 14);
 }
 
-// A list of n lines `0f0000`, and what follows them.
-fn long(label: &[u8], n: usize, tail: &[u8]) {
+// A list of n lines `0f0000`, what stands before them and what follows them.
+fn long_under(label: &[u8], head: &[u8], n: usize, tail: &[u8]) {
     let mut list = [0u8; 14400];
-    let w = put_lines(&mut list, 0, b"0f0000\n", n);
-    let end = put(&mut list, w, tail);
+    let w = put(&mut list, 0, head);
+    let v = put_lines(&mut list, w, b"0f0000\n", n);
+    let end = put(&mut list, v, tail);
     part(label, &list, end);
+}
+
+fn long(label: &[u8], n: usize, tail: &[u8]) {
+    long_under(label, b"", n, tail);
 }
 
 // The whole session of document 01.
@@ -120,6 +125,24 @@ fn sampled() {
     case(b"A101 ", b"140000\n900001\n", 0, 0);
 }
 
+// The title (W-211), which is a line of the list, and what isn't one.
+fn titled() {
+    case(b"f0   ", b"f00002\n1000000007\n110000\n900001\n", 6, 14);
+    case(b"f020 ", b"f00002\n110001\n900001\n", 6, 14);
+    case(b"f0,1 ", b"0f0000\nf00002\n900000\n", 6, 14);
+    case(b"f0,0 ", b"f00002\nf00002\n900000\n", 6, 14);
+    case(b"f0=3 ", b"f00003\n900000\n", 6, 14);
+    case(b"f0+  ", b"f000020000\n900000\n", 6, 14);
+    case(b"f0-  ", b"f00002", 6, 14);
+    case(b"f0.  ", b"f00002\n", 6, 14);
+}
+
+// The title among 2,048 lines.
+fn titled_long() {
+    long_under(b"f047 ", b"f00002\n", 2047, b"900001\n");
+    long_under(b"f048 ", b"f00002\n", 2048, b"900001\n");
+}
+
 // Line 2,048, as a size line or not.
 fn late() {
     long(b"A15  ", 2048, b"");
@@ -162,6 +185,8 @@ fn main() {
     shown();
     needs();
     sampled();
+    titled();
+    titled_long();
     late();
     last();
     obeyed();

@@ -16,7 +16,7 @@ enum-known-m c = search needs
 
 refuse-requires : tie.Need-refuse-requires
 unfolding base
-refuse-requires c κs = let h = list-refused base (c .before .before .before .before .before .before .before .before .before .before .before .before .before .args .list .now) _ _ (sym (c .before .before .before .before .before .check-list .ensures .0) ∙ c .before .m .given .1) in omega (arith, h .2)
+refuse-requires c κs = let h = list-refused base (omega arith) (c .before .before .before .before .before .before .before .before .before .before .before .before .before .args .list .now) _ _ (sym (c .before .before .before .before .before .check-list .ensures .0) ∙ c .before .m .given .1) in omega (arith, h .2)
 
 enum-known-size : tie.Need-enum-known-size
 enum-known-size c = search needs
@@ -24,7 +24,7 @@ enum-known-size c = search needs
 run-read-requires : tie.Need-run-read-requires
 unfolding base
 run-read-requires c κs =
-    let h = list-good base (c .before .before .before .before .before .before .before .before .before .before .before .before .before .before .before .before .before .args .list .now) _ _ (sym (c .before .before .before .before .before .before .before .before .before .check-list .ensures .0) ∙ c .before .before .before .before .before .size .given .1) in
+    let h = list-good base (omega arith) (c .before .before .before .before .before .before .before .before .before .before .before .before .before .before .before .before .before .args .list .now) _ _ (sym (c .before .before .before .before .before .before .before .before .before .check-list .ensures .0) ∙ c .before .before .before .before .before .size .given .1) in
     let f = c .before .before .before .before .before .before .before .before .before .check-list .ensures .1 .fits _ _ (c .before .before .before .before .before .size .given .1) in
     (omega (arith, f), omega (arith, h .1), omega (arith, h .0), omega (arith, c .before .before .before .before .before .before .before .before .before .before .before .before .before .before .before .before .before .pre .1))
 
