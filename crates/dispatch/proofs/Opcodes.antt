@@ -9,17 +9,19 @@ use lib.Dec.{eqb, ltb, leb}
 use borrow.Author.Tests.{ne-eqb, eqb-true, eqb-false, ltb-true, ltb-false, le-ltb, lt-leb}
 use Rattle.rules.specs.Notation.{allOf}
 use Rattle.rules.proofs.Tells.{decided, clash}
+use Rattle.rules.specs.Slots.{Placement}
 use Rattle.rules.specs.Frames.{Frame, child, pop, dangle, restore, popLast, alloc, allocIn, linear, define, get, takeFrom, free, freeQuietly, forget, drain, write, read, readName, newDefer, newAssigned, newIgnore, allocNeed, outputNeed, dropNeed}
 use mathlib.Core.List.{List, [], _∷_}
 use Rattle.rules.specs.Text.{Raw, Row, rowed, frameTable}
 use Rattle.rules.proofs.Chains.{none-some}
 use Rattle.rules.proofs.Tables.{by-eqb}
 use Rattle.rules.proofs.Apart.{plain}
+use Rattle.rules.proofs.Placeless.{asksNoSlot, any-place}
 use Rattle.scopes.specs.declared.Scopes.{Scopes}
 use Rattle.text.specs.Lines.{codeOf, frameOf}
 use Rattle.text.proofs.Rows.{opcode-told}
 use Rattle.handles.specs.NeedTable.{Needing}
-use Rattle.frames.specs.Steps.{freeing, freeCode, Works, Reached}
+use Rattle.frames.specs.Steps.{nowhere, freeing, freeCode, Works, Reached}
 use Rattle.frames.specs.Needing.{WorksWith}
 use Rattle.dispatch.specs.Dispatched.{PlainCode}
 use Rattle.text.specs.Shapes.{shapeOf, frameShapes}
@@ -36,13 +38,13 @@ told-as P f k h g e q p x =
     let same : h ≡ g = cc in
     subst (λ (o : ℕ). P g o) (sym e) (subst (λ (y : Frame). P y k) same x)
 
-pub works-as : {s : Scopes} {handles holders handles′ holders′ drained : List ℕ} {handed : ℕ} {r : Reached} (f : Code) (k : ℕ) (h g : Frame) → f .opcode ≡ k → frameOf (record { opcode = k; a = f .a; b = f .b }) ≡ some h → frameOf f ≡ some g
-    → Works h k s handles holders handed r handles′ holders′ drained → Works g (f .opcode) s handles holders handed r handles′ holders′ drained
-works-as {s} {handles} {holders} {handles′} {holders′} {drained} {handed} {r} = told-as (λ g o. Works g o s handles holders handed r handles′ holders′ drained)
+pub works-as : {place : Placement} {s : Scopes} {handles holders handles′ holders′ drained : List ℕ} {handed : ℕ} {r : Reached} (f : Code) (k : ℕ) (h g : Frame) → f .opcode ≡ k → frameOf (record { opcode = k; a = f .a; b = f .b }) ≡ some h → frameOf f ≡ some g
+    → Works place h k s handles holders handed r handles′ holders′ drained → Works place g (f .opcode) s handles holders handed r handles′ holders′ drained
+works-as {place} {s} {handles} {holders} {handles′} {holders′} {drained} {handed} {r} = told-as (λ g o. Works place g o s handles holders handed r handles′ holders′ drained)
 
-pub with-as : {s : Scopes} {handles holders handles′ holders′ drained : List ℕ} {handed : ℕ} {t t′ : Needing} {r : Reached} (f : Code) (k : ℕ) (h g : Frame) → f .opcode ≡ k → frameOf (record { opcode = k; a = f .a; b = f .b }) ≡ some h → frameOf f ≡ some g
-    → WorksWith h k s handles holders handed t r handles′ holders′ t′ drained → WorksWith g (f .opcode) s handles holders handed t r handles′ holders′ t′ drained
-with-as {s} {handles} {holders} {handles′} {holders′} {drained} {handed} {t} {t′} {r} = told-as (λ g o. WorksWith g o s handles holders handed t r handles′ holders′ t′ drained)
+pub with-as : {place : Placement} {s : Scopes} {handles holders handles′ holders′ drained : List ℕ} {handed : ℕ} {t t′ : Needing} {r : Reached} (f : Code) (k : ℕ) (h g : Frame) → f .opcode ≡ k → frameOf (record { opcode = k; a = f .a; b = f .b }) ≡ some h → frameOf f ≡ some g
+    → WorksWith place h k s handles holders handed t r handles′ holders′ t′ drained → WorksWith place g (f .opcode) s handles holders handed t r handles′ holders′ t′ drained
+with-as {place} {s} {handles} {holders} {handles′} {holders′} {drained} {handed} {t} {t′} {r} = told-as (λ g o. WorksWith place g o s handles holders handed t r handles′ holders′ t′ drained)
 
 pub no-frame {ℓ} : {X : Type ℓ} {o : Option Frame} {g : Frame} → o ≡ none → o ≡ some g → X
 no-frame n e = none-some (sym n ∙ e)
@@ -111,3 +113,58 @@ plain-code f g p e = go g (opcode-told f g e)
     go (allocNeed n) q = out 0x23 q (omega arith) (inr (omega arith))
     go (outputNeed n) q = out 0x24 q (omega arith) (inr (omega arith))
     go (dropNeed n) q = out 0x25 q (omega arith) (inr (omega arith))
+
+-- ---- frames that ask for no slot: all but 06, 07, 08 and 23
+
+abbrev Slotless : ℕ → Type 0
+Slotless o = ((o < 6) ⊎ (9 ≤ o)) × (o ≡ 0x23 → ⊥)
+
+slotless-code : (f : Code) (g : Frame) → Slotless (f .opcode) → frameOf f ≡ some g → asksNoSlot g ≡ true
+slotless-code f g p e = go g (opcode-told f g e)
+  where
+    out : {X : Type 0} (o : ℕ) → o ≡ f .opcode → 6 ≤ o → o < 9 → X
+    out o q l h = ⊎-elim (λ a. absurd (omega arith)) (λ a. absurd (omega arith)) (p .0)
+
+    go : (g : Frame) → codeOf g .opcode ≡ f .opcode → asksNoSlot g ≡ true
+    go child q = refl
+    go (pop n) q = refl
+    go (dangle n) q = refl
+    go (restore n) q = refl
+    go popLast q = refl
+    go alloc q = out 0x06 q (omega arith) (omega arith)
+    go (allocIn n) q = out 0x07 q (omega arith) (omega arith)
+    go (linear n) q = out 0x08 q (omega arith) (omega arith)
+    go (define name h) q = refl
+    go (get name) q = refl
+    go (takeFrom name) q = refl
+    go (free h) q = refl
+    go (freeQuietly h) q = refl
+    go (forget h) q = refl
+    go drain q = refl
+    go (write h v) q = refl
+    go (read h) q = refl
+    go (readName name) q = refl
+    go (newDefer n) q = refl
+    go (newAssigned h) q = refl
+    go newIgnore q = refl
+    go (allocNeed n) q = absurd (p .1 (sym q))
+    go (outputNeed n) q = refl
+    go (dropNeed n) q = refl
+
+-- .. lead where they lead by any placement
+pub works-any : {place : Placement} {s : Scopes} {handles holders handles′ holders′ drained : List ℕ} {handed o : ℕ} {r : Reached} (f : Code) (g : Frame) → Slotless (f .opcode) → frameOf f ≡ some g
+    → Works nowhere g o s handles holders handed r handles′ holders′ drained → Works place g o s handles holders handed r handles′ holders′ drained
+works-any f g p e w =
+    record { does = any-place _ _ _ _ g (slotless-code f g p e) ∙ w .does; whole = w .whole; few = w .few; handles-length = w .handles-length; holders-length = w .holders-length }
+
+pub with-any : {place : Placement} {s : Scopes} {handles holders handles′ holders′ drained : List ℕ} {handed o : ℕ} {t t′ : Needing} {r : Reached} (f : Code) (g : Frame) → Slotless (f .opcode) → frameOf f ≡ some g
+    → WorksWith nowhere g o s handles holders handed t r handles′ holders′ t′ drained → WorksWith place g o s handles holders handed t r handles′ holders′ t′ drained
+with-any f g p e w = record {
+  does = any-place _ _ _ _ g (slotless-code f g p e) ∙ w .does;
+  whole = w .whole;
+  few = w .few;
+  handles-length = w .handles-length;
+  holders-length = w .holders-length;
+  needs-length = w .needs-length;
+  remembers-length = w .remembers-length;
+}

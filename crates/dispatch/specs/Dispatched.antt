@@ -7,14 +7,15 @@ use mathlib.Core.List.{List}
 use Prim.Native.Nat.{ℕ, _≤_, _<_}
 use lib.ListN.{length}
 use denote.Ref.{RefT, now}
+use Rattle.rules.specs.Slots.{Placement}
 use Rattle.rules.specs.Frames.{Frame, write}
 use Rattle.scopes.specs.declared.Numbers.{Numbers}
 use Rattle.scopes.specs.declared.Scopes.{Scopes}
-use Rattle.scopes.specs.Lent.{made}
+use Rattle.scopes.specs.Lent.{made, LentArray}
 use Rattle.handles.specs.NeedTable.{table}
 use Rattle.text.specs.Lines.{frameOf}
 use Rattle.text.specs.declared.lines.Frame.{Frame as Code}
-use Rattle.frames.specs.Steps.{LentArray, sourceOf, onNames, onCells, numberedIn, allotsIn, allotsOut, Works, Leads, Stays, LeadsAllots}
+use Rattle.frames.specs.Steps.{sourceOf, onNames, onCells, numberedIn, allotsIn, allotsOut, Works, Leads, Stays, LeadsAllots}
 use Rattle.frames.specs.Needing.{StandsWith, WorksWith, Makes, FreesBeside, tableIn, tableOut}
 use Rattle.frames.specs.declared.needing.Noted.{Noted}
 use Rattle.frames.specs.declared.steps.Source.{Source}
@@ -48,17 +49,17 @@ StandsOn halves links owner live dangled parent number bindings n handles holder
     StandsWith (made (now halves) (now links) (now owner) (now live) (now dangled) (now parent) (now number) (now bindings) n) (now handles) (now holders) handed (table (now needs) (now remembers) needed)
     × (length (now drained) ≡ 1024)
 
--- the frame that the record f is leads where the rules say
-abbrev pub StepsOn : Code → (halves links owner : LentArray ℕ) (live dangled : LentArray Bool) (parent number bindings : LentArray ℕ) → Numbers → (handles holders drained : LentArray ℕ) → ℕ → (needs remembers : LentArray ℕ) → ℕ → Advance → Type 0
-StepsOn f halves links owner live dangled parent number bindings n handles holders drained handed needs remembers needed r =
-    (g : Frame) → frameOf f ≡ some g → WorksWith g (f .opcode) (wholeIn halves links owner live dangled parent number bindings n) (now (handles .entry)) (now (holders .entry)) handed (tableIn needs remembers needed)
+-- the frame that the record f is leads where the rules say, where slots go by `place`
+abbrev pub StepsOn : Placement → Code → (halves links owner : LentArray ℕ) (live dangled : LentArray Bool) (parent number bindings : LentArray ℕ) → Numbers → (handles holders drained : LentArray ℕ) → ℕ → (needs remembers : LentArray ℕ) → ℕ → Advance → Type 0
+StepsOn place f halves links owner live dangled parent number bindings n handles holders drained handed needs remembers needed r =
+    (g : Frame) → frameOf f ≡ some g → WorksWith place g (f .opcode) (wholeIn halves links owner live dangled parent number bindings n) (now (handles .entry)) (now (holders .entry)) handed (tableIn needs remembers needed)
     (record { state = wholeOut halves links owner live dangled parent number bindings (r .numbers); handed = r .handed; adds = r .adds })
     (now (handles .exit)) (now (holders .exit)) (tableOut needs remembers (r .needed)) (now (drained .exit))
 
 -- .. whatever needs there are
-abbrev pub PlainOn : Code → (halves links owner : LentArray ℕ) (live dangled : LentArray Bool) (parent number bindings : LentArray ℕ) → Numbers → (handles holders drained : LentArray ℕ) → ℕ → Stepped → Type 0
-PlainOn f halves links owner live dangled parent number bindings n handles holders drained handed r =
-    (g : Frame) → frameOf f ≡ some g → Works g (f .opcode) (wholeIn halves links owner live dangled parent number bindings n) (now (handles .entry)) (now (holders .entry)) handed
+abbrev pub PlainOn : Placement → Code → (halves links owner : LentArray ℕ) (live dangled : LentArray Bool) (parent number bindings : LentArray ℕ) → Numbers → (handles holders drained : LentArray ℕ) → ℕ → Stepped → Type 0
+PlainOn place f halves links owner live dangled parent number bindings n handles holders drained handed r =
+    (g : Frame) → frameOf f ≡ some g → Works place g (f .opcode) (wholeIn halves links owner live dangled parent number bindings n) (now (handles .entry)) (now (holders .entry)) handed
     (record { state = wholeOut halves links owner live dangled parent number bindings (r .numbers); handed = r .handed; adds = r .adds })
     (now (handles .exit)) (now (holders .exit)) (now (drained .exit))
 
@@ -71,8 +72,8 @@ ScopeStep f halves links owner live dangled parent number bindings n handed r =
     → Leads g (f .opcode) (wholeIn halves links owner live dangled parent number bindings n) (wholeOut halves links owner live dangled parent number bindings (r .numbers)) handles holders handed r handles holders
 
 -- 06 to 08
-abbrev pub AllotStep : Code → (halves links owner : LentArray ℕ) → LentArray Bool → LentArray ℕ → Numbers → (handles holders : LentArray ℕ) → ℕ → Stepped → Type 0
-AllotStep f halves links owner live number n handles holders handed r = (g : Frame) → frameOf f ≡ some g → LeadsAllots g (f .opcode) halves links owner live number n handles holders handed r
+abbrev pub AllotStep : Placement → Code → (halves links owner : LentArray ℕ) → LentArray Bool → LentArray ℕ → Numbers → (handles holders : LentArray ℕ) → ℕ → Stepped → Type 0
+AllotStep place f halves links owner live number n handles holders handed r = (g : Frame) → frameOf f ≡ some g → LeadsAllots place g (f .opcode) halves links owner live number n handles holders handed r
 
 -- 09 to 0b
 abbrev pub NameStep : Code → LentArray Bool → (parent bindings : LentArray ℕ) → Numbers → LentArray ℕ → ℕ → Stepped → Type 0
@@ -98,8 +99,8 @@ NoteStep f live number handles handed needs remembers needed r =
     → Makes g (f .opcode) (numberedIn s live number) (now (handles .entry)) holders handed (tableIn needs remembers needed) (r .adds) (tableOut needs remembers (r .needed))
 
 -- 20 to 25
-abbrev pub NeedStep : Code → (halves links owner : LentArray ℕ) → LentArray Bool → LentArray ℕ → Numbers → (handles holders : LentArray ℕ) → ℕ → (needs remembers : LentArray ℕ) → ℕ → Advance → Type 0
-NeedStep f halves links owner live number n handles holders handed needs remembers needed r =
+abbrev pub NeedStep : Placement → Code → (halves links owner : LentArray ℕ) → LentArray Bool → LentArray ℕ → Numbers → (handles holders : LentArray ℕ) → ℕ → (needs remembers : LentArray ℕ) → ℕ → Advance → Type 0
+NeedStep place f halves links owner live number n handles holders handed needs remembers needed r =
     (g : Frame) → frameOf f ≡ some g → (s : Scopes) → StandsWith (allotsIn s halves links owner live number n) (now (handles .entry)) (now (holders .entry)) handed (tableIn needs remembers needed) → (drained : List ℕ)
-    → WorksWith g (f .opcode) (allotsIn s halves links owner live number n) (now (handles .entry)) (now (holders .entry)) handed (tableIn needs remembers needed)
+    → WorksWith place g (f .opcode) (allotsIn s halves links owner live number n) (now (handles .entry)) (now (holders .entry)) handed (tableIn needs remembers needed)
     (record { state = allotsOut s halves links owner live number (r .numbers); handed = r .handed; adds = r .adds }) (now (handles .exit)) (now (holders .exit)) (tableOut needs remembers (r .needed)) drained

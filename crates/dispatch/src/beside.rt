@@ -1,6 +1,7 @@
 // The frames that look at needs, by their opcodes: 0c to 0e, and 20 to 25.
 ghost use Prim.Native.Nat.{_≤_, _<_};
 ghost use Rattle.handles.specs.NeedTable.{SizedNeeds};
+ghost use Rattle.slots.specs.Spots.{placementOf};
 ghost use Rattle.frames.specs.Steps.{Tables};
 ghost use Rattle.frames.specs.Needing.{StandsAllotsWith, StandsFreesWith};
 ghost use Rattle.dispatch.specs.Dispatched.{FreeStep, NoteStep, NeedStep};
@@ -12,6 +13,7 @@ use frames::steps::Stepped;
 use handles::remembered::NeedNumber;
 use scopes::HandleNumber;
 use scopes::Numbers;
+use slots::Place;
 use text::lines::Frame;
 
 // A step with needs: the numbers of the state, and how many handles and needs there are.
@@ -107,9 +109,10 @@ pub fn need_step<'a>(
     remembers: &mut [u16; 64],
     needed: usize,
     f: Frame,
+    place: Place,
 ) -> Advance
     requires { ⌜ StandsAllotsWith halves links owner live number n handles holders handed needs remembers needed × (32 ≤ f .opcode) ⌝ }
-    ensures { λ r. ⌜ NeedStep f halves links owner live number n handles holders handed needs remembers needed r ⌝ }
+    ensures { λ r. ⌜ NeedStep (placementOf place) f halves links owner live number n handles holders handed needs remembers needed r ⌝ }
 {
     let op = f.opcode;
     let k = NeedNumber(f.a);
@@ -138,6 +141,7 @@ pub fn need_step<'a>(
             remembers,
             needed,
             k,
+            place,
         );
         let m = r.numbers;
         let adds = r.adds;

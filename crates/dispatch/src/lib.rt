@@ -3,12 +3,14 @@ ghost use mathlib.Core.Path.{_≡_};
 ghost use Prim.Native.Nat.{_≤_, _<_};
 ghost use lib.ListN.{length};
 ghost use Rattle.rules.specs.Tells.{Tells};
+ghost use Rattle.slots.specs.Spots.{placementOf};
 ghost use Rattle.dispatch.specs.Dispatched.{StandsOn, StepsOn};
 use beside::Advance;
 use beside::free_step;
 use beside::need_step;
 use plain::plain_step;
 use scopes::Numbers;
+use slots::Place;
 use text::lines::Frame;
 
 pub mod plain; // 01 to 0b, 0f to 12, 14
@@ -24,7 +26,7 @@ fn is_freeing(op: u8) -> bool
     false
 }
 
-// The step of a frame. `drained` gets the addresses of a drain.
+// The step of a frame. Slots go by `place`; `drained` gets the addresses of a drain.
 pub fn step(
     halves: &mut [u64; 16],
     links: &mut [u16; 2178],
@@ -43,9 +45,10 @@ pub fn step(
     remembers: &mut [u16; 64],
     needed: usize,
     f: Frame,
+    place: Place,
 ) -> Advance
     requires { ⌜ StandsOn halves links owner live dangled parent number bindings n handles holders drained handed needs remembers needed ⌝ }
-    ensures { λ r. ⌜ StepsOn f halves links owner live dangled parent number bindings n handles holders drained handed needs remembers needed r ⌝ }
+    ensures { λ r. ⌜ StepsOn (placementOf place) f halves links owner live dangled parent number bindings n handles holders drained handed needs remembers needed r ⌝ }
     ensures { λ _. ⌜ length (now (drained .exit)) ≡ 1024 ⌝ }
 {
     let op = f.opcode;
@@ -64,6 +67,7 @@ pub fn step(
             remembers,
             needed,
             f,
+            place,
         );
     }
     if is_freeing(op) {
@@ -105,6 +109,7 @@ pub fn step(
         drained,
         handed,
         f,
+        place,
     );
     let m = r.numbers;
     let adds = r.adds;

@@ -4,6 +4,7 @@ ghost use mathlib.Core.List.{List};
 ghost use Prim.Native.Nat.{ℕ, _≤_, _<_};
 ghost use lib.ListN.{length};
 ghost use Rattle.scopes.specs.Lent.{made, Whole};
+ghost use Rattle.slots.specs.Spots.{placementOf};
 ghost use Rattle.frames.specs.Steps.{onNames, onCells, Stands, StandsAllots};
 ghost use Rattle.rules.specs.Tells.{Tells};
 ghost use Rattle.dispatch.specs.Dispatched.{PlainCode, WriteCode, Writes, ScopeStep, AllotStep, NameStep, CellStep, PlainOn};
@@ -19,6 +20,7 @@ use scopes::HandleNumber;
 use scopes::Numbers;
 use scopes::Scopes;
 use scopes::lent::drain;
+use slots::Place;
 use text::lines::Frame;
 
 // 01 to 05.
@@ -92,13 +94,14 @@ fn allot_step<'a>(
     holders: &mut [u16; 1024],
     handed: usize,
     f: Frame,
+    place: Place,
 ) -> Stepped
     requires { ⌜ StandsAllots halves links owner live number n handles holders handed × (6 ≤ f .opcode) × (f .opcode < 9) ⌝ }
-    ensures { λ r. ⌜ AllotStep f halves links owner live number n handles holders handed r ⌝ }
+    ensures { λ r. ⌜ AllotStep (placementOf place) f halves links owner live number n handles holders handed r ⌝ }
 {
     let op = f.opcode;
     if op == 0x06 {
-        return allots::alloc(halves, links, owner, n, handles, holders, handed);
+        return allots::alloc(halves, links, owner, n, handles, holders, handed, place);
     }
     if op == 0x07 {
         return allots::alloc_in(
@@ -112,9 +115,20 @@ fn allot_step<'a>(
             holders,
             handed,
             f.a,
+            place,
         );
     }
-    allots::linear(halves, links, owner, n, handles, holders, handed, f.a)
+    allots::linear(
+        halves,
+        links,
+        owner,
+        n,
+        handles,
+        holders,
+        handed,
+        f.a,
+        place,
+    )
 }
 
 // 09 to 0b.
@@ -204,7 +218,7 @@ fn cell_step<'a>(
     Adds::Refused(1)
 }
 
-// 01 to 0b, 0f to 12 and 14: the frames that don't look at needs. `drained` gets the addresses of a drain.
+// 01 to 0b, 0f to 12 and 14: the frames that don't look at needs. Slots go by `place`; `drained` gets the addresses of a drain.
 pub fn plain_step(
     halves: &mut [u64; 16],
     links: &mut [u16; 2178],
@@ -220,10 +234,11 @@ pub fn plain_step(
     drained: &mut [u16; 1024],
     handed: usize,
     f: Frame,
+    place: Place,
 ) -> Stepped
     requires { ⌜ Stands (made (now halves) (now links) (now owner) (now live) (now dangled) (now parent) (now number) (now bindings) n) (now handles) (now holders) handed ⌝ }
     requires { ⌜ (length (now drained) ≡ 1024) × PlainCode (f .opcode) ⌝ }
-    ensures { λ r. ⌜ PlainOn f halves links owner live dangled parent number bindings n handles holders drained handed r ⌝ }
+    ensures { λ r. ⌜ PlainOn (placementOf place) f halves links owner live dangled parent number bindings n handles holders drained handed r ⌝ }
     ensures { λ _. ⌜ length (now (drained .exit)) ≡ 1024 ⌝ }
 {
     let op = f.opcode;
@@ -254,6 +269,7 @@ pub fn plain_step(
             holders,
             handed,
             f,
+            place,
         );
     }
     if op < 0x0c {

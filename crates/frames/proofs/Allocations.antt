@@ -10,7 +10,7 @@ use lib.Dec.{eqb, ltb}
 use borrow.Author.Tests.{lt-ltb, eqb-true}
 use Rattle.rules.specs.Notation.{Answer, given, refused, _>>=_, refuse_when_, refuse_unless_}
 use Rattle.rules.specs.Sizes.{base}
-use Rattle.rules.specs.Slots.{edition1}
+use Rattle.rules.specs.Slots.{Placement, Place, placing}
 use Rattle.rules.specs.Scopes as rule
 use Rattle.rules.specs.Scopes.{Found, Id, allocate, topScope, byId}
 use Rattle.rules.specs.Needs.{Kind, local, runKind}
@@ -63,72 +63,73 @@ made-is {halves} {links} {owner} {live} {dangled} {parent} {number} {bindings} e
 
 -- ---- refused, and granted
 
-module _ (s : Scopes) (handles holders : List ℕ) (handed : ℕ) (stands : Stands s handles holders handed) where
+pub works-refused : {place : Placement} (s : Scopes) (handles holders : List ℕ) (handed : ℕ) → Stands s handles holders handed → (f : Frame) (op n : ℕ) (r : Reached) → r ≡ record { state = s; handed = handed; adds = Refused n }
+    → step base place (stateOf (view s) handles holders handed) f ≡ refused n → (drained : List ℕ) → Works place f op s handles holders handed r handles holders drained
+works-refused {place = place} s handles holders handed stands f op n r is e drained =
+    subst (λ (x : Reached). Works place f op s handles holders handed x handles holders drained) (sym is)
+    (record { does = e; whole = stands .whole; few = tt; handles-length = stands .handles-length; holders-length = stands .holders-length })
+
+module _ (p : Place) (s : Scopes) (handles holders : List ℕ) (handed : ℕ) (stands : Stands s handles holders handed) where
   abbrev c : rule.Scopes
   c = view s
 
   abbrev standing : State
   standing = stateOf c handles holders handed
 
-  pub works-refused : (f : Frame) (op n : ℕ) (r : Reached) → r ≡ record { state = s; handed = handed; adds = Refused n } → step base (edition1 (base .segments)) standing f ≡ refused n → (drained : List ℕ) → Works f op s handles holders handed r handles holders drained
-  works-refused f op n r is e drained =
-      subst (λ (x : Reached). Works f op s handles holders handed x handles holders drained) (sym is)
-      (record { does = e; whole = stands .whole; few = tt; handles-length = stands .handles-length; holders-length = stands .holders-length })
+  abbrev place : Placement
+  place = placing (base .segments) p
 
   pub works-granted : (f : Frame) (op : ℕ) (k : Found) (kind : AddressKind) (n : ℕ) (o : Outcome) (r : Reached) (handles′ holders′ : List ℕ) → handed + n ≤ 2048
-      → seen o ≡ told at c (allocate (edition1 (base .segments)) k n c) → Whole (o .state) → r .state ≡ o .state → Grants (o .reply) handed n kind (r .handed) (r .adds) handles handles′ holders holders′
-      → step base (edition1 (base .segments)) standing f ≡ (allot base (edition1 (base .segments)) k (kindOf kind) n standing >>= λ x. oneLine (shows op (x .0 ∷ [])) (x .1))
-      → (drained : List ℕ) → Works f op s handles holders handed r handles′ holders′ drained
+      → seen o ≡ told at c (allocate place k n c) → Whole (o .state) → r .state ≡ o .state → Grants (o .reply) handed n kind (r .handed) (r .adds) handles handles′ holders holders′
+      → step base place standing f ≡ (allot base place k (kindOf kind) n standing >>= λ x. oneLine (shows op (x .0 ∷ [])) (x .1))
+      → (drained : List ℕ) → Works place f op s handles holders handed r handles′ holders′ drained
   works-granted f op k kind n o r handles′ holders′ fits e ok same g q drained = record {
-    does = q ∙ allots s handles holders handed stands k kind n o r handles′ holders′ drained fits e same g op;
+    does = q ∙ allots p s handles holders handed stands k kind n o r handles′ holders′ drained fits e same g op;
     whole = subst Whole (sym same) ok;
     few = subst Few (sym (g .says)) (few-reply (o .reply));
     handles-length = g .handles-length;
     holders-length = g .holders-length;
   }
 
-  pub full : (k : Found) (kind : Kind) (n : ℕ) → 2048 < handed + n → allot base (edition1 (base .segments)) k kind n standing ≡ refused 16
+  pub full : (k : Found) (kind : Kind) (n : ℕ) → 2048 < handed + n → allot base place k kind n standing ≡ refused 16
   unfolding allot base
   full k kind n l = when-true 16 _ (lt-ltb 2048 (handed + n) l)
 
   -- ---- alloc
 
-  pub alloc-3 : s .top ≡ 64 → step base (edition1 (base .segments)) standing alloc ≡ refused 3
+  pub alloc-3 : s .top ≡ 64 → step base place standing alloc ≡ refused 3
   unfolding step
   alloc-3 e = unless-none 3 _ (no-top s e)
 
-  pub alloc-16 : (s .top ≡ 64 → ⊥) → 2048 ≤ handed → step base (edition1 (base .segments)) standing alloc ≡ refused 16
+  pub alloc-16 : (s .top ≡ 64 → ⊥) → 2048 ≤ handed → step base place standing alloc ≡ refused 16
   unfolding step
   alloc-16 ne l = let t = has-top s stands ne in unless-some 3 _ (t .1) ∙ refused-on 16 _ (full (t .0) local 1 (omega arith))
 
   module _ (ne : s .top ≡ 64 → ⊥) where
-    abbrev pub top : Found
-    top = has-top s stands ne .0
-
-    pub alloc-seen : (o : Outcome) → seen o ≡ told at c (rule.allocTop (edition1 (base .segments)) c) → seen o ≡ told at c (allocate (edition1 (base .segments)) top 1 c)
+    pub alloc-seen : (o : Outcome) → seen o ≡ told at c (rule.allocTop place c) → seen o ≡ told at c (allocate place (has-top s stands ne .0) 1 c)
     unfolding rule.allocTop
     alloc-seen o e = e ∙ ap (told at c) (unless-some 3 _ (has-top s stands ne .1))
 
-    pub alloc-step : step base (edition1 (base .segments)) standing alloc ≡ (allot base (edition1 (base .segments)) top local 1 standing >>= λ x. oneLine (shows 0x06 (x .0 ∷ [])) (x .1))
+    pub alloc-step : step base place standing alloc ≡ (allot base place (has-top s stands ne .0) local 1 standing >>= λ x. oneLine (shows 0x06 (x .0 ∷ [])) (x .1))
     unfolding step
     alloc-step = unless-some 3 _ (has-top s stands ne .1)
 
   -- ---- linear
 
-  pub linear-3 : (n : ℕ) → s .top ≡ 64 → step base (edition1 (base .segments)) standing (linear n) ≡ refused 3
+  pub linear-3 : (n : ℕ) → s .top ≡ 64 → step base place standing (linear n) ≡ refused 3
   unfolding step
   linear-3 zero e = unless-none 3 _ (no-top s e)
   linear-3 (suc n) e = unless-none 3 _ (no-top s e)
 
-  pub linear-16 : (n : ℕ) → (n ≡ 0 → ⊥) → (s .top ≡ 64 → ⊥) → 2048 < handed + n → step base (edition1 (base .segments)) standing (linear n) ≡ refused 16
+  pub linear-16 : (n : ℕ) → (n ≡ 0 → ⊥) → (s .top ≡ 64 → ⊥) → 2048 < handed + n → step base place standing (linear n) ≡ refused 16
   unfolding step
   linear-16 zero pos ne l = absurd (pos refl)
   linear-16 (suc n) pos ne l = let t = has-top s stands ne in unless-some 3 _ (t .1) ∙ refused-on 16 _ (full (t .0) (runKind (suc n)) (suc n) l)
 
-  pub linear-0 : (n : ℕ) → n ≡ 0 → (s .top ≡ 64 → ⊥) → (drained : List ℕ) → Works (linear n) 0x08 s handles holders handed (record { state = s; handed = handed; adds = One 0xffff }) handles holders drained
+  pub linear-0 : (n : ℕ) → n ≡ 0 → (s .top ≡ 64 → ⊥) → (drained : List ℕ) → Works place (linear n) 0x08 s handles holders handed (record { state = s; handed = handed; adds = One 0xffff }) handles holders drained
   unfolding step
   linear-0 n e ne drained = record {
-    does = ap (λ (m : ℕ). step base (edition1 (base .segments)) standing (linear m)) e ∙ unless-some 3 _ (has-top s stands ne .1);
+    does = ap (λ (m : ℕ). step base place standing (linear m)) e ∙ unless-some 3 _ (has-top s stands ne .1);
     whole = stands .whole;
     few = tt;
     handles-length = stands .handles-length;
@@ -142,19 +143,19 @@ module _ (s : Scopes) (handles holders : List ℕ) (handed : ℕ) (stands : Stan
   first-is (refused n) = refl
 
   module _ (n : ℕ) (pos : n ≡ 0 → ⊥) (ne : s .top ≡ 64 → ⊥) where
-    pub linear-seen : (o : Outcome) → seen o ≡ told atFirst c (rule.allocRun (edition1 (base .segments)) n c) → seen o ≡ told at c (allocate (edition1 (base .segments)) (has-top s stands ne .0) n c)
+    pub linear-seen : (o : Outcome) → seen o ≡ told atFirst c (rule.allocRun place n c) → seen o ≡ told at c (allocate place (has-top s stands ne .0) n c)
     unfolding rule.allocRun
     linear-seen o e = go n pos e
       where
-        go : (m : ℕ) → (m ≡ 0 → ⊥) → seen o ≡ told atFirst c (rule.allocRun (edition1 (base .segments)) m c) → seen o ≡ told at c (allocate (edition1 (base .segments)) (has-top s stands ne .0) m c)
+        go : (m : ℕ) → (m ≡ 0 → ⊥) → seen o ≡ told atFirst c (rule.allocRun place m c) → seen o ≡ told at c (allocate place (has-top s stands ne .0) m c)
         go zero p q = absurd (p refl)
-        go (suc m) p q = q ∙ ap (told atFirst c) (unless-some 3 _ (has-top s stands ne .1)) ∙ first-is (allocate (edition1 (base .segments)) (has-top s stands ne .0) (suc m) c)
+        go (suc m) p q = q ∙ ap (told atFirst c) (unless-some 3 _ (has-top s stands ne .1)) ∙ first-is (allocate place (has-top s stands ne .0) (suc m) c)
 
     pub linear-step : (kind : AddressKind) → kindOf kind ≡ runKind n
-        → step base (edition1 (base .segments)) standing (linear n) ≡ (allot base (edition1 (base .segments)) (has-top s stands ne .0) (kindOf kind) n standing >>= λ x. oneLine (shows 0x08 (x .0 ∷ [])) (x .1))
+        → step base place standing (linear n) ≡ (allot base place (has-top s stands ne .0) (kindOf kind) n standing >>= λ x. oneLine (shows 0x08 (x .0 ∷ [])) (x .1))
     unfolding step
     linear-step kind e = go n pos e
       where
-        go : (m : ℕ) → (m ≡ 0 → ⊥) → kindOf kind ≡ runKind m → step base (edition1 (base .segments)) standing (linear m) ≡ (allot base (edition1 (base .segments)) (has-top s stands ne .0) (kindOf kind) m standing >>= λ x. oneLine (shows 0x08 (x .0 ∷ [])) (x .1))
+        go : (m : ℕ) → (m ≡ 0 → ⊥) → kindOf kind ≡ runKind m → step base place standing (linear m) ≡ (allot base place (has-top s stands ne .0) (kindOf kind) m standing >>= λ x. oneLine (shows 0x08 (x .0 ∷ [])) (x .1))
         go zero p q = absurd (p refl)
-        go (suc m) p q = unless-some 3 _ (has-top s stands ne .1) ∙ λ t. allot base (edition1 (base .segments)) (has-top s stands ne .0) (sym q t) (suc m) standing >>= λ x. oneLine (shows 0x08 (x .0 ∷ [])) (x .1)
+        go (suc m) p q = unless-some 3 _ (has-top s stands ne .1) ∙ λ t. allot base place (has-top s stands ne .0) (sym q t) (suc m) standing >>= λ x. oneLine (shows 0x08 (x .0 ∷ [])) (x .1)

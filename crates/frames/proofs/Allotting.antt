@@ -11,7 +11,7 @@ use lib.ListN.{length}
 use borrow.Author.Tests.{lt-ltb, le-ltb, ltb-true}
 use Rattle.rules.specs.Notation.{Answer, given, refused, _>>=_, refuse_when_, refuse_unless_, _▹_}
 use Rattle.rules.specs.Sizes.{base}
-use Rattle.rules.specs.Slots.{Slots, Placed, edition1}
+use Rattle.rules.specs.Slots.{Slots, Placed, Place, Placement, placing}
 use Rattle.rules.specs.Scopes as rule
 use Rattle.rules.specs.Scopes.{Found, allocate, topScope}
 use Rattle.rules.specs.Needs.{Kind}
@@ -19,7 +19,7 @@ use Rattle.rules.specs.Frames.{noNeed, State, scopes≔, handles≔, handed≔,
 use Rattle.rules.specs.Demand3.{Fair, Gives}
 use Rattle.rules.proofs.Sound.{SlotsSound}
 use Rattle.rules.proofs.Tells.{decided, is-false, clash}
-use Rattle.rules.proofs.Editions.{edition1-fair-sound}
+use Rattle.rules.proofs.Editions.{placing-fair-sound}
 use Rattle.rules.proofs.Leaves.{allotted}
 use Rattle.slots.specs.declared.SlotAddress.{SlotAddress}
 use Rattle.scopes.specs.View.{view, at, Seen, seen, told}
@@ -77,28 +77,31 @@ outside n s p g b w =
     (λ e. g .kept b e ∙ sym e)
     (λ e. is-false (p .next .occupied b) (λ t. let o = g .only b t e in ⊎-elim (λ l. omega arith) (λ l. omega arith) w) ∙ sym e)
 
-fair : Fair base (edition1 (base .segments)) (SlotsSound (base .segments))
-unfolding base
-fair = edition1-fair-sound base (omega arith)
-
-module _ (s : Scopes) (handles holders : List ℕ) (handed : ℕ) (stands : Stands s handles holders handed) where
+module _ (p : Place) (s : Scopes) (handles holders : List ℕ) (handed : ℕ) (stands : Stands s handles holders handed) where
   abbrev c : rule.Scopes
   c = view s
 
   abbrev standing : State
   standing = stateOf c handles holders handed
 
+  abbrev place : Placement
+  place = placing (base .segments) p
+
+  fair : Fair base place (SlotsSound (base .segments))
+  unfolding base
+  fair = placing-fair-sound base (omega arith) p
+
   -- where the allocation of n slots for k was given
-  given-below : (k : Found) (n : ℕ) (x : ℕ × rule.Scopes) → allocate (edition1 (base .segments)) k n c ≡ given x → x .0 + n ≤ 1024
+  given-below : (k : Found) (n : ℕ) (x : ℕ × rule.Scopes) → allocate place k n c ≡ given x → x .0 + n ≤ 1024
   unfolding base
   given-below k n x q =
-      let w = allotted (edition1 (base .segments)) k n c .at x q in
+      let w = allotted place k n c .at x q in
       omega (arith, w .address, fair .placed n (c .slots) (w .placed) (w .from) (stands .state .scopes .slots) .2)
 
-  pub answered-below : (k : Found) (n : ℕ) (o : Outcome) → seen o ≡ told at c (allocate (edition1 (base .segments)) k n c) → 0 < n → (a : SlotAddress) → o .reply ≡ reply.At a → (a .0 < 1024) × (a .0 + n ≤ 1024)
-  answered-below k n o e pos a y = go (allocate (edition1 (base .segments)) k n c) refl
+  pub answered-below : (k : Found) (n : ℕ) (o : Outcome) → seen o ≡ told at c (allocate place k n c) → 0 < n → (a : SlotAddress) → o .reply ≡ reply.At a → (a .0 < 1024) × (a .0 + n ≤ 1024)
+  answered-below k n o e pos a y = go (allocate place k n c) refl
     where
-      go : (m : Answer (ℕ × rule.Scopes)) → allocate (edition1 (base .segments)) k n c ≡ m → (a .0 < 1024) × (a .0 + n ≤ 1024)
+      go : (m : Answer (ℕ × rule.Scopes)) → allocate place k n c ≡ m → (a .0 < 1024) × (a .0 + n ≤ 1024)
       go (given x) q =
           let says : o .reply ≡ at (x .0) = ap (λ (z : Seen). z .says) (e ∙ ap (told at c) q) in
           let same : x .0 ≡ a .0 = cc in
@@ -109,12 +112,12 @@ module _ (s : Scopes) (handles holders : List ℕ) (handed : ℕ) (stands : Stan
           absurd (let z : _≡_ {A = ℕ} 0 1 = cc in omega arith)
 
   module _ (k : Found) (kind : AddressKind) (n : ℕ) (o : Outcome) (r : Reached) (handles′ holders′ drained : List ℕ) (fits : handed + n ≤ 2048)
-      (e : seen o ≡ told at c (allocate (edition1 (base .segments)) k n c)) (same-state : r .state ≡ o .state) (g : Grants (o .reply) handed n kind (r .handed) (r .adds) handles handles′ holders holders′) where
+      (e : seen o ≡ told at c (allocate place k n c)) (same-state : r .state ≡ o .state) (g : Grants (o .reply) handed n kind (r .handed) (r .adds) handles handles′ holders holders′) where
     -- the rules' state after it is the code's
-    granted-state : (x : ℕ × rule.Scopes) → allocate (edition1 (base .segments)) k n c ≡ given x → view (r .state) ≡ x .1 → o .reply ≡ at (x .0)
+    granted-state : (x : ℕ × rule.Scopes) → allocate place k n c ≡ given x → view (r .state) ≡ x .1 → o .reply ≡ at (x .0)
         → (standing ▹ scopes≔ (x .1) ▹ handles≔ (grant handed n (x .0) (kindOf kind) (standing .handles)) ▹ handed≔ (handed + n)) ≡ stateOf (view (r .state)) handles′ holders′ (r .handed)
     granted-state x q same says =
-        let w = allotted (edition1 (base .segments)) k n c .at x q in
+        let w = allotted place k n c .at x q in
         let f = fair .placed n (c .slots) (w .placed) (w .from) (stands .state .scopes .slots) .1 in
         let h = g .hands (record { 0 = x .0 }) says in
         let all : Granted (c .slots .occupied) (w .placed .next .occupied) handles handles′ holders holders′ handed n (w .placed .address) (kindOf kind)
@@ -124,14 +127,14 @@ module _ (s : Scopes) (handles holders : List ℕ) (handed : ℕ) (stands : Stan
         = (λ t. grant handed n (w .address t) (kindOf kind) (standing .handles)) ∙ sym (granting all) ∙ (λ t. handleAt (slots t .occupied) handles′ holders′) in
         λ t. record { scopes = sym same t; handles = tables t; handed = sym (h .0) t; needs = λ n. noNeed; needed = 0 }
 
-    pub allots : (op : ℕ) → (allot base (edition1 (base .segments)) k (kindOf kind) n standing >>= λ x. oneLine (shows op (x .0 ∷ [])) (x .1)) ≡ stepped op (r .adds) (stateOf (view (r .state)) handles′ holders′ (r .handed)) drained
+    pub allots : (op : ℕ) → (allot base place k (kindOf kind) n standing >>= λ x. oneLine (shows op (x .0 ∷ [])) (x .1)) ≡ stepped op (r .adds) (stateOf (view (r .state)) handles′ holders′ (r .handed)) drained
     unfolding allot base _>>=_ refuse_when_
-    allots op = rw (le-ltb 2048 (handed + n) fits, allot) (go (allocate (edition1 8) k n c) refl)
+    allots op = rw (le-ltb 2048 (handed + n) fits, allot) (go (allocate (placing 8 p) k n c) refl)
       where
         handed-out : ℕ × rule.Scopes → ℕ × State
         handed-out x = (x .0, standing ▹ scopes≔ (x .1) ▹ handles≔ (grant handed n (x .0) (kindOf kind) (standing .handles)) ▹ handed≔ (handed + n))
 
-        go : (m : Answer (ℕ × rule.Scopes)) → allocate (edition1 8) k n c ≡ m
+        go : (m : Answer (ℕ × rule.Scopes)) → allocate (placing 8 p) k n c ≡ m
             → ((m >>= λ x. given (handed-out x)) >>= λ x. oneLine (shows op (x .0 ∷ [])) (x .1))
             ≡ stepped op (r .adds) (stateOf (view (r .state)) handles′ holders′ (r .handed)) drained
         go (given x) q =

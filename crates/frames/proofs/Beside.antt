@@ -8,7 +8,7 @@ use native.Mathlib.Omega.{arith}
 use lib.ListN.{length}
 use Rattle.rules.specs.Notation.{refused, first}
 use Rattle.rules.specs.Sizes.{base}
-use Rattle.rules.specs.Slots.{edition1}
+use Rattle.rules.specs.Slots.{Placement}
 use Rattle.rules.specs.Frames.{Frame, forget, Remembered, State, spent, belongs, barred, freeHandle, Step, step}
 use Rattle.rules.proofs.Chains.{when-true, refused-on}
 use Rattle.rules.proofs.Apart.{plain, mapped, within, apart, apart-free, apart-quietly, apart-forget}
@@ -19,7 +19,7 @@ use Rattle.scopes.specs.Lent.{Whole}
 use Rattle.scopes.specs.declared.Scopes.{Scopes}
 use Rattle.handles.specs.Handles.{stateOf}
 use Rattle.handles.specs.NeedTable.{rememberedAt, belongsIn, Needing, stateWith}
-use Rattle.frames.specs.Steps.{stepped, isRefused, freeing, freeCode, Works, Comes, Reached}
+use Rattle.frames.specs.Steps.{nowhere, stepped, isRefused, freeing, freeCode, Works, Comes, Reached}
 use Rattle.frames.specs.Needing.{StandsWith, WorksWith}
 use Rattle.frames.specs.declared.steps.Adds.{Adds}
 use Rattle.frames.specs.declared.steps.Adds.the-variants.{Nothing, One, Store, Load, Drained, Refused}
@@ -46,10 +46,10 @@ module _ (s : Scopes) (handles holders : List ℕ) (handed : ℕ) (t : Needing) 
   standing = stateWith (view s) handles holders handed t
 
   -- the needs become t′
-  pub beside : (f : Frame) (o : ℕ) (m : Step) (g : State → State) → step base (edition1 (base .segments)) standing f ≡ mapped (λ r. (r .0, g (r .1))) m
+  pub beside : {place : Placement} (f : Frame) (o : ℕ) (m : Step) (g : State → State) → step base place standing f ≡ mapped (λ r. (r .0, g (r .1))) m
       → (r : Reached) (handles′ holders′ drained : List ℕ) → Comes m o r handles′ holders′ drained
       → (t′ : Needing) → (isRefused (r .adds) ≡ false → g (stateOf (view (r .state)) handles′ holders′ (r .handed)) ≡ stateWith (view (r .state)) handles′ holders′ (r .handed) t′)
-      → length (t′ .needs) ≡ 64 → length (t′ .remembers) ≡ 64 → WorksWith f o s handles holders handed t r handles′ holders′ t′ drained
+      → length (t′ .needs) ≡ 64 → length (t′ .remembers) ≡ 64 → WorksWith place f o s handles holders handed t r handles′ holders′ t′ drained
   beside f o m g e r handles′ holders′ drained w t′ q l l′ = record {
     does = e ∙ ap (mapped (λ (x : _ × State). (x .0, g (x .1)))) (w .does) ∙ stepped-as g o (r .adds) _ _ drained q;
     whole = w .whole;
@@ -60,10 +60,10 @@ module _ (s : Scopes) (handles holders : List ℕ) (handed : ℕ) (t : Needing) 
     remembers-length = l′;
   }
 
-  pub refused-with : (f : Frame) (o n : ℕ) (r : Reached) → r ≡ record { state = s; handed = handed; adds = Refused n } → step base (edition1 (base .segments)) standing f ≡ refused n → (drained : List ℕ)
-      → WorksWith f o s handles holders handed t r handles holders t drained
-  refused-with f o n r is e drained =
-      subst (λ (x : Reached). WorksWith f o s handles holders handed t x handles holders t drained) (sym is)
+  pub refused-with : {place : Placement} (f : Frame) (o n : ℕ) (r : Reached) → r ≡ record { state = s; handed = handed; adds = Refused n } → step base place standing f ≡ refused n → (drained : List ℕ)
+      → WorksWith place f o s handles holders handed t r handles holders t drained
+  refused-with {place = place} f o n r is e drained =
+      subst (λ (x : Reached). WorksWith place f o s handles holders handed t x handles holders t drained) (sym is)
       (record {
         does = e;
         whole = stands .stands .whole;
@@ -75,17 +75,17 @@ module _ (s : Scopes) (handles holders : List ℕ) (handed : ℕ) (t : Needing) 
       })
 
   -- they stay as they were
-  left : (f : Frame) (o : ℕ) (r : Reached) (handles′ holders′ drained : List ℕ) → step base (edition1 (base .segments)) standing f ≡ mapped (λ r. (r .0, within needs (t .needed) (r .1))) (step base (edition1 (base .segments)) bare f)
-      → Works f o s handles holders handed r handles′ holders′ drained → WorksWith f o s handles holders handed t r handles′ holders′ t drained
+  left : {place : Placement} (f : Frame) (o : ℕ) (r : Reached) (handles′ holders′ drained : List ℕ) → step base place standing f ≡ mapped (λ r. (r .0, within needs (t .needed) (r .1))) (step base place bare f)
+      → Works place f o s handles holders handed r handles′ holders′ drained → WorksWith place f o s handles holders handed t r handles′ holders′ t drained
   left f o r handles′ holders′ drained e w =
       beside f o _ (within needs (t .needed)) e r handles′ holders′ drained
       (record { does = w .does; whole = w .whole; few = w .few; handles-length = w .handles-length; holders-length = w .holders-length })
       t (λ _. refl) (stands .needs-length) (stands .remembers-length)
 
   -- 01 to 0b, 0f to 12, 14
-  pub plain-works : (f : Frame) (o : ℕ) (r : Reached) (handles′ holders′ drained : List ℕ) → plain f ≡ true
-      → Works f o s handles holders handed r handles′ holders′ drained → WorksWith f o s handles holders handed t r handles′ holders′ t drained
-  plain-works f o r handles′ holders′ drained p w = left f o r handles′ holders′ drained (apart needs (t .needed) base (edition1 (base .segments)) bare f p) w
+  pub plain-works : {place : Placement} (f : Frame) (o : ℕ) (r : Reached) (handles′ holders′ drained : List ℕ) → plain f ≡ true
+      → Works place f o s handles holders handed r handles′ holders′ drained → WorksWith place f o s handles holders handed t r handles′ holders′ t drained
+  plain-works {place = place} f o r handles′ holders′ drained p w = left f o r handles′ holders′ drained (apart needs (t .needed) base place bare f p) w
 
   -- 0c, 0d, 0e
   module _ (h : ℕ) where
@@ -101,22 +101,22 @@ module _ (s : Scopes) (handles holders : List ℕ) (handed : ℕ) (t : Needing) 
     unfolding barred
     barred-by e = or-second (spent standing h) (belongs standing h) (belongs-is ∙ e)
 
-    pub free-barred : (dangles : Bool) → belongsIn (t .needs) (t .remembers) (t .needed) h ≡ true → step base (edition1 (base .segments)) standing (freeing dangles h) ≡ refused 13
+    pub free-barred : (dangles : Bool) → belongsIn (t .needs) (t .remembers) (t .needed) h ≡ true → step base nowhere standing (freeing dangles h) ≡ refused 13
     unfolding freeHandle
     free-barred dangles e = chain dangles h standing ∙ refused-on 13 _ (when-true 13 _ (barred-by e))
 
-    pub forget-barred : belongsIn (t .needs) (t .remembers) (t .needed) h ≡ true → step base (edition1 (base .segments)) standing (forget h) ≡ refused 13
+    pub forget-barred : belongsIn (t .needs) (t .remembers) (t .needed) h ≡ true → step base nowhere standing (forget h) ≡ refused 13
     unfolding step
     forget-barred e = when-true 13 _ (barred-by e)
 
     module _ (free : belongsIn (t .needs) (t .remembers) (t .needed) h ≡ false) where
       pub freeing-works : (dangles : Bool) (r : Reached) (handles′ holders′ drained : List ℕ)
-          → Works (freeing dangles h) (freeCode dangles) s handles holders handed r handles′ holders′ drained → WorksWith (freeing dangles h) (freeCode dangles) s handles holders handed t r handles′ holders′ t drained
-      freeing-works true r handles′ holders′ drained w = left _ _ r handles′ holders′ drained (apart-free needs (t .needed) base (edition1 (base .segments)) bare h (belongs-is ∙ free) no-needs) w
-      freeing-works false r handles′ holders′ drained w = left _ _ r handles′ holders′ drained (apart-quietly needs (t .needed) base (edition1 (base .segments)) bare h (belongs-is ∙ free) no-needs) w
+          → Works nowhere (freeing dangles h) (freeCode dangles) s handles holders handed r handles′ holders′ drained → WorksWith nowhere (freeing dangles h) (freeCode dangles) s handles holders handed t r handles′ holders′ t drained
+      freeing-works true r handles′ holders′ drained w = left _ _ r handles′ holders′ drained (apart-free needs (t .needed) base nowhere bare h (belongs-is ∙ free) no-needs) w
+      freeing-works false r handles′ holders′ drained w = left _ _ r handles′ holders′ drained (apart-quietly needs (t .needed) base nowhere bare h (belongs-is ∙ free) no-needs) w
 
-      pub forget-works-with : (r : Reached) (handles′ holders′ drained : List ℕ) → Works (forget h) 0x0e s handles holders handed r handles′ holders′ drained → WorksWith (forget h) 0x0e s handles holders handed t r handles′ holders′ t drained
-      forget-works-with r handles′ holders′ drained w = left (forget h) 0x0e r handles′ holders′ drained (apart-forget needs (t .needed) base (edition1 (base .segments)) bare h (belongs-is ∙ free) no-needs) w
+      pub forget-works-with : (r : Reached) (handles′ holders′ drained : List ℕ) → Works nowhere (forget h) 0x0e s handles holders handed r handles′ holders′ drained → WorksWith nowhere (forget h) 0x0e s handles holders handed t r handles′ holders′ t drained
+      forget-works-with r handles′ holders′ drained w = left (forget h) 0x0e r handles′ holders′ drained (apart-forget needs (t .needed) base nowhere bare h (belongs-is ∙ free) no-needs) w
 
 -- ---- where a script stands, as a sound state
 

@@ -9,7 +9,7 @@ use lib.ListN.{length, getD, set}
 use borrow.Author.Tests.{eqb-true}
 use Rattle.rules.specs.Notation.{Answer, given, refused, _>>=_, if_then_else_, _▹_, put}
 use Rattle.rules.specs.Sizes.{base}
-use Rattle.rules.specs.Slots.{Slots, edition1, remove}
+use Rattle.rules.specs.Slots.{Slots, remove}
 use Rattle.rules.specs.Scopes as rule
 use Rattle.rules.specs.Needs.{Kind, freed, isFreed, goesBack, giveBack}
 use Rattle.rules.specs.Frames.{noNeed, State, scopes≔, Handle, held≔, kind≔, Frame, shows, oneLine, setHandle, handBack, freeAs, freeHandle, step}
@@ -27,7 +27,7 @@ use Rattle.scopes.specs.declared.Reply.the-variants as reply
 use Rattle.needs.specs.Kinds.{kindOf}
 use Rattle.needs.specs.Inner.{isDone}
 use Rattle.handles.specs.Handles.{slotIn, kindIn, handleAt, stateOf, Coded, freedAs}
-use Rattle.frames.specs.Steps.{stepped, addsOf, freeing, freeCode, freedThen, Stands, Comes, Reached}
+use Rattle.frames.specs.Steps.{nowhere, stepped, addsOf, freeing, freeCode, freedThen, Stands, Comes, Reached}
 use Rattle.handles.specs.declared.Handle.{Handle as Known}
 use Rattle.frames.specs.declared.steps.Adds.the-variants.{Nothing}
 use Rattle.handles.proofs.Changes.{recoding, clearing}
@@ -35,12 +35,12 @@ use Rattle.frames.proofs.Moving.{few-reply}
 use Rattle.frames.proofs.Handling.{spent-unknown, spent-freed, unspent, barred-spent, unbarred, set-freed, now-long}
 
 -- both frames
-pub chain : (dangles : Bool) (h : ℕ) (t : State) → step base (edition1 (base .segments)) t (freeing dangles h) ≡ freedThen (freeCode dangles) (freeHandle dangles h t)
+pub chain : (dangles : Bool) (h : ℕ) (t : State) → step base nowhere t (freeing dangles h) ≡ freedThen (freeCode dangles) (freeHandle dangles h t)
 unfolding step
 chain true h t = refl
 chain false h t = refl
 
-pub free-13 : (dangles : Bool) (h : ℕ) (t : State) → t .handed ≤ h → step base (edition1 (base .segments)) t (freeing dangles h) ≡ refused 13
+pub free-13 : (dangles : Bool) (h : ℕ) (t : State) → t .handed ≤ h → step base nowhere t (freeing dangles h) ≡ refused 13
 unfolding freeHandle
 free-13 dangles h t l = chain dangles h t ∙ refused-on 13 _ (when-true 13 _ (barred-spent t h (spent-unknown t h l)))
 
@@ -51,12 +51,12 @@ module _ (s : Scopes) (handles holders : List ℕ) (handed : ℕ) (stands : Stan
   abbrev standing : State
   standing = stateOf c handles holders handed
 
-  pub free-freed : isFreed (kindOf (x .address .kind)) ≡ true → step base (edition1 (base .segments)) standing (freeing dangles h) ≡ refused 13
+  pub free-freed : isFreed (kindOf (x .address .kind)) ≡ true → step base nowhere standing (freeing dangles h) ≡ refused 13
   unfolding freeHandle
   free-freed e = chain dangles h standing ∙ refused-on 13 _ (when-true 13 _ (barred-spent standing h (spent-freed standing h (ap isFreed (coded .kind) ∙ e))))
 
   -- past 13, it is freed as what it is
-  pub free-then : h < handed → isFreed (kindOf (x .address .kind)) ≡ false → step base (edition1 (base .segments)) standing (freeing dangles h) ≡ freedThen (freeCode dangles) (freeAs (kindOf (x .address .kind)) dangles h standing)
+  pub free-then : h < handed → isFreed (kindOf (x .address .kind)) ≡ false → step base nowhere standing (freeing dangles h) ≡ freedThen (freeCode dangles) (freeAs (kindOf (x .address .kind)) dangles h standing)
   unfolding freeHandle
   free-then l live =
       chain dangles h standing

@@ -10,7 +10,6 @@ use lib.ListN.{length, getD, set, length-set}
 use borrow.Author.Tests.{le-leb, lt-leb}
 use Rattle.rules.specs.Notation.{Answer, given, refused, _>>=_, refuse_when_, _▹_, put, first}
 use Rattle.rules.specs.Sizes.{base}
-use Rattle.rules.specs.Slots.{edition1}
 use Rattle.rules.specs.Scopes as rule
 use Rattle.rules.specs.Needs.{Kind, Address, address, freed, allocatedKind, isFreed}
 use Rattle.rules.specs.Frames.{noNeed, State, Handle, kind≔, written≔, Frame, define, forget, Source, write, read, shows, stores, loads, oneLine, unknown, spent, belongs, barred, setHandle, step}
@@ -21,7 +20,7 @@ use Rattle.scopes.specs.View.{view}
 use Rattle.scopes.specs.declared.Scopes.{Scopes}
 use Rattle.needs.specs.Kinds.{kindOf, addressOf}
 use Rattle.handles.specs.Handles.{slotIn, kindIn, handleAt, stateOf, Coded, freedAs}
-use Rattle.frames.specs.Steps.{sourceOf, stepped, loading, LoadsOf, Stands, Works}
+use Rattle.frames.specs.Steps.{nowhere, sourceOf, stepped, loading, LoadsOf, Stands, Works}
 use Rattle.handles.specs.declared.Handle.{Handle as Known}
 use Rattle.frames.specs.declared.steps.Source.{Source as Kept}
 use Rattle.frames.specs.declared.steps.Adds.the-variants.{Nothing, Store, Load}
@@ -119,7 +118,7 @@ module _ (s : Scopes) (handles holders : List ℕ) (handed : ℕ) (stands : Stan
     pub set-freed : setHandle h (standing .handles h ▹ kind≔ freed) standing ≡ stateOf c (set handles h b) holders handed
     set-freed = set-changed b (freedAs x) new refl known freed (standing .handles h .written) refl (sym (coded .written))
 
-    pub forget-works : h < handed → isFreed (kindOf (x .address .kind)) ≡ false → (drained : List ℕ) → Works (forget h) 0x0e s handles holders handed (record { state = s; handed = handed; adds = Nothing }) (set handles h b) holders drained
+    pub forget-works : h < handed → isFreed (kindOf (x .address .kind)) ≡ false → (drained : List ℕ) → Works nowhere (forget h) 0x0e s handles holders handed (record { state = s; handed = handed; adds = Nothing }) (set handles h b) holders drained
     unfolding step
     forget-works l live drained = record {
       does = when-false 13 _ (unbarred standing h refl (unspent standing h l (ap isFreed (coded .kind) ∙ live))) ∙ ap (oneLine (shows 0x0e [])) set-freed;
@@ -129,7 +128,7 @@ module _ (s : Scopes) (handles holders : List ℕ) (handed : ℕ) (stands : Stan
       holders-length = stands .holders-length;
     }
 
-  pub forget-13 : isFreed (kindOf (x .address .kind)) ≡ true → step base (edition1 (base .segments)) standing (forget h) ≡ refused 13
+  pub forget-13 : isFreed (kindOf (x .address .kind)) ≡ true → step base nowhere standing (forget h) ≡ refused 13
   unfolding step
   forget-13 e = when-true 13 _ (barred-spent standing h (spent-freed standing h (ap isFreed (coded .kind) ∙ e)))
 
@@ -137,7 +136,7 @@ module _ (s : Scopes) (handles holders : List ℕ) (handed : ℕ) (stands : Stan
 
   module _ (o : ℕ) (v : Kept) (b : ℕ) (y : Known) (new : Coded b y) (is : addressOf (y .address) ≡ address slot (allocatedKind (kindOf (x .address .kind)))) (written : y .written ≡ true) (l : h < handed) (known : h < length handles)
       (held : standing .handles h .held ≡ true) where
-    pub write-works : (drained : List ℕ) → Works (write h (sourceOf v)) o s handles holders handed (record { state = s; handed = handed; adds = Store (x .address .slot) v }) (set handles h b) holders drained
+    pub write-works : (drained : List ℕ) → Works nowhere (write h (sourceOf v)) o s handles holders handed (record { state = s; handed = handed; adds = Store (x .address .slot) v }) (set handles h b) holders drained
     unfolding step
     write-works drained = record {
       does =
@@ -150,20 +149,20 @@ module _ (s : Scopes) (handles holders : List ℕ) (handed : ℕ) (stands : Stan
       holders-length = stands .holders-length;
     }
 
-  pub write-14 : (v : Source) → h < handed → standing .handles h .held ≡ false → step base (edition1 (base .segments)) standing (write h v) ≡ refused 14
+  pub write-14 : (v : Source) → h < handed → standing .handles h .held ≡ false → step base nowhere standing (write h v) ≡ refused 14
   unfolding step
   write-14 v l e = when-false 13 _ (is-known standing h l) ∙ when-true 14 _ (ap not e)
 
   -- ---- loaded
 
   module _ (f : Frame) (o : ℕ) (loads-it : LoadsOf f o s handles holders handed h) where
-    pub load-14 : standing .handles h .held ≡ false → step base (edition1 (base .segments)) standing f ≡ refused 14
+    pub load-14 : standing .handles h .held ≡ false → step base nowhere standing f ≡ refused 14
     load-14 e = loads-it ∙ when-true 14 _ (ap not e)
 
-    pub load-15 : standing .handles h .held ≡ true → x .written ≡ false → step base (edition1 (base .segments)) standing f ≡ refused 15
+    pub load-15 : standing .handles h .held ≡ true → x .written ≡ false → step base nowhere standing f ≡ refused 15
     load-15 e w = loads-it ∙ when-false 14 _ (ap not e) ∙ when-true 15 _ (ap not (coded .written ∙ w))
 
-    pub load-works : standing .handles h .held ≡ true → x .written ≡ true → (drained : List ℕ) → Works f o s handles holders handed (record { state = s; handed = handed; adds = Load (x .address .slot) }) handles holders drained
+    pub load-works : standing .handles h .held ≡ true → x .written ≡ true → (drained : List ℕ) → Works nowhere f o s handles holders handed (record { state = s; handed = handed; adds = Load (x .address .slot) }) handles holders drained
     load-works e w drained = record {
       does = loads-it ∙ when-false 14 _ (ap not e) ∙ when-false 15 _ (ap not (coded .written ∙ w)) ∙ λ t. oneLine (loads o (coded .slot t)) standing;
       whole = stands .whole;
@@ -175,15 +174,15 @@ module _ (s : Scopes) (handles holders : List ℕ) (handed : ℕ) (stands : Stan
 -- ---- of a handle that was never handed out
 
 module _ (t : State) (h : ℕ) (l : t .handed ≤ h) where
-  pub forget-unknown : step base (edition1 (base .segments)) t (forget h) ≡ refused 13
+  pub forget-unknown : step base nowhere t (forget h) ≡ refused 13
   unfolding step
   forget-unknown = when-true 13 _ (barred-spent t h (spent-unknown t h l))
 
-  pub write-unknown : (v : Source) → step base (edition1 (base .segments)) t (write h v) ≡ refused 13
+  pub write-unknown : (v : Source) → step base nowhere t (write h v) ≡ refused 13
   unfolding step
   write-unknown v = when-true 13 _ (is-unknown t h l)
 
-  pub read-unknown : step base (edition1 (base .segments)) t (read h) ≡ refused 13
+  pub read-unknown : step base nowhere t (read h) ≡ refused 13
   unfolding step
   read-unknown = when-true 13 _ (is-unknown t h l)
 

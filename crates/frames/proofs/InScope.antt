@@ -8,7 +8,7 @@ use native.Mathlib.Omega.{arith}
 use lib.ListN.{getD}
 use Rattle.rules.specs.Notation.{Answer, given, refused, _>>=_}
 use Rattle.rules.specs.Sizes.{base}
-use Rattle.rules.specs.Slots.{edition1}
+use Rattle.rules.specs.Slots.{Place, Placement, placing}
 use Rattle.rules.specs.Scopes as rule
 use Rattle.rules.specs.Scopes.{Found, allocate, byId, byNumber}
 use Rattle.rules.specs.Needs.{scope}
@@ -28,50 +28,53 @@ use Rattle.frames.proofs.Moving.{few-reply, comes-refused}
 use Rattle.frames.proofs.Allotting.{allots}
 use Rattle.frames.proofs.Allocations.{full, id-is}
 
-module _ (s : Scopes) (handles holders : List ℕ) (handed : ℕ) (stands : Stands s handles holders handed) (id : ScopeId) where
+module _ (p : Place) (s : Scopes) (handles holders : List ℕ) (handed : ℕ) (stands : Stands s handles holders handed) (id : ScopeId) where
   abbrev c : rule.Scopes
   c = view s
 
   abbrev standing : State
   standing = stateOf c handles holders handed
 
-  pub in-refused : (n : ℕ) (r : Reached) → r ≡ record { state = s; handed = handed; adds = Refused n } → ((o : ℕ) → allottedIn (idOf id) o standing ≡ refused n) → AllotsOne (idOf id) s handles holders handed r handles holders
+  abbrev place : Placement
+  place = placing (base .segments) p
+
+  pub in-refused : (n : ℕ) (r : Reached) → r ≡ record { state = s; handed = handed; adds = Refused n } → ((o : ℕ) → allottedIn place (idOf id) o standing ≡ refused n) → AllotsOne place (idOf id) s handles holders handed r handles holders
   in-refused n r is e = record {
     comes = λ o drained. comes-refused s handles holders handed stands _ o n r is (e o) drained;
     hands = λ q. clash (ap (λ (x : Reached). isRefused (x .adds)) is) q;
   }
 
-  pub in-4 : byId base c (idOf id) ≡ none → (o : ℕ) → allottedIn (idOf id) o standing ≡ refused 4
+  pub in-4 : byId base c (idOf id) ≡ none → (o : ℕ) → allottedIn place (idOf id) o standing ≡ refused 4
   unfolding allottedIn
   in-4 e o = unless-none 4 _ e
 
   module _ (k : Found) (e : byId base c (idOf id) ≡ some k) where
-    pub in-16 : 2048 ≤ handed → (o : ℕ) → allottedIn (idOf id) o standing ≡ refused 16
+    pub in-16 : 2048 ≤ handed → (o : ℕ) → allottedIn place (idOf id) o standing ≡ refused 16
     unfolding allottedIn
-    in-16 l o = unless-some 4 _ e ∙ refused-on 16 _ (full s handles holders handed stands k (scope (idOf id)) 1 (omega arith))
+    in-16 l o = unless-some 4 _ e ∙ refused-on 16 _ (full p s handles holders handed stands k (scope (idOf id)) 1 (omega arith))
 
-    pub in-seen : (o : Outcome) → seen o ≡ told at c (rule.allocIn (edition1 (base .segments)) (byId base c (idOf id)) c) → seen o ≡ told at c (allocate (edition1 (base .segments)) k 1 c)
+    pub in-seen : (o : Outcome) → seen o ≡ told at c (rule.allocIn place (byId base c (idOf id)) c) → seen o ≡ told at c (allocate place k 1 c)
     unfolding rule.allocIn
     in-seen o q = q ∙ ap (told at c) (unless-some 4 _ e)
 
-    module _ (o : Outcome) (r : Reached) (handles′ holders′ : List ℕ) (q : seen o ≡ told at c (allocate (edition1 (base .segments)) k 1 c))
+    module _ (o : Outcome) (r : Reached) (handles′ holders′ : List ℕ) (q : seen o ≡ told at c (allocate place k 1 c))
         (g : Grants (o .reply) handed 1 (kind.Scope id) (r .handed) (r .adds) handles handles′ holders holders′) where
       -- the handle that was handed out
       granted-kind : isRefused (r .adds) ≡ false → kindIn (getD handles′ handed 0) ≡ scope (idOf id)
-      granted-kind u = go (allocate (edition1 (base .segments)) k 1 c) refl
+      granted-kind u = go (allocate place k 1 c) refl
         where
-          go : (m : Answer (ℕ × rule.Scopes)) → allocate (edition1 (base .segments)) k 1 c ≡ m → kindIn (getD handles′ handed 0) ≡ scope (idOf id)
+          go : (m : Answer (ℕ × rule.Scopes)) → allocate place k 1 c ≡ m → kindIn (getD handles′ handed 0) ≡ scope (idOf id)
           go (given x) p =
               let says : o .reply ≡ at (x .0) = ap (λ (y : Seen). y .says) (q ∙ ap (told at c) p) in
               let next : handed + 0 ≡ handed = omega arith in
               subst (λ (h : ℕ). kindIn (getD handles′ h 0) ≡ scope (idOf id)) next (g .hands (record { 0 = x .0 }) says .1 .kinds 0 (omega arith))
           go (refused n) p = clash (ap isRefused (g .says ∙ ap addsOf (ap (λ (y : Seen). y .says) (q ∙ ap (told at c) p)))) u
 
-      pub in-granted : handed + 1 ≤ 2048 → Whole (o .state) → r .state ≡ o .state → AllotsOne (idOf id) s handles holders handed r handles′ holders′
+      pub in-granted : handed + 1 ≤ 2048 → Whole (o .state) → r .state ≡ o .state → AllotsOne place (idOf id) s handles holders handed r handles′ holders′
       unfolding allottedIn
       in-granted fits ok same = record {
         comes = λ op drained. record {
-          does = unless-some 4 _ e ∙ allots s handles holders handed stands k (kind.Scope id) 1 o r handles′ holders′ drained fits q same g op;
+          does = unless-some 4 _ e ∙ allots p s handles holders handed stands k (kind.Scope id) 1 o r handles′ holders′ drained fits q same g op;
           whole = subst Whole (sym same) ok;
           few = subst Few (sym (g .says)) (few-reply (o .reply));
           handles-length = g .handles-length;
@@ -81,13 +84,13 @@ module _ (s : Scopes) (handles holders : List ℕ) (handed : ℕ) (stands : Stan
       }
 
   -- 07, where `id` is the id that the number n means
-  pub by-number : (n : ℕ) → byId base c (idOf id) ≡ byNumber base c n → step base (edition1 (base .segments)) standing (allocIn n) ≡ allottedIn (idOf id) 0x07 standing
+  pub by-number : (n : ℕ) → byId base c (idOf id) ≡ byNumber base c n → step base place standing (allocIn n) ≡ allottedIn place (idOf id) 0x07 standing
   unfolding step allottedIn
   by-number n is = go (byNumber base c n) refl
     where
-      go : (x : Option Found) → byNumber base c n ≡ x → step base (edition1 (base .segments)) standing (allocIn n) ≡ allottedIn (idOf id) 0x07 standing
+      go : (x : Option Found) → byNumber base c n ≡ x → step base place standing (allocIn n) ≡ allottedIn place (idOf id) 0x07 standing
       go none q = unless-none 4 _ q ∙ sym (unless-none 4 _ (is ∙ q))
       go (some k) q =
           unless-some 4 _ q
-          ∙ (λ t. allot base (edition1 (base .segments)) k (scope (sym (id-is c (idOf id) k (is ∙ q)) t)) 1 standing >>= λ x. oneLine (shows 0x07 (x .0 ∷ [])) (x .1))
+          ∙ (λ t. allot base place k (scope (sym (id-is c (idOf id) k (is ∙ q)) t)) 1 standing >>= λ x. oneLine (shows 0x07 (x .0 ∷ [])) (x .1))
           ∙ sym (unless-some 4 _ (is ∙ q))

@@ -8,7 +8,7 @@ use Prim.Native.Nat.{ℕ, _%_, _<_}
 use native.Mathlib.Omega.{arith}
 use Rattle.rules.specs.Notation.{Answer, given, refused, _>>=_, _▹_}
 use Rattle.rules.specs.Sizes.{base}
-use Rattle.rules.specs.Slots.{Slots, edition1, removeAll}
+use Rattle.rules.specs.Slots.{Slots, Placement, removeAll}
 use Rattle.rules.specs.AddressSets.{member}
 use Rattle.rules.specs.Scopes as rule
 use Rattle.rules.specs.Scopes.{Found}
@@ -29,7 +29,7 @@ use Rattle.scopes.specs.declared.Outcome.{Outcome}
 use Rattle.scopes.specs.declared.Reply.{Reply}
 use Rattle.scopes.specs.declared.Reply.the-variants as reply
 use Rattle.handles.specs.Handles.{handleAt, stateOf}
-use Rattle.frames.specs.Steps.{stepped, addsOf, Few, Stands, Works, Comes, Reached}
+use Rattle.frames.specs.Steps.{nowhere, stepped, addsOf, Few, Stands, Works, Comes, Reached}
 use Rattle.frames.specs.declared.steps.Adds.the-variants.{Refused}
 use Rattle.handles.proofs.Changes.{closing}
 
@@ -109,7 +109,7 @@ module _ (s : Scopes) (handles holders : List ℕ) (handed : ℕ) (stands : Stan
       (λ e. removeAll-stays gone a (c .slots) e ∙ sym e))
 
   module _ (drained : List ℕ) (d : rule.Scopes) (y : Reply) where
-    pub child-does : record { next = d; says = y } ≡ told opened c (rule.openChild base c) → step base (edition1 (base .segments)) (stateOf c handles holders handed) child ≡ stepped 0x01 (addsOf y) (stateOf d handles holders handed) drained
+    pub child-does : record { next = d; says = y } ≡ told opened c (rule.openChild base c) → step base nowhere (stateOf c handles holders handed) child ≡ stepped 0x01 (addsOf y) (stateOf d handles holders handed) drained
     unfolding step
     child-does e =
         told-does c handles holders handed drained 0x01 d y opened (λ i. shows 0x01 (i .number ∷ [])) (rule.openChild base c) e
@@ -118,26 +118,26 @@ module _ (s : Scopes) (handles holders : List ℕ) (handed : ℕ) (stands : Stan
         let n : x .0 .number ≡ x .0 .number % 65536 = omega (arith, child-leaves base c .at x q .0, stands .counted) in
         λ u. oneLine (shows 0x01 (n u ∷ [])) t)
 
-    pub dangle-does : (n : ℕ) {x : Option Found} → x ≡ rule.byNumber base c n → record { next = d; says = y } ≡ toldOnly c (rule.dangleScope x c) → step base (edition1 (base .segments)) (stateOf c handles holders handed) (dangle n) ≡ stepped 0x03 (addsOf y) (stateOf d handles holders handed) drained
+    pub dangle-does : (n : ℕ) {x : Option Found} → x ≡ rule.byNumber base c n → record { next = d; says = y } ≡ toldOnly c (rule.dangleScope x c) → step base nowhere (stateOf c handles holders handed) (dangle n) ≡ stepped 0x03 (addsOf y) (stateOf d handles holders handed) drained
     unfolding step
     dangle-does n is q =
         let e = q ∙ ap (λ (x : Option Found). toldOnly c (rule.dangleScope x c)) is in
         only-does c handles holders handed drained 0x03 d y (rule.dangleScope (rule.byNumber base c n) c) e (λ x q. dangle-leaves c (rule.byNumber base c n) .at x q .slots-are)
 
-    pub restore-does : (n : ℕ) {x : Option Found} → x ≡ rule.byNumber base c n → record { next = d; says = y } ≡ toldOnly c (rule.restoreScope x c) → step base (edition1 (base .segments)) (stateOf c handles holders handed) (restore n) ≡ stepped 0x04 (addsOf y) (stateOf d handles holders handed) drained
+    pub restore-does : (n : ℕ) {x : Option Found} → x ≡ rule.byNumber base c n → record { next = d; says = y } ≡ toldOnly c (rule.restoreScope x c) → step base nowhere (stateOf c handles holders handed) (restore n) ≡ stepped 0x04 (addsOf y) (stateOf d handles holders handed) drained
     unfolding step
     restore-does n is q =
         let e = q ∙ ap (λ (x : Option Found). toldOnly c (rule.restoreScope x c)) is in
         only-does c handles holders handed drained 0x04 d y (rule.restoreScope (rule.byNumber base c n) c) e (λ x q. restore-leaves c (rule.byNumber base c n) .at x q .slots-are)
 
-    pub pop-does : (n : ℕ) {x : Option Found} → x ≡ rule.byNumber base c n → record { next = d; says = y } ≡ toldOnly c (rule.popScope base x c) → step base (edition1 (base .segments)) (stateOf c handles holders handed) (pop n) ≡ stepped 0x02 (addsOf y) (stateOf d handles holders handed) drained
+    pub pop-does : (n : ℕ) {x : Option Found} → x ≡ rule.byNumber base c n → record { next = d; says = y } ≡ toldOnly c (rule.popScope base x c) → step base nowhere (stateOf c handles holders handed) (pop n) ≡ stepped 0x02 (addsOf y) (stateOf d handles holders handed) drained
     unfolding step rule.popScope
     pop-does n is q =
         let e = q ∙ ap (λ (x : Option Found). toldOnly c (rule.popScope base x c)) is in
         close-does c handles holders handed drained 0x02 d y (rule.poppable base (rule.byNumber base c n) c) e
         (λ k q. closes k (poppable-is base c (stands .state .scopes) (rule.byNumber base c n) (number-here base c n) .at k q .0))
 
-    pub pop-last-does : record { next = d; says = y } ≡ toldOnly c (rule.popLastScope base c) → step base (edition1 (base .segments)) (stateOf c handles holders handed) popLast ≡ stepped 0x05 (addsOf y) (stateOf d handles holders handed) drained
+    pub pop-last-does : record { next = d; says = y } ≡ toldOnly c (rule.popLastScope base c) → step base nowhere (stateOf c handles holders handed) popLast ≡ stepped 0x05 (addsOf y) (stateOf d handles holders handed) drained
     unfolding step rule.popLastScope
     pop-last-does e =
         close-does c handles holders handed drained 0x05 d y (rule.lastPoppable base c) e
@@ -146,10 +146,10 @@ module _ (s : Scopes) (handles holders : List ℕ) (handed : ℕ) (stands : Stan
 -- ---- a step that ended with the outcome o, and left the tables alone
 
 pub ended-works : (s : Scopes) (handles holders : List ℕ) (handed : ℕ) → Stands s handles holders handed → (o : Outcome) → Whole (o .state) → (r : Reached) → r ≡ record { state = o .state; handed = handed; adds = addsOf (o .reply) }
-    → (f : Frame) (op : ℕ) (drained : List ℕ) → step base (edition1 (base .segments)) (stateOf (view s) handles holders handed) f ≡ stepped op (addsOf (o .reply)) (stateOf (view (o .state)) handles holders handed) drained
-    → Works f op s handles holders handed r handles holders drained
+    → (f : Frame) (op : ℕ) (drained : List ℕ) → step base nowhere (stateOf (view s) handles holders handed) f ≡ stepped op (addsOf (o .reply)) (stateOf (view (o .state)) handles holders handed) drained
+    → Works nowhere f op s handles holders handed r handles holders drained
 ended-works s handles holders handed stands o ok r is f op drained e =
-    subst (λ (x : Reached). Works f op s handles holders handed x handles holders drained) (sym is)
+    subst (λ (x : Reached). Works nowhere f op s handles holders handed x handles holders drained) (sym is)
     (record { does = e; whole = ok; few = few-reply (o .reply); handles-length = stands .handles-length; holders-length = stands .holders-length })
 
 -- ---- what several frames do
@@ -165,7 +165,7 @@ module _ (s : Scopes) (handles holders : List ℕ) (handed : ℕ) where
       (record { does = e; whole = stands .whole; few = tt; handles-length = stands .handles-length; holders-length = stands .holders-length })
 
   -- a frame that does just that
-  pub works-by : (f : Frame) (o : ℕ) (m : Step) (r : Reached) (handles′ holders′ drained : List ℕ) → step base (edition1 (base .segments)) (stateOf (view s) handles holders handed) f ≡ m
-      → Comes m o r handles′ holders′ drained → Works f o s handles holders handed r handles′ holders′ drained
+  pub works-by : {place : Placement} (f : Frame) (o : ℕ) (m : Step) (r : Reached) (handles′ holders′ drained : List ℕ) → step base place (stateOf (view s) handles holders handed) f ≡ m
+      → Comes m o r handles′ holders′ drained → Works place f o s handles holders handed r handles′ holders′ drained
   works-by f o m r handles′ holders′ drained e w =
       record { does = e ∙ w .does; whole = w .whole; few = w .few; handles-length = w .handles-length; holders-length = w .holders-length }

@@ -9,7 +9,6 @@ use lib.ListN.{length, getD, set, length-set}
 use borrow.Author.Tests.{le-leb, lt-leb}
 use Rattle.rules.specs.Notation.{_>>=_, refuse_when_}
 use Rattle.rules.specs.Sizes.{base}
-use Rattle.rules.specs.Slots.{edition1}
 use Rattle.rules.specs.Scopes as rule
 use Rattle.rules.specs.Scopes.{byId, byNumber}
 use Rattle.rules.specs.Needs.{outputOf}
@@ -24,7 +23,7 @@ use Rattle.needs.specs.declared.OutputAnswer.the-variants as output
 use Rattle.handles.specs.Handles.{handleAt}
 use Rattle.handles.specs.NeedTable.{needIn, Needing, table, stateWith}
 use Rattle.handles.proofs.NeedTables.{need-set}
-use Rattle.frames.specs.Steps.{stepped, Few}
+use Rattle.frames.specs.Steps.{nowhere, stepped, Few}
 use Rattle.frames.specs.Needing.{StandsWith, WorksWith, AddsNeed, shownOf}
 use Rattle.frames.specs.declared.steps.Adds.{Adds}
 use Rattle.frames.specs.declared.steps.Adds.the-variants.{One, Refused}
@@ -62,8 +61,8 @@ module _ (s : Scopes) (handles holders : List ℕ) (handed : ℕ) (t : Needing) 
   standing = stateWith (view s) handles holders handed t
 
   pub makes : (x y : Remembered) → x ≡ y → (adds : Adds) (t′ : Needing) → AddsNeed x t adds t′
-      → step base (edition1 (base .segments)) standing f ≡ (addNeed base y standing >>= λ u. oneLine (shows o (t .needed ∷ [])) u) → (drained : List ℕ)
-      → WorksWith f o s handles holders handed t (record { state = s; handed = handed; adds = adds }) handles holders t′ drained
+      → step base nowhere standing f ≡ (addNeed base y standing >>= λ u. oneLine (shows o (t .needed ∷ [])) u) → (drained : List ℕ)
+      → WorksWith nowhere f o s handles holders handed t (record { state = s; handed = handed; adds = adds }) handles holders t′ drained
   makes x y q adds t′ a e drained = record {
     does = e ∙ ap (λ (z : Remembered). addNeed base z standing >>= λ u. oneLine (shows o (t .needed ∷ [])) u) (sym q) ∙ a .does (view s) handles holders handed o drained;
     whole = stands .stands .whole;
@@ -109,7 +108,7 @@ module _ (t : State) (n : ℕ) where
 
 module _ (s : Scopes) (handles holders : List ℕ) (handed : ℕ) (t : Needing) (stands : StandsWith s handles holders handed t) (n : ℕ) where
   pub output-works : n < t .needed → isGone (needIn (getD (t .needs) n 0)) ≡ false → (a : OutputAnswer) → outputSays a ≡ outputOf (needIn (getD (t .needs) n 0)) → (adds : Adds) → adds ≡ shownOf a → (drained : List ℕ)
-      → WorksWith (outputNeed n) 0x24 s handles holders handed t (record { state = s; handed = handed; adds = adds }) handles holders t drained
+      → WorksWith nowhere (outputNeed n) 0x24 s handles holders handed t (record { state = s; handed = handed; adds = adds }) handles holders t drained
   unfolding step
   output-works l g a e adds q drained = record {
     does =

@@ -8,7 +8,7 @@ use native.Mathlib.Omega.{arith}
 use lib.ListN.{length, getD, set, length-set}
 use Rattle.rules.specs.Notation.{Answer, given, refused, _>>=_, refuse_unless_, if_then_else_, _▹_, put}
 use Rattle.rules.specs.Sizes.{Room, base}
-use Rattle.rules.specs.Slots.{Placement, edition1}
+use Rattle.rules.specs.Slots.{Placement}
 use Rattle.rules.specs.Scopes as rule
 use Rattle.rules.specs.Scopes.{Id, Found, byId}
 use Rattle.rules.specs.Needs.{Kind, scope, Address, Need, defer, at, ignore, freedNeed, allocatedKind}
@@ -45,12 +45,9 @@ allot-own room place k kind s = all-when 16 _ λ _. all-then λ r _. all-given
     let b = ap (λ (x : Handle). x .kind) g in
     λ t. record { need = at (record { slot = a t; kind = b t }); handle = s .handed })
 
-module _ (needs : ℕ → Remembered) (needed : ℕ) (bare : State) (n : ℕ) (there : n < needed) where
+module _ (place : Placement) (needs : ℕ → Remembered) (needed : ℕ) (bare : State) (n : ℕ) (there : n < needed) where
   abbrev standing : State
   standing = within needs needed bare
-
-  abbrev place : Placement
-  place = edition1 (base .segments)
 
   -- ---- 23 of a deferred need
 
@@ -64,12 +61,12 @@ module _ (needs : ℕ → Remembered) (needed : ℕ) (bare : State) (n : ℕ) (t
         when-false 21 _ (not-lost standing n there (ap isGone is))
         ∙ ap (λ (d : Need). allotNeed base place n standing d >>= λ r. oneLine (shows 0x23 (slotShown (r .0) ∷ [])) (r .1)) is
 
-    pub first-is : step base place standing (allocNeed n) ≡ mapped (λ r. (r .0, owned (r .1))) (allottedIn id 0x23 bare)
+    pub first-is : step base place standing (allocNeed n) ≡ mapped (λ r. (r .0, owned (r .1))) (allottedIn place id 0x23 bare)
     unfolding allotNeed allottedIn mapped _>>=_ refuse_unless_
     first-is = opens ∙ go (byId base (bare .scopes) id) refl
       where
         slots : (k : Found) → byId base (bare .scopes) id ≡ some k → (m : Answer (ℕ × State)) → allot base place k (scope id) 1 bare ≡ m
-            → (allotNeed base place n standing (defer id) >>= λ r. oneLine (shows 0x23 (slotShown (r .0) ∷ [])) (r .1)) ≡ mapped (λ r. (r .0, owned (r .1))) (allottedIn id 0x23 bare)
+            → (allotNeed base place n standing (defer id) >>= λ r. oneLine (shows 0x23 (slotShown (r .0) ∷ [])) (r .1)) ≡ mapped (λ r. (r .0, owned (r .1))) (allottedIn place id 0x23 bare)
         slots k e (refused x) q = rw (e, allot-moves needs needed base place bare k (scope id) 1 .is, q, allotNeed, allottedIn)
         slots k e (given r) q =
             let o = allot-own base place k (scope id) bare .at r q in
@@ -77,7 +74,7 @@ module _ (needs : ℕ → Remembered) (needed : ℕ) (bare : State) (n : ℕ) (t
             (λ t. oneLine (shows 0x23 (r .0 ∷ [])) (within needs needed (r .1) ▹ setNeed n (sym o t)))
 
         go : (x : Option Found) → byId base (bare .scopes) id ≡ x
-            → (allotNeed base place n standing (defer id) >>= λ r. oneLine (shows 0x23 (slotShown (r .0) ∷ [])) (r .1)) ≡ mapped (λ r. (r .0, owned (r .1))) (allottedIn id 0x23 bare)
+            → (allotNeed base place n standing (defer id) >>= λ r. oneLine (shows 0x23 (slotShown (r .0) ∷ [])) (r .1)) ≡ mapped (λ r. (r .0, owned (r .1))) (allottedIn place id 0x23 bare)
         go none e = rw (e, allotNeed, allottedIn)
         go (some k) e = slots k e (allot base place k (scope id) 1 bare) refl
 
@@ -144,24 +141,30 @@ module _ (c : rule.Scopes) (handles holders : List ℕ) (handed : ℕ) (t : Need
 -- ---- steps
 
 module _ (s : Scopes) (handles holders : List ℕ) (handed : ℕ) (t : Needing) (stands : StandsWith s handles holders handed t) (n : ℕ) where
-  abbrev here : State
-  here = stateWith (view s) handles holders handed t
-
   pub below : n < t .needed → n < 64
   unfolding base
   below l = omega (arith, stands .needing .few)
 
-  pub need-21 : (f : Frame) (o : ℕ) (r : Reached) → r ≡ record { state = s; handed = handed; adds = Refused 21 } → (lost here n ≡ true → step base (edition1 (base .segments)) here f ≡ refused 21)
-      → t .needed ≤ n → (drained : List ℕ) → WorksWith f o s handles holders handed t r handles holders t drained
+  -- the handle of a need that has one of its own was handed out
+  pub own-handed : n < t .needed → (d : Need) → d ≡ needIn (getD (t .needs) n 0) → owns d ≡ true → getD (t .remembers) n 0 < handed
+  own-handed there d is e =
+      own-known (handleAt (view s .slots .occupied) handles holders) handed (getD (t .remembers) n 0) (needIn (getD (t .needs) n 0)) (stands .needing .agree n there) (sym (ap owns is) ∙ e)
+
+module _ (place : Placement) (s : Scopes) (handles holders : List ℕ) (handed : ℕ) (t : Needing) (stands : StandsWith s handles holders handed t) (n : ℕ) where
+  abbrev here : State
+  here = stateWith (view s) handles holders handed t
+
+  pub need-21 : (f : Frame) (o : ℕ) (r : Reached) → r ≡ record { state = s; handed = handed; adds = Refused 21 } → (lost here n ≡ true → step base place here f ≡ refused 21)
+      → t .needed ≤ n → (drained : List ℕ) → WorksWith place f o s handles holders handed t r handles holders t drained
   need-21 f o r is e l drained = refused-with s handles holders handed t stands f o 21 r is (e (lost-unknown here n l)) drained
 
   module _ (there : n < t .needed) where
-    pub gone-21 : (f : Frame) (o : ℕ) (r : Reached) → r ≡ record { state = s; handed = handed; adds = Refused 21 } → (lost here n ≡ true → step base (edition1 (base .segments)) here f ≡ refused 21)
-        → isGone (needIn (getD (t .needs) n 0)) ≡ true → (drained : List ℕ) → WorksWith f o s handles holders handed t r handles holders t drained
+    pub gone-21 : (f : Frame) (o : ℕ) (r : Reached) → r ≡ record { state = s; handed = handed; adds = Refused 21 } → (lost here n ≡ true → step base place here f ≡ refused 21)
+        → isGone (needIn (getD (t .needs) n 0)) ≡ true → (drained : List ℕ) → WorksWith place f o s handles holders handed t r handles holders t drained
     gone-21 f o r is e g drained = refused-with s handles holders handed t stands f o 21 r is (e (lost-gone here n there g)) drained
 
     -- 23 of a need that is no deferred one: nothing changes
-    again-same : (a : Address) → needIn (getD (t .needs) n 0) ≡ at a → allotNeed base (edition1 (base .segments)) n here (at a) ≡ given (some (a .slot), here)
+    again-same : (a : Address) → needIn (getD (t .needs) n 0) ≡ at a → allotNeed base place n here (at a) ≡ given (some (a .slot), here)
     unfolding allotNeed setNeed
     again-same a e =
         let f = rememberedAt (t .needs) (t .remembers) in
@@ -170,13 +173,13 @@ module _ (s : Scopes) (handles holders : List ℕ) (handed : ℕ) (t : Needing) 
         let p : f ≡ put f n (record { need = at (record { slot = a .slot; kind = allocatedKind (a .kind) }); handle = getD (t .remembers) n 0 }) = put-ext f n _ f x (λ j _. refl) in
         λ u. given (some (a .slot), record { scopes = view s; handles = handleAt (view s .slots .occupied) handles holders; handed = handed; needs = sym p u; needed = t .needed })
 
-    shown-with : (a : Option ℕ) (d : Need) → needIn (getD (t .needs) n 0) ≡ d → isGone d ≡ false → allotNeed base (edition1 (base .segments)) n here d ≡ given (a, here) → (drained : List ℕ)
-        → WorksWith (allocNeed n) 0x23 s handles holders handed t (record { state = s; handed = handed; adds = One (slotShown a) }) handles holders t drained
+    shown-with : (a : Option ℕ) (d : Need) → needIn (getD (t .needs) n 0) ≡ d → isGone d ≡ false → allotNeed base place n here d ≡ given (a, here) → (drained : List ℕ)
+        → WorksWith place (allocNeed n) 0x23 s handles holders handed t (record { state = s; handed = handed; adds = One (slotShown a) }) handles holders t drained
     unfolding step _>>=_
     shown-with a d is g e drained = record {
       does =
           when-false 21 _ (not-lost here n there (ap isGone is ∙ g))
-          ∙ (λ u. allotNeed base (edition1 (base .segments)) n here (is u) >>= λ r. oneLine (shows 0x23 (slotShown (r .0) ∷ [])) (r .1))
+          ∙ (λ u. allotNeed base place n here (is u) >>= λ r. oneLine (shows 0x23 (slotShown (r .0) ∷ [])) (r .1))
           ∙ λ u. e u >>= λ r. oneLine (shows 0x23 (slotShown (r .0) ∷ [])) (r .1);
       whole = stands .stands .whole;
       few = tt;
@@ -187,10 +190,10 @@ module _ (s : Scopes) (handles holders : List ℕ) (handed : ℕ) (t : Needing) 
     }
 
     pub again-works : (a : Address) → needIn (getD (t .needs) n 0) ≡ at a → (drained : List ℕ)
-        → WorksWith (allocNeed n) 0x23 s handles holders handed t (record { state = s; handed = handed; adds = One (a .slot) }) handles holders t drained
+        → WorksWith place (allocNeed n) 0x23 s handles holders handed t (record { state = s; handed = handed; adds = One (a .slot) }) handles holders t drained
     again-works a e drained = shown-with (some (a .slot)) (at a) e refl (again-same a e) drained
 
-    pub ignored-works : needIn (getD (t .needs) n 0) ≡ ignore → (drained : List ℕ) → WorksWith (allocNeed n) 0x23 s handles holders handed t (record { state = s; handed = handed; adds = One 0xffff }) handles holders t drained
+    pub ignored-works : needIn (getD (t .needs) n 0) ≡ ignore → (drained : List ℕ) → WorksWith place (allocNeed n) 0x23 s handles holders handed t (record { state = s; handed = handed; adds = One 0xffff }) handles holders t drained
     unfolding allotNeed
     ignored-works e drained = shown-with none ignore e refl refl drained
 
@@ -200,17 +203,17 @@ module _ (s : Scopes) (handles holders : List ℕ) (handed : ℕ) (t : Needing) 
     bare = stateOf (view s) handles holders handed
 
     inside : (n < length (t .needs)) × (n < length (t .remembers))
-    inside = let room = below there in (omega (arith, stands .needs-length), omega (arith, stands .remembers-length))
+    inside = let room = below s handles holders handed t stands n there in (omega (arith, stands .needs-length), omega (arith, stands .remembers-length))
 
-    module _ (id : Id) (is : needIn (getD (t .needs) n 0) ≡ defer id) (r : Reached) (handles′ holders′ : List ℕ) (a : AllotsOne id s handles holders handed r handles′ holders′) (drained : List ℕ) where
-      first-to : (t′ : Needing) → (isRefused (r .adds) ≡ false → owned (rememberedAt (t .needs) (t .remembers)) (t .needed) bare n there id is (stateOf (view (r .state)) handles′ holders′ (r .handed)) ≡ stateWith (view (r .state)) handles′ holders′ (r .handed) t′)
-          → length (t′ .needs) ≡ 64 → length (t′ .remembers) ≡ 64 → WorksWith (allocNeed n) 0x23 s handles holders handed t r handles′ holders′ t′ drained
-      first-to = beside s handles holders handed t stands (allocNeed n) 0x23 _ _ (first-is (rememberedAt (t .needs) (t .remembers)) (t .needed) bare n there id is) r handles′ holders′ drained (a .comes 0x23 drained)
+    module _ (id : Id) (is : needIn (getD (t .needs) n 0) ≡ defer id) (r : Reached) (handles′ holders′ : List ℕ) (a : AllotsOne place id s handles holders handed r handles′ holders′) (drained : List ℕ) where
+      first-to : (t′ : Needing) → (isRefused (r .adds) ≡ false → owned place (rememberedAt (t .needs) (t .remembers)) (t .needed) bare n there id is (stateOf (view (r .state)) handles′ holders′ (r .handed)) ≡ stateWith (view (r .state)) handles′ holders′ (r .handed) t′)
+          → length (t′ .needs) ≡ 64 → length (t′ .remembers) ≡ 64 → WorksWith place (allocNeed n) 0x23 s handles holders handed t r handles′ holders′ t′ drained
+      first-to = beside s handles holders handed t stands (allocNeed n) 0x23 _ _ (first-is place (rememberedAt (t .needs) (t .remembers)) (t .needed) bare n there id is) r handles′ holders′ drained (a .comes 0x23 drained)
 
-      pub first-refused : isRefused (r .adds) ≡ true → WorksWith (allocNeed n) 0x23 s handles holders handed t r handles′ holders′ t drained
+      pub first-refused : isRefused (r .adds) ≡ true → WorksWith place (allocNeed n) 0x23 s handles holders handed t r handles′ holders′ t drained
       first-refused e = first-to t (λ q. clash e q) (stands .needs-length) (stands .remembers-length)
 
-      pub first-works : isRefused (r .adds) ≡ false → WorksWith (allocNeed n) 0x23 s handles holders handed t r handles′ holders′ (table (set (t .needs) n (getD handles′ handed 0)) (set (t .remembers) n handed) (t .needed)) drained
+      pub first-works : isRefused (r .adds) ≡ false → WorksWith place (allocNeed n) 0x23 s handles holders handed t r handles′ holders′ (table (set (t .needs) n (getD handles′ handed 0)) (set (t .remembers) n handed) (t .needed)) drained
       first-works e =
           first-to _ (λ _. set-own (view (r .state)) handles′ holders′ (r .handed) t n (inside .0) (inside .1) handed (ap isScopeKind (a .hands e .1)))
           (simp length-set (stands .needs-length)) (simp length-set (stands .remembers-length))
@@ -218,20 +221,15 @@ module _ (s : Scopes) (handles holders : List ℕ) (handed : ℕ) (t : Needing) 
     module _ (d : Need) (is : d ≡ needIn (getD (t .needs) n 0)) (kept : isGone d ≡ false) (r : Reached) (handles′ : List ℕ) (drained : List ℕ)
         (w : Comes (freedThen 0x25 (freeOwn (getD (t .remembers) n 0) bare d)) 0x25 r handles′ holders drained) where
       drop-to : (t′ : Needing) → (isRefused (r .adds) ≡ false → (within (rememberedAt (t .needs) (t .remembers)) (t .needed) (stateOf (view (r .state)) handles′ holders (r .handed)) ▹ setNeed n noNeed) ≡ stateWith (view (r .state)) handles′ holders (r .handed) t′)
-          → length (t′ .needs) ≡ 64 → length (t′ .remembers) ≡ 64 → WorksWith (dropNeed n) 0x25 s handles holders handed t r handles′ holders t′ drained
+          → length (t′ .needs) ≡ 64 → length (t′ .remembers) ≡ 64 → WorksWith place (dropNeed n) 0x25 s handles holders handed t r handles′ holders t′ drained
       drop-to =
-          beside s handles holders handed t stands (dropNeed n) 0x25 _ _ (drop-is (rememberedAt (t .needs) (t .remembers)) (t .needed) bare n there (sym (ap isGone is) ∙ kept)) r handles′ holders drained
+          beside s handles holders handed t stands (dropNeed n) 0x25 _ _ (drop-is place (rememberedAt (t .needs) (t .remembers)) (t .needed) bare n there (sym (ap isGone is) ∙ kept)) r handles′ holders drained
           (comes-by 0x25 r handles′ holders drained (λ u. freedThen 0x25 (freeOwn (getD (t .remembers) n 0) bare (sym is u))) w)
 
-      pub drop-refused : isRefused (r .adds) ≡ true → WorksWith (dropNeed n) 0x25 s handles holders handed t r handles′ holders t drained
+      pub drop-refused : isRefused (r .adds) ≡ true → WorksWith place (dropNeed n) 0x25 s handles holders handed t r handles′ holders t drained
       drop-refused e = drop-to t (λ q. clash e q) (stands .needs-length) (stands .remembers-length)
 
-      pub drop-works : WorksWith (dropNeed n) 0x25 s handles holders handed t r handles′ holders (table (set (t .needs) n 0) (set (t .remembers) n 0) (t .needed)) drained
+      pub drop-works : WorksWith place (dropNeed n) 0x25 s handles holders handed t r handles′ holders (table (set (t .needs) n 0) (set (t .remembers) n 0) (t .needed)) drained
       drop-works =
           drop-to _ (λ _. set-gone (view (r .state)) handles′ holders (r .handed) t n (inside .0) (inside .1))
           (simp length-set (stands .needs-length)) (simp length-set (stands .remembers-length))
-
-    -- the handle of a need that has one of its own was handed out
-    pub own-handed : (d : Need) → d ≡ needIn (getD (t .needs) n 0) → owns d ≡ true → getD (t .remembers) n 0 < handed
-    own-handed d is e =
-        own-known (handleAt (view s .slots .occupied) handles holders) handed (getD (t .remembers) n 0) (needIn (getD (t .needs) n 0)) (stands .needing .agree n there) (sym (ap owns is) ∙ e)

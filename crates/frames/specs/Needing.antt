@@ -7,7 +7,7 @@ use lib.ListN.{length}
 use denote.Ref.{RefT, now}
 use Rattle.rules.specs.Notation.{_>>=_}
 use Rattle.rules.specs.Sizes.{base}
-use Rattle.rules.specs.Slots.{edition1}
+use Rattle.rules.specs.Slots.{Placement}
 use Rattle.rules.specs.Scopes as scope
 use Rattle.rules.specs.Needs.{Kind, freed, Need, defer, at, ignore, freedNeed}
 use Rattle.rules.specs.Frames as rules
@@ -16,12 +16,12 @@ use Rattle.rules.proofs.Sound.{NeedsSound}
 use Rattle.scopes.specs.declared.Numbers.{Numbers}
 use Rattle.scopes.specs.declared.Scopes.{Scopes}
 use Rattle.scopes.specs.View.{view}
-use Rattle.scopes.specs.Lent.{Whole}
+use Rattle.scopes.specs.Lent.{Whole, LentArray}
 use Rattle.needs.specs.declared.OutputAnswer.{OutputAnswer}
 use Rattle.needs.specs.declared.OutputAnswer.the-variants as output
 use Rattle.handles.specs.Handles.{handleAt}
 use Rattle.handles.specs.NeedTable.{rememberedAt, Needing, table, stateWith}
-use Rattle.frames.specs.Steps.{stepped, Few, Stands, Reached, LentArray, onAllots, onFrees, allotsIn, allotsOut, freesIn, freesOut}
+use Rattle.frames.specs.Steps.{nowhere, stepped, Few, Stands, Reached, onAllots, onFrees, allotsIn, allotsOut, freesIn, freesOut}
 use Rattle.frames.specs.declared.steps.Adds.{Adds}
 use Rattle.frames.specs.declared.steps.Adds.the-variants.{One, Refused}
 use Rattle.frames.specs.declared.steps.Stepped.{Stepped}
@@ -35,10 +35,10 @@ pub record StandsWith (s : Scopes) (handles holders : List ℕ) (handed : ℕ) (
   pub needs-length : length (t .needs) ≡ 64
   pub remembers-length : length (t .remembers) ≡ 64
 
--- The frame f, of opcode o, leads from the state and the tables before it to r and the tables after it, as the rules say. After a refusal
--- nothing is said of them: the translation ends.
-pub record WorksWith (f : rules.Frame) (o : ℕ) (s : Scopes) (handles holders : List ℕ) (handed : ℕ) (t : Needing) (r : Reached) (handles′ holders′ : List ℕ) (t′ : Needing) (drained : List ℕ) : Type 0 where
-  pub does : rules.step base (edition1 (base .segments)) (stateWith (view s) handles holders handed t) f
+-- The frame f, of opcode o, leads from the state and the tables before it to r and the tables after it, as the rules say where slots go by
+-- `place`. After a refusal nothing is said of them: the translation ends.
+pub record WorksWith (place : Placement) (f : rules.Frame) (o : ℕ) (s : Scopes) (handles holders : List ℕ) (handed : ℕ) (t : Needing) (r : Reached) (handles′ holders′ : List ℕ) (t′ : Needing) (drained : List ℕ) : Type 0 where
+  pub does : rules.step base place (stateWith (view s) handles holders handed t) f
       ≡ stepped o (r .adds) (stateWith (view (r .state)) handles′ holders′ (r .handed) t′) drained
   pub whole : Whole (r .state)
   pub few : Few (r .adds)
@@ -47,15 +47,19 @@ pub record WorksWith (f : rules.Frame) (o : ℕ) (s : Scopes) (handles holders :
   pub needs-length : length (t′ .needs) ≡ 64
   pub remembers-length : length (t′ .remembers) ≡ 64
 
--- the state becomes u, the needs t′
+-- the state becomes u, the needs t′, where slots go by `place`
+abbrev pub LeadsWithBy : Placement → rules.Frame → ℕ → Scopes → Scopes → List ℕ → List ℕ → ℕ → Needing → Stepped → List ℕ → List ℕ → Needing → Type 0
+LeadsWithBy place f o s u handles holders handed t r handles′ holders′ t′ =
+    StandsWith s handles holders handed t → (drained : List ℕ) → WorksWith place f o s handles holders handed t (record { state = u; handed = r .handed; adds = r .adds }) handles′ holders′ t′ drained
+
+-- .. by a frame that asks for no slot
 abbrev pub LeadsWith : rules.Frame → ℕ → Scopes → Scopes → List ℕ → List ℕ → ℕ → Needing → Stepped → List ℕ → List ℕ → Needing → Type 0
-LeadsWith f o s u handles holders handed t r handles′ holders′ t′ =
-    StandsWith s handles holders handed t → (drained : List ℕ) → WorksWith f o s handles holders handed t (record { state = u; handed = r .handed; adds = r .adds }) handles′ holders′ t′ drained
+LeadsWith f o s u handles holders handed t r handles′ holders′ t′ = LeadsWithBy nowhere f o s u handles holders handed t r handles′ holders′ t′
 
 -- the scopes, the handles and their count stay; the needs become t′
 abbrev pub Makes : rules.Frame → ℕ → Scopes → List ℕ → List ℕ → ℕ → Needing → Adds → Needing → Type 0
 Makes f o s handles holders handed t adds t′ =
-    StandsWith s handles holders handed t → (drained : List ℕ) → WorksWith f o s handles holders handed t (record { state = s; handed = handed; adds = adds }) handles holders t′ drained
+    StandsWith s handles holders handed t → (drained : List ℕ) → WorksWith nowhere f o s handles holders handed t (record { state = s; handed = handed; adds = adds }) handles holders t′ drained
 
 -- one more need, x, was asked for: 22, or its number is added
 pub record AddsNeed (x : Remembered) (t : Needing) (adds : Adds) (t′ : Needing) : Type 0 where
@@ -96,9 +100,9 @@ StandsFreesWith halves links owner number n handles holders handed needs remembe
     (s : Scopes) × StandsWith (onFrees s (now halves) (now links) (now owner) (now number) n) (now handles) (now holders) handed (table (now needs) (now remembers) needed)
 
 -- a step over the arrays of an allocation, and the needs
-abbrev pub AllotsBeside : rules.Frame → ℕ → (halves links owner : LentArray ℕ) → LentArray Bool → LentArray ℕ → Numbers → (handles holders : LentArray ℕ) → ℕ → (needs remembers : LentArray ℕ) → ℕ → Stepped → Type 0
-AllotsBeside f o halves links owner live number n handles holders handed needs remembers needed r =
-    (s : Scopes) → LeadsWith f o (allotsIn s halves links owner live number n) (allotsOut s halves links owner live number (r .numbers))
+abbrev pub AllotsBeside : Placement → rules.Frame → ℕ → (halves links owner : LentArray ℕ) → LentArray Bool → LentArray ℕ → Numbers → (handles holders : LentArray ℕ) → ℕ → (needs remembers : LentArray ℕ) → ℕ → Stepped → Type 0
+AllotsBeside place f o halves links owner live number n handles holders handed needs remembers needed r =
+    (s : Scopes) → LeadsWithBy place f o (allotsIn s halves links owner live number n) (allotsOut s halves links owner live number (r .numbers))
     (now (handles .entry)) (now (holders .entry)) handed (tableIn needs remembers needed) r (now (handles .exit)) (now (holders .exit)) (tableOut needs remembers needed)
 
 -- a step over the arrays of a freeing, which leaves the holders; the needs become t′
@@ -111,7 +115,7 @@ FreesBeside f o halves links owner number n handles holders handed t r t′ =
 abbrev pub Forgets : rules.Frame → ℕ → Scopes → LentArray ℕ → List ℕ → ℕ → Needing → Adds → Type 0
 Forgets f o s handles holders handed t adds =
     StandsWith s (now (handles .entry)) holders handed t → (drained : List ℕ)
-    → WorksWith f o s (now (handles .entry)) holders handed t (record { state = s; handed = handed; adds = adds }) (now (handles .exit)) holders t drained
+    → WorksWith nowhere f o s (now (handles .entry)) holders handed t (record { state = s; handed = handed; adds = adds }) (now (handles .exit)) holders t drained
 
 -- a step that makes a need, whatever handles there are
 abbrev pub Notes : rules.Frame → ℕ → Scopes → Needing → Adds → Needing → Type 0

@@ -1,15 +1,14 @@
 -- One step of the code as a step of the rules: what it adds to the list, and where the script stands then. Assumes nothing.
 use mathlib.Core.Path.{_≡_}
 use mathlib.Core.Bool.{Bool, true, false, not}
-use mathlib.Core.Option.{none}
+use mathlib.Core.Option.{Option, none}
 use mathlib.Core.List.{List, [], _∷_}
 use Prim.Native.Nat.{ℕ, _+_, _%_, _≤_, _<_}
 use lib.ListN.{length, getD, take}
 use denote.Ref.{RefT, now}
-use denote.Triple.Both.{Both}
 use Rattle.rules.specs.Notation.{Answer, refused, _>>=_, refuse_when_, refuse_unless_}
 use Rattle.rules.specs.Sizes.{base}
-use Rattle.rules.specs.Slots.{edition1}
+use Rattle.rules.specs.Slots.{Placement}
 use Rattle.rules.specs.Scopes as scope
 use Rattle.rules.specs.Needs.{scope as inScope}
 use Rattle.rules.specs.Frames as rules
@@ -21,7 +20,7 @@ use Rattle.scopes.specs.declared.Numbers.{Numbers}
 use Rattle.scopes.specs.declared.Reply.{Reply}
 use Rattle.scopes.specs.declared.Reply.the-variants as reply
 use Rattle.scopes.specs.View.{view, idOf}
-use Rattle.scopes.specs.Lent.{numbersOf, made, withSlots, Whole}
+use Rattle.scopes.specs.Lent.{numbersOf, made, Whole, LentArray, slotsIn, slotsOut}
 use Rattle.slots.specs.declared.SlotAddress.{SlotAddress}
 use Rattle.needs.specs.Kinds.{kindOf}
 use Rattle.needs.specs.declared.AddressKind.{AddressKind}
@@ -116,10 +115,14 @@ pub record Reached : Type 0 where
   pub handed : ℕ
   pub adds : Adds
 
--- The frame f, of opcode o, leads from the state and the tables before it to r and the tables after it, as the rules say. After a
--- refusal nothing is said of them: the translation ends.
-pub record Works (f : rules.Frame) (o : ℕ) (s : Scopes) (handles holders : List ℕ) (handed : ℕ) (r : Reached) (handles′ holders′ drained : List ℕ) : Type 0 where
-  pub does : rules.step base (edition1 (base .segments)) (stateOf (view s) handles holders handed) f
+-- gives no slot: the step of a frame that asks for none is said by this placement, and is the same by any (`any-place` of the rules)
+unfoldable pub nowhere : Placement
+nowhere n slots = none
+
+-- The frame f, of opcode o, leads from the state and the tables before it to r and the tables after it, as the rules say where slots go by
+-- `place`. After a refusal nothing is said of them: the translation ends.
+pub record Works (place : Placement) (f : rules.Frame) (o : ℕ) (s : Scopes) (handles holders : List ℕ) (handed : ℕ) (r : Reached) (handles′ holders′ drained : List ℕ) : Type 0 where
+  pub does : rules.step base place (stateOf (view s) handles holders handed) f
       ≡ stepped o (r .adds) (stateOf (view (r .state)) handles′ holders′ (r .handed)) drained
   pub whole : Whole (r .state)
   pub few : Few (r .adds)
@@ -135,10 +138,10 @@ pub record Comes (m : rules.Step) (o : ℕ) (r : Reached) (handles′ holders′
   pub holders-length : length holders′ ≡ 1024
 
 -- a slot in the scope of that id, and its handle: 4, 16, 7; the line shows the address
-unfoldable pub allottedIn : scope.Id → ℕ → rules.State → rules.Step
-allottedIn id o t = do
+unfoldable pub allottedIn : Placement → scope.Id → ℕ → rules.State → rules.Step
+allottedIn place id o t = do
   k ← refuse 4 unless (scope.byId base (t .scopes) id)
-  x ← rules.allot base (edition1 (base .segments)) k (inScope id) 1 t
+  x ← rules.allot base place k (inScope id) 1 t
   oneLine (shows o (x .0 ∷ [])) (x .1)
 
 -- something was freed, or it was refused; the line has the opcode alone
@@ -168,16 +171,7 @@ onCells s halves live parent bindings n = made halves (s .links) (s .owner) live
 
 -- ---- over the lent arrays themselves, each at entry and at exit
 
-abbrev pub LentArray : Type 0 → Type 0
-LentArray A = Both (RefT (List A)) (RefT (List A))
-
 -- the state s with the arrays of a group, as it came in and as it is left
-abbrev pub slotsIn : Scopes → (halves links owner : LentArray ℕ) → Numbers → Scopes
-slotsIn s halves links owner n = withSlots s (now (halves .entry)) (now (links .entry)) (now (owner .entry)) n
-
-abbrev pub slotsOut : Scopes → (halves links owner : LentArray ℕ) → Numbers → Scopes
-slotsOut s halves links owner n = withSlots s (now (halves .exit)) (now (links .exit)) (now (owner .exit)) n
-
 abbrev pub numberedIn : Scopes → LentArray Bool → LentArray ℕ → Scopes
 numberedIn s live number = onNumbered s (now (live .entry)) (now (number .entry))
 
@@ -200,15 +194,19 @@ pub record Tables (handles : List ℕ) (handed : ℕ) : Type 0 where
   pub most : handed ≤ 2048
   pub long : length handles ≡ 2048
 
--- the state becomes t
+-- the state becomes t, where slots go by `place`
+abbrev pub LeadsBy : Placement → rules.Frame → ℕ → Scopes → Scopes → List ℕ → List ℕ → ℕ → Stepped → List ℕ → List ℕ → Type 0
+LeadsBy place f o s t handles holders handed r handles′ holders′ =
+    Stands s handles holders handed → (drained : List ℕ) → Works place f o s handles holders handed (record { state = t; handed = r .handed; adds = r .adds }) handles′ holders′ drained
+
+-- .. by a frame that asks for no slot
 abbrev pub Leads : rules.Frame → ℕ → Scopes → Scopes → List ℕ → List ℕ → ℕ → Stepped → List ℕ → List ℕ → Type 0
-Leads f o s t handles holders handed r handles′ holders′ =
-    Stands s handles holders handed → (drained : List ℕ) → Works f o s handles holders handed (record { state = t; handed = r .handed; adds = r .adds }) handles′ holders′ drained
+Leads f o s t handles holders handed r handles′ holders′ = LeadsBy nowhere f o s t handles holders handed r handles′ holders′
 
 -- the state, the holders and the count of handles stay
 abbrev pub Stays : rules.Frame → ℕ → Scopes → List ℕ → List ℕ → ℕ → Adds → List ℕ → Type 0
 Stays f o s handles holders handed adds handles′ =
-    Stands s handles holders handed → (drained : List ℕ) → Works f o s handles holders handed (record { state = s; handed = handed; adds = adds }) handles′ holders drained
+    Stands s handles holders handed → (drained : List ℕ) → Works nowhere f o s handles holders handed (record { state = s; handed = handed; adds = adds }) handles′ holders drained
 
 -- by the id r the rules find what they find by the number n; there is none where its index is 255
 pub record Means (s : Scopes) (n : ℕ) (r : ScopeId) : Type 0 where
@@ -231,18 +229,18 @@ pub record Grants (y : Reply) (handed n : ℕ) (k : AddressKind) (handed′ : �
 
 -- the frame f, of opcode o, loads what handle h holds: 14, 15
 abbrev pub LoadsOf : rules.Frame → ℕ → Scopes → List ℕ → List ℕ → ℕ → ℕ → Type 0
-LoadsOf f o s handles holders handed h = rules.step base (edition1 (base .segments)) (stateOf (view s) handles holders handed) f ≡ loading o (stateOf (view s) handles holders handed) h
+LoadsOf f o s handles holders handed h = rules.step base nowhere (stateOf (view s) handles holders handed) f ≡ loading o (stateOf (view s) handles holders handed) h
 
 -- one slot was asked for in the scope of that id; the handle that was handed out is the next one, and of that scope
-pub record AllotsOne (id : scope.Id) (s : Scopes) (handles holders : List ℕ) (handed : ℕ) (r : Reached) (handles′ holders′ : List ℕ) : Type 0 where
-  pub comes : (o : ℕ) (drained : List ℕ) → Comes (allottedIn id o (stateOf (view s) handles holders handed)) o r handles′ holders′ drained
+pub record AllotsOne (place : Placement) (id : scope.Id) (s : Scopes) (handles holders : List ℕ) (handed : ℕ) (r : Reached) (handles′ holders′ : List ℕ) : Type 0 where
+  pub comes : (o : ℕ) (drained : List ℕ) → Comes (allottedIn place id o (stateOf (view s) handles holders handed)) o r handles′ holders′ drained
   pub hands : isRefused (r .adds) ≡ false → (handed < 2048) × (kindIn (getD handles′ handed 0) ≡ inScope id)
 
 -- .. over the lent arrays
-abbrev pub AllotsInScope : scope.Id → (halves links owner : LentArray ℕ) → LentArray Bool → LentArray ℕ → Numbers → (handles holders : LentArray ℕ) → ℕ → Stepped → Type 0
-AllotsInScope id halves links owner live number n handles holders handed r =
+abbrev pub AllotsInScope : Placement → scope.Id → (halves links owner : LentArray ℕ) → LentArray Bool → LentArray ℕ → Numbers → (handles holders : LentArray ℕ) → ℕ → Stepped → Type 0
+AllotsInScope place id halves links owner live number n handles holders handed r =
     (s : Scopes) → Stands (allotsIn s halves links owner live number n) (now (handles .entry)) (now (holders .entry)) handed
-    → AllotsOne id (allotsIn s halves links owner live number n) (now (handles .entry)) (now (holders .entry)) handed
+    → AllotsOne place id (allotsIn s halves links owner live number n) (now (handles .entry)) (now (holders .entry)) handed
     (record { state = allotsOut s halves links owner live number (r .numbers); handed = r .handed; adds = r .adds }) (now (handles .exit)) (now (holders .exit))
 
 -- something was freed by m, which may be refused
@@ -256,10 +254,14 @@ abbrev pub FreesBy : (rules.State → Answer rules.State) → (halves links owne
 FreesBy m halves links owner number n handles holders handed r =
     (s : Scopes) → Frees m (freesIn s halves links owner number n) (freesOut s halves links owner number (r .numbers)) handles holders handed r
 
--- a step over the lent arrays of an allocation, and of a freeing, which leaves the holders
-abbrev pub LeadsAllots : rules.Frame → ℕ → (halves links owner : LentArray ℕ) → LentArray Bool → LentArray ℕ → Numbers → (handles holders : LentArray ℕ) → ℕ → Stepped → Type 0
-LeadsAllots f o halves links owner live number n handles holders handed r =
-    (s : Scopes) → Leads f o (allotsIn s halves links owner live number n) (allotsOut s halves links owner live number (r .numbers)) (now (handles .entry)) (now (holders .entry)) handed r (now (handles .exit)) (now (holders .exit))
+-- a step over the lent arrays of slots, of an allocation, and of a freeing, which leaves the holders
+abbrev pub LeadsSlots : Placement → rules.Frame → ℕ → (halves links owner : LentArray ℕ) → Numbers → (handles holders : LentArray ℕ) → ℕ → Stepped → Type 0
+LeadsSlots place f o halves links owner n handles holders handed r =
+    (s : Scopes) → LeadsBy place f o (slotsIn s halves links owner n) (slotsOut s halves links owner (r .numbers)) (now (handles .entry)) (now (holders .entry)) handed r (now (handles .exit)) (now (holders .exit))
+
+abbrev pub LeadsAllots : Placement → rules.Frame → ℕ → (halves links owner : LentArray ℕ) → LentArray Bool → LentArray ℕ → Numbers → (handles holders : LentArray ℕ) → ℕ → Stepped → Type 0
+LeadsAllots place f o halves links owner live number n handles holders handed r =
+    (s : Scopes) → LeadsBy place f o (allotsIn s halves links owner live number n) (allotsOut s halves links owner live number (r .numbers)) (now (handles .entry)) (now (holders .entry)) handed r (now (handles .exit)) (now (holders .exit))
 
 abbrev pub LeadsFrees : rules.Frame → ℕ → (halves links owner number : LentArray ℕ) → Numbers → (handles holders : LentArray ℕ) → ℕ → Stepped → Type 0
 LeadsFrees f o halves links owner number n handles holders handed r =

@@ -5,7 +5,8 @@ ghost use lib.ListN.{length};
 ghost use Rattle.rules.specs.Frames as frame;
 ghost use Rattle.scopes.specs.View.{idOf};
 ghost use Rattle.scopes.specs.Lent.{withSlots};
-ghost use Rattle.frames.specs.Steps.{slotOr, Stands, StandsAllots, Leads, LeadsAllots, AllotsInScope, Grants};
+ghost use Rattle.slots.specs.Spots.{placementOf};
+ghost use Rattle.frames.specs.Steps.{slotOr, Stands, StandsAllots, LeadsSlots, LeadsAllots, AllotsInScope, Grants};
 use crate::steps::Adds;
 use crate::steps::Stepped;
 use crate::steps::adds_of;
@@ -19,8 +20,9 @@ use scopes::Numbers;
 use scopes::Reply;
 use scopes::ScopeId;
 use scopes::Scopes;
-use scopes::lent::place;
+use scopes::lent::place as lent;
 use scopes::open;
+use slots::Place;
 use slots::SlotAddress;
 
 // The slot that was answered; 65,535 where there is none.
@@ -77,9 +79,10 @@ pub fn alloc(
     handles: &mut [u64; 2048],
     holders: &mut [u16; 1024],
     handed: usize,
+    place: Place,
 ) -> Stepped
     requires { ⌜ ((s : Scopes) × Stands (withSlots s (now halves) (now links) (now owner) n) (now handles) (now holders) handed) ⌝ }
-    ensures { λ r. ⌜ ((s : Scopes) → Leads frame.alloc 0x06 (withSlots s (now (halves .entry)) (now (links .entry)) (now (owner .entry)) n) (withSlots s (now (halves .exit)) (now (links .exit)) (now (owner .exit)) (r .numbers)) (now (handles .entry)) (now (holders .entry)) handed r (now (handles .exit)) (now (holders .exit))) ⌝ }
+    ensures { λ r. ⌜ LeadsSlots (placementOf place) frame.alloc 0x06 halves links owner n handles holders handed r ⌝ }
 {
     let top = n.top;
     if top == 64 {
@@ -88,7 +91,7 @@ pub fn alloc(
     if 2048 <= handed {
         return refused(n, handed, 16);
     }
-    let o = place::alloc(halves, links, owner, n);
+    let o = lent::alloc(halves, links, owner, n, place);
     granted(o, handles, holders, handed, 1, AddressKind::Local)
 }
 
@@ -104,9 +107,10 @@ pub fn alloc_in_scope<'a>(
     holders: &mut [u16; 1024],
     handed: usize,
     id: ScopeId,
+    place: Place,
 ) -> Stepped
     requires { ⌜ StandsAllots halves links owner live number n handles holders handed ⌝ }
-    ensures { λ r. ⌜ AllotsInScope (idOf id) halves links owner live number n handles holders handed r ⌝ }
+    ensures { λ r. ⌜ AllotsInScope (placementOf place) (idOf id) halves links owner live number n handles holders handed r ⌝ }
 {
     let i = open::place_of(live, number, id);
     if i == 64 {
@@ -115,7 +119,7 @@ pub fn alloc_in_scope<'a>(
     if 2048 <= handed {
         return refused(n, handed, 16);
     }
-    let o = place::alloc_in(halves, links, owner, live, number, n, id);
+    let o = lent::alloc_in(halves, links, owner, live, number, n, id, place);
     granted(o, handles, holders, handed, 1, AddressKind::Scope(id))
 }
 
@@ -130,9 +134,10 @@ pub fn alloc_in<'a>(
     holders: &mut [u16; 1024],
     handed: usize,
     k: u16,
+    place: Place,
 ) -> Stepped
     requires { ⌜ StandsAllots halves links owner live number n handles holders handed ⌝ }
-    ensures { λ r. ⌜ LeadsAllots (frame.allocIn k) 0x07 halves links owner live number n handles holders handed r ⌝ }
+    ensures { λ r. ⌜ LeadsAllots (placementOf place) (frame.allocIn k) 0x07 halves links owner live number n handles holders handed r ⌝ }
 {
     let id = meant(live, number, k);
     alloc_in_scope(
@@ -146,6 +151,7 @@ pub fn alloc_in<'a>(
         holders,
         handed,
         id,
+        place,
     )
 }
 
@@ -158,9 +164,10 @@ pub fn linear(
     holders: &mut [u16; 1024],
     handed: usize,
     k: u16,
+    place: Place,
 ) -> Stepped
     requires { ⌜ ((s : Scopes) × Stands (withSlots s (now halves) (now links) (now owner) n) (now handles) (now holders) handed) ⌝ }
-    ensures { λ r. ⌜ ((s : Scopes) → Leads (frame.linear k) 0x08 (withSlots s (now (halves .entry)) (now (links .entry)) (now (owner .entry)) n) (withSlots s (now (halves .exit)) (now (links .exit)) (now (owner .exit)) (r .numbers)) (now (handles .entry)) (now (holders .entry)) handed r (now (handles .exit)) (now (holders .exit))) ⌝ }
+    ensures { λ r. ⌜ LeadsSlots (placementOf place) (frame.linear k) 0x08 halves links owner n handles holders handed r ⌝ }
 {
     let top = n.top;
     if top == 64 {
@@ -177,6 +184,6 @@ pub fn linear(
     if 2048 < handed + many {
         return refused(n, handed, 16);
     }
-    let o = place::alloc_run(halves, links, owner, n, k);
+    let o = lent::alloc_run(halves, links, owner, n, k, place);
     granted(o, handles, holders, handed, many, run_kind(k))
 }

@@ -2,9 +2,9 @@
 ghost use mathlib.Core.List.{List};
 ghost use Prim.Native.Nat.{ℕ};
 ghost use Rattle.rules.specs.Frames as frame;
-ghost use Rattle.scopes.specs.Lent.{withSlots};
+ghost use Rattle.scopes.specs.Lent.{withSlots, slotsIn, slotsOut};
 ghost use Rattle.needs.specs.Kinds.{kindOf};
-ghost use Rattle.frames.specs.Steps.{freeing, freeCode, slotsIn, slotsOut, Tables, KnownAs, Stands, StandsFrees, Stays, LeadsFrees, Frees, FreesBy};
+ghost use Rattle.frames.specs.Steps.{freeing, freeCode, Tables, KnownAs, Stands, StandsFrees, Stays, LeadsFrees, Frees, FreesBy};
 use crate::steps::Adds;
 use crate::steps::Stepped;
 use crate::steps::ended;

@@ -9,6 +9,7 @@ ghost use Rattle.rules.specs.Frames as frame;
 ghost use Rattle.scopes.specs.View.{idOf};
 ghost use Rattle.needs.specs.Kinds.{kindOf, needOf};
 ghost use Rattle.handles.specs.NeedTable.{needIn, SizedNeeds};
+ghost use Rattle.slots.specs.Spots.{placementOf};
 ghost use Rattle.frames.specs.Steps.{freeing, freeCode, isRefused, Tables, StandsFrees, FreesBy};
 ghost use Rattle.frames.specs.Needing.{needKind, StandsAllotsWith, StandsFreesWith, AllotsBeside, FreesBeside, Forgets, tableIn, tableOut};
 use crate::allots::alloc_in_scope;
@@ -28,6 +29,7 @@ use scopes::HandleNumber;
 use scopes::Numbers;
 use scopes::ScopeId;
 use scopes::Scopes;
+use slots::Place;
 
 // ---- 0c, 0d, 0e beside needs: 13 also where the handle belongs to one
 
@@ -117,10 +119,11 @@ fn first<'a>(
     needed: usize,
     k: NeedNumber,
     id: ScopeId,
+    place: Place,
 ) -> Stepped
     requires { ⌜ StandsAllotsWith halves links owner live number n handles holders handed needs remembers needed ⌝ }
     requires { ⌜ (k .0 < needed) × (needIn (getD (now needs) (k .0) 0) ≡ rule.defer (idOf id)) ⌝ }
-    ensures { λ r. ⌜ AllotsBeside (frame.allocNeed (k .0)) 0x23 halves links owner live number n handles holders handed needs remembers needed r ⌝ }
+    ensures { λ r. ⌜ AllotsBeside (placementOf place) (frame.allocNeed (k .0)) 0x23 halves links owner live number n handles holders handed needs remembers needed r ⌝ }
 {
     let r = alloc_in_scope(
         halves,
@@ -133,6 +136,7 @@ fn first<'a>(
         holders,
         handed,
         id,
+        place,
     );
     let adds = r.adds;
     if is_refused(adds) {
@@ -159,9 +163,10 @@ pub fn allocate<'a>(
     remembers: &mut [u16; 64],
     needed: usize,
     k: NeedNumber,
+    place: Place,
 ) -> Stepped
     requires { ⌜ StandsAllotsWith halves links owner live number n handles holders handed needs remembers needed ⌝ }
-    ensures { λ r. ⌜ AllotsBeside (frame.allocNeed (k .0)) 0x23 halves links owner live number n handles holders handed needs remembers needed r ⌝ }
+    ensures { λ r. ⌜ AllotsBeside (placementOf place) (frame.allocNeed (k .0)) 0x23 halves links owner live number n handles holders handed needs remembers needed r ⌝ }
 {
     let i = k.0 as usize;
     if needed <= i {
@@ -184,6 +189,7 @@ pub fn allocate<'a>(
             needed,
             k,
             id,
+            place,
         ),
         Need::Address(a) => {
             let slot = a.slot;

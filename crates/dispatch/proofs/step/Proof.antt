@@ -1,11 +1,12 @@
 -- One step, by its opcode. Assumes nothing.
 use native.Mathlib.Omega.{arith}
+use mathlib.Core.Logic.{inr}
 use Rattle.rules.proofs.Tells.{clash}
 use Rattle.scopes.specs.Lent.{made}
 use Rattle.scopes.specs.declared.Scopes.{Scopes}
 use Rattle.frames.proofs.Beside.{plain-works}
 use Rattle.dispatch.specs.Dispatched.{PlainCode}
-use Rattle.dispatch.proofs.Opcodes.{plain-by, plain-code}
+use Rattle.dispatch.proofs.Opcodes.{with-any, plain-by, plain-code}
 use Rattle.dispatch.proofs.step.Statement.{statement}
 use Rattle.dispatch.proofs.step.Tie as tie
 
@@ -25,7 +26,10 @@ free-step-requires : tie.Need-free-step-requires
 free-step-requires c κs = let st = c .before .before .before .before .before .before .before .before .before .before .before in let p = c .before .before .before .before .before .before .before .before .before .is-freeing .ensures .holds (c .before .before .before .before .before .before .before .before .if2 .taken) in ((state st, st .pre .0), p .0, p .1)
 
 returns-2 : tie.Need-returns-2
-returns-2 c = let st = c .before .before .before .before .before .before .before .before .before .before .before .before .before in (λ g q. c .before .free-step .ensures g q (state st) (st .pre .0) _, st .pre .1)
+returns-2 c =
+    let st = c .before .before .before .before .before .before .before .before .before .before .before .before .before in
+    let p = c .before .before .before .before .before .before .before .before .before .before .before .is-freeing .ensures .holds (c .before .before .before .before .before .before .before .before .before .before .if2 .taken) in
+    (λ g q. with-any (st .args .f) g (inr (omega (arith, p .0)), λ e. omega (arith, p .1)) q (c .before .free-step .ensures g q (state st) (st .pre .0) _), st .pre .1)
 
 plain-step-requires : tie.Need-plain-step-requires
 plain-step-requires c κs =

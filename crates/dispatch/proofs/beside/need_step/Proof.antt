@@ -1,6 +1,7 @@
 -- 20 to 25. Assumes nothing.
 use native.Mathlib.Omega.{arith}
 use mathlib.Core.Path.{_≡_, refl}
+use mathlib.Core.Logic.{inr}
 use Rattle.rules.specs.Frames as frame
 use Rattle.rules.specs.Sizes.{base}
 use Rattle.rules.specs.Text.{rowed, frameTable}
@@ -8,7 +9,7 @@ use Rattle.text.specs.Lines.{frameOf}
 use Rattle.text.specs.Shapes.{shapeOf, frameShapes}
 use Rattle.scopes.specs.declared.Scopes.{Scopes}
 use Rattle.frames.specs.Steps.{onAllots}
-use Rattle.dispatch.proofs.Opcodes.{with-as, is-last}
+use Rattle.dispatch.proofs.Opcodes.{with-as, with-any, is-last}
 use Rattle.dispatch.proofs.beside.need_step.Statement.{statement}
 use Rattle.dispatch.proofs.beside.need_step.Tie as tie
 
@@ -24,7 +25,9 @@ note-step-requires c κs =
     (record { most = p .stands .state .handles .few; long = p .stands .handles-length }, (p .needs-length, p .remembers-length, p .needing .few), st .pre .1, c .before .before .before .if1 .taken)
 
 returns : tie.Need-returns
-returns c = λ g q s stands drained. let st = c .before .before .before .before .before in c .note-step .ensures g q (state st s) _ stands drained
+returns c = λ g q s stands drained.
+    let st = c .before .before .before .before .before in
+    with-any (st .args .f) g (inr (omega (arith, st .pre .1)), λ e. omega (arith, c .before .before .before .before .if1 .taken)) q (c .note-step .ensures g q (state st s) _ stands drained)
 
 allocate-requires : tie.Need-allocate-requires
 allocate-requires c κs = c .before .before .before .before .before .before .before .before .before .pre .0
@@ -43,7 +46,8 @@ returns-3 : tie.Need-returns-3
 unfolding frameOf rowed frameTable shapeOf frameShapes
 returns-3 c = λ g q s stands drained.
     let f = c .before .before .before .before .before .args .f in
-    with-as f 0x24 (frame.outputNeed (f .a)) g (c .before .before .if3 .taken) refl q (c .output .ensures _ _ _ _ _ stands drained)
+    with-any f g (inr (omega (arith, c .before .before .if3 .taken)), λ e. omega (arith, c .before .before .if3 .taken)) q
+    (with-as f 0x24 (frame.outputNeed (f .a)) g (c .before .before .if3 .taken) refl q (c .output .ensures _ _ _ _ _ stands drained))
 
 free-need-requires : tie.Need-free-need-requires
 free-need-requires c κs = let st = c .before .before .before .before .before .before .before .before .before .before in (state st (st .pre .0 .0), st .pre .0 .1)
@@ -54,7 +58,7 @@ returns-4 c = λ g q s stands drained.
     let st = c .before .before .before .before .before .before .before .before .before .before .before .before in
     let f = st .args .f in
     let e : f .opcode ≡ 0x25 = is-last f q (omega (arith, c .before .before .before .before .before .before .before .before .before .before .before .if1 .left, c .before .before .before .before .before .before .before .before .before .before .if2 .left, c .before .before .before .before .before .before .before .before .before .if3 .left)) in
-    with-as f 0x25 (frame.dropNeed (f .a)) g e refl q (c .before .free-need .ensures (state st s) stands drained)
+    with-any f g (inr (omega (arith, e)), λ d. omega (arith, e)) q (with-as f 0x25 (frame.dropNeed (f .a)) g e refl q (c .before .free-need .ensures (state st s) stands drained))
 
 pub need-step-spec : {M : Type 1} → statement M
 need-step-spec =

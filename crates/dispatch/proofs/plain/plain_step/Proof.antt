@@ -1,7 +1,7 @@
 -- The frames that don't look at needs, by their opcodes. Assumes nothing.
 use native.Mathlib.Omega.{arith}
 use mathlib.Core.Path.{refl}
-use mathlib.Core.Logic.{⊎-elim}
+use mathlib.Core.Logic.{⊎-elim, inl, inr}
 use Prim.Native.Nat.{ℕ, _≤_}
 use Rattle.rules.specs.Frames as frame
 use Rattle.rules.specs.Text.{rowed, frameTable}
@@ -11,7 +11,7 @@ use Rattle.scopes.specs.Lent.{made}
 use Rattle.scopes.specs.declared.Scopes.{Scopes}
 use Rattle.frames.proofs.Reading.{drain-works}
 use Rattle.dispatch.specs.Dispatched.{PlainCode}
-use Rattle.dispatch.proofs.Opcodes.{works-as}
+use Rattle.dispatch.proofs.Opcodes.{works-as, works-any}
 use Rattle.dispatch.proofs.plain.plain_step.Statement.{statement}
 use Rattle.dispatch.proofs.plain.plain_step.Tie as tie
 
@@ -26,7 +26,7 @@ scope-step-requires : tie.Need-scope-step-requires
 scope-step-requires c κs = (c .before .before .before .before .before .before .before .before .before .pre .0 .whole, c .before .before .before .before .before .before .before .before .if1 .taken)
 
 returns : tie.Need-returns
-returns c = let st = c .before .before .before .before .before .before .before .before .before .before in (λ g q. c .scope-step .ensures g q _ _ (st .pre .0) _, st .pre .1 .0)
+returns c = let st = c .before .before .before .before .before .before .before .before .before .before in (λ g q. works-any (st .args .f) g (inl (c .before .before .before .before .before .before .before .before .before .if1 .taken), λ e. omega arith) q (c .scope-step .ensures g q _ _ (st .pre .0) _), st .pre .1 .0)
 
 allot-step-requires : tie.Need-allot-step-requires
 allot-step-requires c κs = let st = c .before .before .before .before .before .before .before .before .before in ((state st, st .pre .0), omega (arith, c .before .before .before .before .before .before .before .before .if1 .left), c .before .before .before .before .before .before .before .if2 .taken)
@@ -38,7 +38,7 @@ name-step-requires : tie.Need-name-step-requires
 name-step-requires c κs = let st = c .before .before .before .before .before .before .before in ((state st, (_, st .pre .0)), omega (arith, c .before .before .before .before .before .if2 .left), c .before .before .before .before .if3 .taken)
 
 returns-3 : tie.Need-returns-3
-returns-3 c = let st = c .before .before .before .before .before .before .before .before in (λ g q. c .name-step .ensures g q (state st) _ (st .pre .0) _, st .pre .1 .0)
+returns-3 c = let st = c .before .before .before .before .before .before .before .before in (λ g q. works-any (st .args .f) g (inr (omega (arith, c .before .before .before .before .before .before .if2 .left)), λ e. omega (arith, c .before .before .before .before .before .if3 .taken)) q (c .name-step .ensures g q (state st) _ (st .pre .0) _), st .pre .1 .0)
 
 drain-requires : tie.Need-drain-requires
 drain-requires c κs = let st = c .before .before .before .before .before .before .before in (state st, st .pre .0 .whole, st .pre .1 .0)
@@ -48,8 +48,8 @@ unfolding frameOf rowed frameTable shapeOf frameShapes
 returns-4 c =
     let st = c .before .before .before .before .before .before .before .before in
     let d = c .drain .ensures .0 (state st) (st .pre .0 .whole) in (
-      λ g q. works-as (st .args .f) 0x0f frame.drain g (c .before .before .before .before .if4 .taken) refl q
-          (drain-works _ _ _ _ (st .pre .0) _ (c .drain .result) _ (d .0) (d .1) (d .2) (c .drain .ensures .1 .1) (c .drain .ensures .1 .2)),
+      λ g q. works-any (st .args .f) g (inr (omega (arith, c .before .before .before .before .if4 .taken)), λ e. omega (arith, c .before .before .before .before .if4 .taken)) q
+          (works-as (st .args .f) 0x0f frame.drain g (c .before .before .before .before .if4 .taken) refl q (drain-works _ _ _ _ (st .pre .0) _ (c .drain .result) _ (d .0) (d .1) (d .2) (c .drain .ensures .1 .1) (c .drain .ensures .1 .2))),
       c .drain .ensures .1 .1,
     )
 
@@ -59,7 +59,7 @@ cell-step-requires c κs =
     ((state st, st .pre .0), omega (arith, past (st .args .f .opcode) (st .pre .1 .1) (c .before .before .before .before .before .before .before .if3 .left), c .before .before .before .before .before .before .if4 .left), st .pre .1 .1 .1)
 
 returns-5 : tie.Need-returns-5
-returns-5 c = let st = c .before .before .before .before .before .before .before .before .before .before .before in (λ g q. c .cell-step .ensures g q (state st) (st .pre .0) _, st .pre .1 .0)
+returns-5 c = let st = c .before .before .before .before .before .before .before .before .before .before .before in (λ g q. works-any (st .args .f) g (inr (omega (arith, past (st .args .f .opcode) (st .pre .1 .1) (c .before .before .before .before .before .before .before .before .if3 .left))), λ e. omega (arith, st .pre .1 .1 .1)) q (c .cell-step .ensures g q (state st) (st .pre .0) _), st .pre .1 .0)
 
 pub plain-step-spec : {M : Type 1} → statement M
 plain-step-spec =

@@ -21,7 +21,7 @@ returns : tie.Need-returns
 returns c = λ s stands drained.
     let m = c .before .before .before .before .before .before in
     let a = m .before .args in
-    works-by _ _ _ _ (frame.allocIn (a .k)) 0x07 _ _ _ _ drained (by-number _ _ _ _ stands (m .meant .result) (a .k) (m .meant .ensures (state (m .before) s) .is)) (c .alloc-in-scope .ensures s stands .comes 0x07 drained)
+    works-by _ _ _ _ (frame.allocIn (a .k)) 0x07 _ _ _ _ drained (by-number _ _ _ _ _ stands (m .meant .result) (a .k) (m .meant .ensures (state (m .before) s) .is)) (c .alloc-in-scope .ensures s stands .comes 0x07 drained)
 
 pub alloc-in-spec : {M : Type 1} → statement M
 alloc-in-spec = tie.close (tie.spec meant-requires alloc-in-scope-requires returns)

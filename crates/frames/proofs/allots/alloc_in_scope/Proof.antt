@@ -29,7 +29,7 @@ returns : tie.Need-returns
 returns c = λ s stands.
     let p = c .before .before in
     let id = p .before .args .id in
-    in-refused _ _ _ _ stands id 4 _ (reached-is (c .refused .ensures)) (in-4 _ _ _ _ stands id (unknown (state (p .before) s) (idOf id) (p .place-of .result) (p .place-of .ensures) (c .before .if1 .taken)))
+    in-refused _ _ _ _ _ stands id 4 _ (reached-is (c .refused .ensures)) (in-4 _ _ _ _ _ stands id (unknown (state (p .before) s) (idOf id) (p .place-of .result) (p .place-of .ensures) (c .before .if1 .taken)))
 
 refused-requires-2 : tie.Need-refused-requires-2
 refused-requires-2 c κs = tt
@@ -39,7 +39,7 @@ returns-2 c = λ s stands.
     let p = c .before .before .before in
     let id = p .before .args .id in
     let k = known (state (p .before) s) (idOf id) (p .place-of .result) (p .place-of .ensures) (c .before .before .if1 .left) in
-    in-refused _ _ _ _ stands id 16 _ (reached-is (c .refused2 .ensures)) (in-16 _ _ _ _ stands id _ (k .is) (c .before .if2 .taken))
+    in-refused _ _ _ _ _ stands id 16 _ (reached-is (c .refused2 .ensures)) (in-16 _ _ _ _ _ stands id _ (k .is) (c .before .if2 .taken))
 
 alloc-in-requires : tie.Need-alloc-in-requires
 alloc-in-requires c κs = let p = c .before .before .before .before .before .before .pre in (p .0, p .1 .whole)
@@ -52,7 +52,7 @@ granted-requires c κs =
     let q = p .before .pre in
     let k = known (state (p .before) (q .0)) (idOf id) (p .place-of .result) (p .place-of .ensures) (a .before .before .before .before .before .if1 .left) in
     let o = outcome a (q .0) in
-    ((omega (arith, a .before .before .before .before .if2 .left), q .1 .handles-length, q .1 .holders-length), answered-below _ _ _ _ (q .1) _ 1 o (in-seen _ _ _ _ (q .1) id _ (k .is) o (a .alloc-in .ensures (q .0) (q .1 .whole) .0)) (omega arith))
+    ((omega (arith, a .before .before .before .before .if2 .left), q .1 .handles-length, q .1 .holders-length), answered-below _ _ _ _ _ (q .1) _ 1 o (in-seen _ _ _ _ _ (q .1) id _ (k .is) o (a .alloc-in .ensures (q .0) (q .1 .whole) .0)) (omega arith))
 
 returns-3 : tie.Need-returns-3
 returns-3 c = λ s stands.
@@ -62,7 +62,7 @@ returns-3 c = λ s stands.
     let k = known (state (p .before) s) (idOf id) (p .place-of .result) (p .place-of .ensures) (a .before .before .before .before .before .if1 .left) in
     let o = outcome a s in
     let b = a .alloc-in .ensures s (stands .whole) in
-    in-granted _ _ _ _ stands id _ (k .is) o _ _ _ (in-seen _ _ _ _ stands id _ (k .is) o (b .0)) (c .granted .ensures .1) (omega (arith, a .before .before .before .before .if2 .left)) (b .1) (made-is (c .granted .ensures .0))
+    in-granted _ _ _ _ _ stands id _ (k .is) o _ _ _ (in-seen _ _ _ _ _ stands id _ (k .is) o (b .0)) (c .granted .ensures .1) (omega (arith, a .before .before .before .before .if2 .left)) (b .1) (made-is (c .granted .ensures .0))
 
 pub alloc-in-scope-spec : {M : Type 1} → statement M
 alloc-in-scope-spec =

@@ -18,7 +18,7 @@ refused-requires c κs = tt
 
 returns : tie.Need-returns
 unfolding step
-returns c = λ s stands. let k = c .before .before .before .args .k .0 in need-21 _ _ _ _ _ stands k (frame.allocNeed k) 0x23 _ (reached-is (c .refused .ensures)) (when-true 21 _) (c .before .if1 .taken)
+returns c = λ s stands. let k = c .before .before .before .args .k .0 in need-21 _ _ _ _ _ _ stands k (frame.allocNeed k) 0x23 _ (reached-is (c .refused .ensures)) (when-true 21 _) (c .before .if1 .taken)
 
 mul-need-in : tie.Need-mul-need-in
 mul-need-in c = search needs
@@ -51,16 +51,16 @@ returns-2 : tie.Need-returns-2
 returns-2 c = search needs
 
 returns-3 : tie.Need-returns-3
-returns-3 c = λ s stands. let k = c .before .before .before .before .before .before .before .before .args .k .0 in again-works _ _ _ _ _ stands k (c .before .before .before .before .before .before .if1 .left) _ (sym (c .before .before .before .before .need-in .ensures) ∙ ap needOf (c .before .before .d2 .given .1))
+returns-3 c = λ s stands. let k = c .before .before .before .before .before .before .before .before .args .k .0 in again-works _ _ _ _ _ _ stands k (c .before .before .before .before .before .before .if1 .left) _ (sym (c .before .before .before .before .need-in .ensures) ∙ ap needOf (c .before .before .d2 .given .1))
 
 returns-4 : tie.Need-returns-4
-returns-4 c = λ s stands. let k = c .before .before .before .before .before .before .args .k .0 in ignored-works _ _ _ _ _ stands k (c .before .before .before .before .if1 .left) (sym (c .before .before .need-in .ensures) ∙ ap needOf (c .enum-told .given .1))
+returns-4 c = λ s stands. let k = c .before .before .before .before .before .before .args .k .0 in ignored-works _ _ _ _ _ _ stands k (c .before .before .before .before .if1 .left) (sym (c .before .before .need-in .ensures) ∙ ap needOf (c .enum-told .given .1))
 
 returns-5 : tie.Need-returns-5
 unfolding step
 returns-5 c = λ s stands.
     let k = c .before .before .before .before .before .before .before .args .k .0 in
-    gone-21 _ _ _ _ _ stands k (c .before .before .before .before .before .if1 .left) (frame.allocNeed k) 0x23 _ (reached-is (c .refused2 .ensures)) (when-true 21 _)
+    gone-21 _ _ _ _ _ _ stands k (c .before .before .before .before .before .if1 .left) (frame.allocNeed k) 0x23 _ (reached-is (c .refused2 .ensures)) (when-true 21 _)
     (sym (ap isGone (c .before .before .before .need-in .ensures)) ∙ ap (λ d. isGone (needOf d)) (c .before .enum-told2 .given .1))
 
 pub allocate-spec : {M : Type 1} → statement M

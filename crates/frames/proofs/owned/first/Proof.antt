@@ -16,7 +16,7 @@ is-refused-requires c κs = search needs
 returns : tie.Need-returns
 returns c = λ s stands drained.
     let st = c .before .before .before .before .before .before .before .before in
-    first-refused _ _ _ _ _ stands (st .args .k .0) (st .pre .1 .0) (idOf (st .args .id)) (st .pre .1 .1) _ _ _ (c .before .before .alloc-in-scope .ensures s (stands .stands)) drained (sym (c .before .is-refused .ensures) ∙ c .if1 .taken)
+    first-refused _ _ _ _ _ _ stands (st .args .k .0) (st .pre .1 .0) (idOf (st .args .id)) (st .pre .1 .1) _ _ _ (c .before .before .alloc-in-scope .ensures s (stands .stands)) drained (sym (c .before .is-refused .ensures) ∙ c .if1 .taken)
 
 cast-i : tie.Need-cast-i
 cast-i c = search needs
@@ -45,7 +45,7 @@ element-write-remembers c = let st = c .before .before .before .before .before .
 returns-2 : tie.Need-returns-2
 returns-2 c = λ s stands drained.
     let st = c .before .before .before .before .before .before .before .before .before .before in
-    first-works _ _ _ _ _ stands (st .args .k .0) (st .pre .1 .0) (idOf (st .args .id)) (st .pre .1 .1) _ _ _ (c .before .before .before .before .alloc-in-scope .ensures s (stands .stands)) drained (sym (c .before .before .before .is-refused .ensures) ∙ c .before .before .if1 .left)
+    first-works _ _ _ _ _ _ stands (st .args .k .0) (st .pre .1 .0) (idOf (st .args .id)) (st .pre .1 .1) _ _ _ (c .before .before .before .before .alloc-in-scope .ensures s (stands .stands)) drained (sym (c .before .before .before .is-refused .ensures) ∙ c .before .before .if1 .left)
 
 pub first-spec : {M : Type 1} → statement M
 first-spec =

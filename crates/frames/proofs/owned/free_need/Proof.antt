@@ -17,7 +17,7 @@ refused-requires c κs = tt
 
 returns : tie.Need-returns
 unfolding step
-returns c = λ s stands. let k = c .before .before .before .args .k .0 in need-21 _ _ _ _ _ stands k (frame.dropNeed k) 0x25 _ (reached-is (c .refused .ensures)) (when-true 21 _) (c .before .if1 .taken)
+returns c = λ s stands. let k = c .before .before .before .args .k .0 in need-21 _ _ _ _ _ _ stands k (frame.dropNeed k) 0x25 _ (reached-is (c .refused .ensures)) (when-true 21 _) (c .before .if1 .taken)
 
 mul-need-in : tie.Need-mul-need-in
 mul-need-in c = search needs
@@ -38,7 +38,7 @@ returns-2 : tie.Need-returns-2
 unfolding step
 returns-2 c = λ s stands.
     let k = c .before .before .before .before .before .before .before .args .k .0 in
-    gone-21 _ _ _ _ _ stands k (c .before .before .before .before .before .if1 .left) (frame.dropNeed k) 0x25 _ (reached-is (c .refused2 .ensures)) (when-true 21 _)
+    gone-21 _ _ _ _ _ _ stands k (c .before .before .before .before .before .if1 .left) (frame.dropNeed k) 0x25 _ (reached-is (c .refused2 .ensures)) (when-true 21 _)
     (sym (ap isGone (c .before .before .before .need-in .ensures)) ∙ sym (c .before .before .is-gone .ensures) ∙ c .before .if2 .taken)
 
 mul-t19 : tie.Need-mul-t19
@@ -57,7 +57,7 @@ is-refused-requires c κs = tt
 
 returns-3 : tie.Need-returns-3
 returns-3 c = λ s stands drained.
-    drop-refused _ _ _ _ _ stands (c .before .before .before .before .before .before .before .before .before .before .before .before .before .before .args .k .0) (c .before .before .before .before .before .before .before .before .before .before .before .before .if1 .left) _ (c .before .before .before .before .before .before .before .before .before .before .need-in .ensures) (sym (c .before .before .before .before .before .before .before .before .before .is-gone .ensures) ∙ c .before .before .before .before .before .before .before .before .if2 .left) _ _ drained (c .before .before .free-own .ensures s (stands .stands) 0x25 drained)
+    drop-refused _ _ _ _ _ _ stands (c .before .before .before .before .before .before .before .before .before .before .before .before .before .before .args .k .0) (c .before .before .before .before .before .before .before .before .before .before .before .before .if1 .left) _ (c .before .before .before .before .before .before .before .before .before .before .need-in .ensures) (sym (c .before .before .before .before .before .before .before .before .before .is-gone .ensures) ∙ c .before .before .before .before .before .before .before .before .if2 .left) _ _ drained (c .before .before .free-own .ensures s (stands .stands) 0x25 drained)
     (sym (c .before .is-refused .ensures) ∙ c .if3 .taken)
 
 mul-needs : tie.Need-mul-needs
@@ -74,7 +74,7 @@ element-write-remembers c = let st = c .before .before .before .before .before .
 
 returns-4 : tie.Need-returns-4
 returns-4 c = λ s stands drained.
-    drop-works _ _ _ _ _ stands (c .before .before .before .before .before .before .before .before .before .before .before .before .before .before .args .k .0) (c .before .before .before .before .before .before .before .before .before .before .before .before .if1 .left) _ (c .before .before .before .before .before .before .before .before .before .before .need-in .ensures) (sym (c .before .before .before .before .before .before .before .before .before .is-gone .ensures) ∙ c .before .before .before .before .before .before .before .before .if2 .left) _ _ drained (c .before .before .free-own .ensures s (stands .stands) 0x25 drained)
+    drop-works _ _ _ _ _ _ stands (c .before .before .before .before .before .before .before .before .before .before .before .before .before .before .args .k .0) (c .before .before .before .before .before .before .before .before .before .before .before .before .if1 .left) _ (c .before .before .before .before .before .before .before .before .before .before .need-in .ensures) (sym (c .before .before .before .before .before .before .before .before .before .is-gone .ensures) ∙ c .before .before .before .before .before .before .before .before .if2 .left) _ _ drained (c .before .before .free-own .ensures s (stands .stands) 0x25 drained)
 
 pub free-need-spec : {M : Type 1} → statement M
 free-need-spec =
