@@ -1,4 +1,4 @@
-// Document 01's sessions A to K and its five to run, and scripts of ours, with needs, with samples and without: for each its label, what `translate` makes of it, the list or the `ee`
+// Document 01's sessions A to K and its five to run, and scripts of ours, with needs, with samples, of edition 2 and without: for each its label, what `translate` makes of it, the list or the `ee`
 // line, and behind > what `translate_and_run` prints on a frame of so many cells. LF is shown as /, nothing as -. Of a long list the last two
 // lines are shown.
 use cases::put;
@@ -44,12 +44,13 @@ fn part(label: &[u8], script: &[u8], end: usize, size: usize)
     case(label, &script[..end], 14, size);
 }
 
-// n allocs, and what follows them.
-fn long(label: &[u8], n: usize, tail: &[u8], size: usize)
+// A title or none, n allocs, and what follows them.
+fn long(label: &[u8], title: &[u8], n: usize, tail: &[u8], size: usize)
     requires { ⌜ size ≤ 1024 ⌝ }
 {
     let mut script = [0u8; 1024];
-    let w = put_lines(&mut script, 0, b"06\n", n);
+    let first = put(&mut script, 0, title);
+    let w = put_lines(&mut script, first, b"06\n", n);
     let end = put(&mut script, w, tail);
     part(label, &script, end, size);
 }
@@ -98,8 +99,8 @@ fn g_to_k() {
 }
 
 fn runs() {
-    long(b"R1   ", 129, b"0c0005\n0c0080\n06\n", 129);
-    long(b"R2   ", 127, b"080002\n", 129);
+    long(b"R1   ", b"", 129, b"0c0005\n0c0080\n06\n", 129);
+    long(b"R2   ", b"", 127, b"080002\n", 129);
     case(b"R3   ", b"080400\n", 1024, 1024);
     case(b"R3,7 ", b"080400\n06\n", 1024, 1024);
     case(b"R4   ", b"080401\n", 1024, 1024);
@@ -259,6 +260,51 @@ fn needs_many() {
     many_needs(b"N22- ", 64, b"250000\n22\n");
 }
 
+// Edition 2: the lowest clear slot of all, whatever was removed last; and the same frames by the head.
+fn editions() {
+    long(b"E1   ", b"f00002\n", 129, b"0c0005\n0c0080\n06\n", 129);
+    case(b"E2   ", b"f00002\n", 1024, 0);
+    case(b"E3   ", b"080400\n0c0005\n0c03ff\n06\n06\n", 1024, 1024);
+    case(
+        b"E4   ",
+        b"f00002\n080400\n0c0005\n0c03ff\n06\n06\n",
+        1024,
+        1024,
+    );
+    case(
+        b"E5   ",
+        b"f00002\n080400\n0c0005\n0c03ff\n06\n06\n06\n",
+        1024,
+        1024,
+    );
+    case(
+        b"E6   ",
+        b"f00002\n080083\n0c0000\n0c0082\n06\n10008300aa\n110083\n080002\n1000840055\n110084\n",
+        1024,
+        132,
+    );
+    case(
+        b"E7   ",
+        b"080083\n0c0000\n0c0082\n06\n10008300aa\n110083\n080002\n1000840055\n110084\n",
+        1024,
+        133,
+    );
+    case(
+        b"E8   ",
+        b"f00002\n080083\n0c0000\n0c0082\n200000\n230000\n070000\n",
+        1024,
+        131,
+    );
+}
+
+// `f0` with another number, on a later line, torn; a refusal's line counts the title.
+fn editions_refused() {
+    case(b"E1-  ", b"f00003\n06\n", 1024, 0);
+    case(b"E1+  ", b"06\nf00002\n", 1024, 0);
+    case(b"E1.  ", b"f00002", 1024, 0);
+    case(b"E13  ", b"f00002\n110000\n", 1024, 0);
+}
+
 fn main() {
     a_to_f();
     g_to_k();
@@ -273,6 +319,8 @@ fn main() {
     needs_many();
     samples();
     samples_refused();
+    editions();
+    editions_refused();
     // one cell less than its size
     whole_session(b"C-   ", 2);
 }

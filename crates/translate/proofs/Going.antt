@@ -11,27 +11,28 @@ use lib.ListN.{length, getD, take, drop, replicate, length-append, length-replic
 use lib.Seq.{take-at}
 use Rattle.rules.specs.Notation.{given, refused}
 use Rattle.rules.specs.Sizes.{Room, base}
-use Rattle.rules.specs.Slots.{Placement, edition1, freshSlots}
+use Rattle.rules.specs.Slots.{Placement, Place, placing, freshSlots}
 use Rattle.rules.specs.Scopes as rule
 use Rattle.rules.specs.Frames.{State, start, Frame, Line, shows, step, Step, Outcome, accepted, refusedAt, before, onward, steps}
 use Rattle.rules.specs.Demand3.{Fair}
 use Rattle.rules.specs.Sound.{sumBelow}
-use Rattle.rules.specs.Text.{Split, split, lineOf, frameTable, Script, frames, unread, frameBefore, scriptFrom, lineText, listText}
+use Rattle.rules.specs.Text.{Split, split, Titled, title, readScript, lineOf, frameTable, Script, frames, unread, frameBefore, scriptFrom, lineText, listText}
 use Rattle.rules.specs.Entries.{outcome, translated}
 use Rattle.rules.proofs.Sound.{SlotsSound, StateSound}
 use Rattle.rules.proofs.KeepsSteps.{keeps-step}
 use Rattle.rules.proofs.Reached.{start-sound}
 use Rattle.rules.proofs.Small.{Small, small-start, small-step}
 use Rattle.rules.proofs.Fits.{base-wide}
-use Rattle.rules.proofs.Editions.{edition1-fair-sound}
+use Rattle.rules.proofs.Editions.{placing-fair-sound}
 use Rattle.rules.proofs.Demand3.{next-frame, no-frame}
 use Rattle.rules.proofs.Lengths.{line-length}
-use Rattle.rules.proofs.Pages.{owing, pays}
+use Rattle.rules.proofs.Pages.{owing, pays, linesLength}
 use Rattle.scopes.specs.View.{view}
 use Rattle.scopes.specs.Lent.{numbersOf, made, Whole}
 use Rattle.scopes.specs.declared.Numbers.{Numbers}
 use Rattle.scopes.specs.declared.Scopes.{Scopes}
 use Rattle.text.specs.Lines.{codeOf, frameOf, framed, frameReading, Took}
+use Rattle.text.specs.Titles.{placeBy, Titles}
 use Rattle.text.specs.Writing.{over}
 use Rattle.text.specs.declared.lines.Frame as code
 use Rattle.text.specs.declared.lines.Reading.{Reading}
@@ -40,18 +41,19 @@ use Rattle.text.specs.declared.lines.Taken.{Taken}
 use Rattle.text.proofs.Splits.{split-end}
 use Rattle.text.proofs.Rows.{frame-code}
 use Rattle.text.proofs.Bounds.{ScriptIn, script-in}
-use Rattle.text.proofs.Over.{over-nothing, next}
+use Rattle.text.proofs.Over.{next}
 use Rattle.handles.specs.Handles.{handleAt}
 use Rattle.handles.specs.NeedTable.{rememberedAt, Needing, table, stateWith}
 use Rattle.frames.specs.Steps.{stepped, Few, Reached}
 use Rattle.frames.specs.Needing.{StandsWith, WorksWith}
 use Rattle.frames.proofs.Beside.{stands-sound, sound-stands}
-use Rattle.translate.specs.Whole.{frameIn, linesOf, linesText, onwardOf, Read, Ends, listed, refused as told}
+use Rattle.translate.specs.Whole.{frameIn, linesOf, linesText, onwardOf, Read, Begun, Ends, listed, refused as told}
 use Rattle.frames.specs.declared.steps.Adds.{Adds}
 use Rattle.frames.specs.declared.steps.Adds.the-variants.{Nothing, One, Store, Load, Drained, Refused}
 use Rattle.translate.specs.declared.whole.Onward.the-variants.{Go, Stop}
 use Rattle.translate.specs.declared.whole.Ended.the-variants as ended
 use Rattle.translate.proofs.Written.{lines-length, lines-on, list-on, Put}
+use Rattle.translate.proofs.Titled.{titles-length}
 
 -- ---- a step of the code, as the rules' step
 
@@ -75,10 +77,6 @@ stops-by o (Drained m) t l n e = stops (sym e)
 stops-by o (Refused m) t l n e = let q : m ≡ n = cc in ap refused q
 
 -- ---- lines before others
-
-before-none : (o : Outcome) → o ≡ before [] o
-before-none (accepted ls size) = refl
-before-none (refusedAt n i) = refl
 
 before-before : (ls ms : List Line) (o : Outcome) → before ls (before ms o) ≡ before (ls ++ ms) o
 before-before ls ms (accepted more size) = ap (λ (l : List Line). accepted l size) (sym (append-assoc ls ms more))
@@ -109,13 +107,13 @@ taking room i l ls left e = go (eqb i (room .lines)) (lineOf frameTable l) (scri
 
 -- ---- the loop
 
-abbrev place : Placement
-place = edition1 (base .segments)
+abbrev pub by : Place → Placement
+by pl = placing (base .segments) pl
 
-pub fair : Fair base place (SlotsSound (base .segments))
-fair = edition1-fair-sound base (base-wide .segments)
+pub fair : (pl : Place) → Fair base (by pl) (SlotsSound (base .segments))
+fair pl = placing-fair-sound base (base-wide .segments) pl
 
-pub record Going (script page₀ : List ℕ) (s : Scopes) (handles holders drained : List ℕ) (handed : ℕ) (nd : Needing) (p i w : ℕ) (page : List ℕ) : Type 0 where
+pub record Going (pl : Place) (script page₀ : List ℕ) (s : Scopes) (handles holders drained : List ℕ) (handed : ℕ) (nd : Needing) (p i w : ℕ) (page : List ℕ) : Type 0 where
   pub within : p ≤ length script
   pub stands : StandsWith s handles holders handed nd
   pub small : Small i (stateWith (view s) handles holders handed nd)
@@ -123,7 +121,7 @@ pub record Going (script page₀ : List ℕ) (s : Scopes) (handles holders drain
   pub reads : scriptFrom base i (split (drop p script)) ≡ frames left
   pub early : i + length left ≤ 2048
   pub done : List Line
-  pub comes : translated base place script ≡ before done (steps base place i (stateWith (view s) handles holders handed nd) left)
+  pub comes : translated base script ≡ before done (steps base (by pl) i (stateWith (view s) handles holders handed nd) left)
   pub at : w ≡ length (linesText done)
   pub written : page ≡ over page₀ 0 (linesText done)
   pub owed : w + 4 * owing base (view s) ≤ 11 * i + 4 * handed
@@ -153,48 +151,74 @@ pub owes-none : owing base (start .scopes) ≡ 0
 unfolding owing start rule.freshScopes base sumBelow
 owes-none = refl
 
-read-whole : (script : List ℕ) (fs : List Frame) → scriptFrom base 0 (split script) ≡ frames fs → translated base place script ≡ steps base place 0 start fs
-unfolding translated outcome
-read-whole script fs e = ap (outcome base place) e
+-- the frames stand behind the title, and its line before theirs
+read-from : (script : List ℕ) (n : ℕ) → Titles script n → readScript base script .script ≡ scriptFrom base n (split (drop (7 * n) script))
+unfolding readScript
+read-from script n t =
+    ap (λ (x : Titled). scriptFrom base (length (title (x .place))) (x .rest)) (t .is)
+    ∙ ap (λ (i : ℕ). scriptFrom base i (split (drop (7 * n) script))) (titles-length n (t .most))
 
-few-frames : (fs : List Frame) (r : Script) → ScriptIn base 0 r → r ≡ frames fs → 0 + length fs ≤ 2048
+read-whole : (script : List ℕ) (fs : List Frame) (n : ℕ) → Titles script n → readScript base script .script ≡ frames fs
+    → translated base script ≡ before (title (placeBy n)) (steps base (by (placeBy n)) n start fs)
+unfolding translated outcome readScript
+read-whole script fs n t e =
+    let q : readScript base script .place ≡ placeBy n = ap (λ (x : Titled). x .place) (t .is) in
+    ap (outcome base (readScript base script .place)) e
+    ∙ (λ u. before (title (q u)) (steps base (by (q u)) (length (title (q u))) start fs))
+    ∙ ap (λ (i : ℕ). before (title (placeBy n)) (steps base (by (placeBy n)) i start fs)) (titles-length n (t .most))
+
+few-frames : (n : ℕ) (fs : List Frame) (r : Script) → ScriptIn base n r → r ≡ frames fs → n + length fs ≤ 2048
 unfolding base
-few-frames fs r h e = subst (ScriptIn base 0) e h
+few-frames n fs r h e = subst (ScriptIn base n) e h
 
-going-start : (script page : List ℕ) (s : Scopes) → Read script → view s ≡ rule.freshScopes → Whole s → Going script page s (replicate 2048 0) (replicate 1024 0) (replicate 1024 0) 0 none-yet 0 0 0 page
-unfolding linesText
-going-start script page s r v h =
-    let e = starts (view s) 2048 1024 v in
-    let o : owing base (view s) ≡ 0 = ap (λ (t : State). owing base (t .scopes)) e ∙ owes-none in
-    let k : s .counter ≡ start .scopes .counter = ap (λ (t : State). t .scopes .counter) e in
-    record {
-      within = omega arith;
-      stands = sound-stands s (replicate 2048 0) (replicate 1024 0) 0 none-yet (subst (StateSound base) (sym e) (start-sound base (base-wide .segments) (base-wide .scopes))) h
-          (omega (arith, k, small-start .count)) (length-replicate {A = ℕ} 2048 0) (length-replicate {A = ℕ} 1024 0) (length-replicate {A = ℕ} 64 0) (length-replicate {A = ℕ} 64 0);
-      small = subst (Small 0) (sym e) small-start;
-      left = r .all;
-      reads = r .reads;
-      early = few-frames (r .all) (scriptFrom base 0 (split script)) (script-in base (split script) 0 (omega arith)) (r .reads);
-      done = [];
-      comes = read-whole script (r .all) (r .reads) ∙ ap (λ (t : State). steps base place 0 t (r .all)) (sym e) ∙ before-none (steps base place 0 (stateWith (view s) (replicate 2048 0) (replicate 1024 0) 0 none-yet) (r .all));
-      at = refl;
-      written = over-nothing page 0;
-      owed = omega (arith, o);
-      drained-length = length-replicate {A = ℕ} 1024 0;
-      page-length = refl;
-    }
+in-room : (n : ℕ) → n ≤ 1 → n ≤ base .lines
+unfolding base
+in-room n l = omega (arith, l)
 
--- the same state, made of its parts
-pub going-fresh : (script page : List ℕ) (s : Scopes) → Read script → view s ≡ rule.freshScopes → Whole s → (n : Numbers) → n ≡ numbersOf s
-    → Going script page (made (s .halves) (s .links) (s .owner) (s .live) (s .dangled) (s .parent) (s .number) (s .bindings) n) (replicate 2048 0) (replicate 1024 0) (replicate 1024 0) 0 none-yet 0 0 0 page
-going-fresh script page s r v h n e =
-    subst (λ (m : Numbers). Going script page (made (s .halves) (s .links) (s .owner) (s .live) (s .dangled) (s .parent) (s .number) (s .bindings) m) (replicate 2048 0) (replicate 1024 0) (replicate 1024 0) 0 none-yet 0 0 0 page)
-    (sym e) (going-start script page s r v h)
+-- the title's line is shorter than a frame's may be
+title-bytes : (n : ℕ) → n ≤ 1 → length (linesText (title (placeBy n))) ≤ 7 * n
+unfolding linesText linesLength
+title-bytes zero l = let e : length (linesText []) ≡ 0 = refl in omega (arith, e)
+title-bytes (suc zero) l = omega (arith, lines-length (shows 0xf0 (2 ∷ []) ∷ []), line-length (shows 0xf0 (2 ∷ [])))
+title-bytes (suc (suc n)) l = absurd (omega arith)
+
+module _ (script page : List ℕ) (n : ℕ) (pl : Place) (w : ℕ) (b : Begun script page n pl w) where
+  going-start : (s : Scopes) → Read script → view s ≡ rule.freshScopes → Whole s → Going (placeBy n) script page s (replicate 2048 0) (replicate 1024 0) (replicate 1024 0) 0 none-yet (7 * n) n w page
+  going-start s r v h =
+      let e = starts (view s) 2048 1024 v in
+      let o : owing base (view s) ≡ 0 = ap (λ (t : State). owing base (t .scopes)) e ∙ owes-none in
+      let k : s .counter ≡ start .scopes .counter = ap (λ (t : State). t .scopes .counter) e in
+      let t = b .titles in
+      let f : scriptFrom base n (split (drop (7 * n) script)) ≡ frames (r .all) = sym (read-from script n t) ∙ r .reads in
+      record {
+        within = t .within;
+        stands = sound-stands s (replicate 2048 0) (replicate 1024 0) 0 none-yet (subst (StateSound base) (sym e) (start-sound base (base-wide .segments) (base-wide .scopes))) h
+            (omega (arith, k, small-start 0 .count)) (length-replicate {A = ℕ} 2048 0) (length-replicate {A = ℕ} 1024 0) (length-replicate {A = ℕ} 64 0) (length-replicate {A = ℕ} 64 0);
+        small = subst (Small n) (sym e) (small-start n);
+        left = r .all;
+        reads = f;
+        early = few-frames n (r .all) (scriptFrom base n (split (drop (7 * n) script))) (script-in base (split (drop (7 * n) script)) n (in-room n (t .most))) f;
+        done = title (placeBy n);
+        comes = read-whole script (r .all) n t (r .reads) ∙ ap (λ (x : State). before (title (placeBy n)) (steps base (by (placeBy n)) n x (r .all))) (sym e);
+        at = b .at;
+        written = b .written;
+        owed = omega (arith, o, b .at, title-bytes n (t .most));
+        drained-length = length-replicate {A = ℕ} 1024 0;
+        page-length = refl;
+      }
+
+  -- the same state, made of its parts; the place as the code has it
+  pub going-fresh : (s : Scopes) → Read script → view s ≡ rule.freshScopes → Whole s → (m : Numbers) → m ≡ numbersOf s
+      → Going pl script page (made (s .halves) (s .links) (s .owner) (s .live) (s .dangled) (s .parent) (s .number) (s .bindings) m) (replicate 2048 0) (replicate 1024 0) (replicate 1024 0) 0 none-yet (7 * n) n w page
+  going-fresh s r v h m e =
+      subst (λ (x : Place). Going x script page (made (s .halves) (s .links) (s .owner) (s .live) (s .dangled) (s .parent) (s .number) (s .bindings) m) (replicate 2048 0) (replicate 1024 0) (replicate 1024 0) 0 none-yet (7 * n) n w page) (sym (b .place))
+      (subst (λ (x : Numbers). Going (placeBy n) script page (made (s .halves) (s .links) (s .owner) (s .live) (s .dangled) (s .parent) (s .number) (s .bindings) x) (replicate 2048 0) (replicate 1024 0) (replicate 1024 0) 0 none-yet (7 * n) n w page)
+      (sym e) (going-start s r v h))
 
 -- ---- one frame
 
-module _ (script page₀ : List ℕ) (s : Scopes) (handles holders drained : List ℕ) (handed : ℕ) (nd : Needing) (p i w : ℕ) (page : List ℕ)
-    (g : Going script page₀ s handles holders drained handed nd p i w page) where
+module _ (pl : Place) (script page₀ : List ℕ) (s : Scopes) (handles holders drained : List ℕ) (handed : ℕ) (nd : Needing) (p i w : ℕ) (page : List ℕ)
+    (g : Going pl script page₀ s handles holders drained handed nd p i w page) where
   abbrev here : State
   here = stateWith (view s) handles holders handed nd
 
@@ -203,47 +227,47 @@ module _ (script page₀ : List ℕ) (s : Scopes) (handles holders drained : Lis
 
   module _ (t : Taken) (k : Took frameReading script p t) (f : code.Frame) (ef : f ≡ frameIn (t .reading))
       (r : Reached) (handles′ holders′ drained′ : List ℕ) (nd′ : Needing)
-      (works : (x : Frame) → frameOf f ≡ some x → WorksWith x (f .opcode) s handles holders handed nd r handles′ holders′ nd′ drained′) where
+      (works : (x : Frame) → frameOf f ≡ some x → WorksWith (by pl) x (f .opcode) s handles holders handed nd r handles′ holders′ nd′ drained′) where
     taken : Taking base i (frameReading (k .line)) (split (drop (t .next) script)) (g .left)
     taken = taking base i (k .line) (split (drop (t .next) script)) (g .left) (sym (ap (scriptFrom base i) (k .here)) ∙ g .reads)
 
     is-frame : frameOf f ≡ some (taken .frame)
     is-frame = ap frameOf ef ∙ ap (λ (x : Reading). frameOf (frameIn x)) (k .as-read ∙ taken .as-read) ∙ frame-code (taken .frame)
 
-    work : WorksWith (taken .frame) (f .opcode) s handles holders handed nd r handles′ holders′ nd′ drained′
+    work : WorksWith (by pl) (taken .frame) (f .opcode) s handles holders handed nd r handles′ holders′ nd′ drained′
     work = works (taken .frame) is-frame
 
     abbrev there : State
     there = stateWith (view (r .state)) handles′ holders′ (r .handed) nd′
 
-    comes-on : translated base place script ≡ before (g .done) (onward i (step base place here (taken .frame)) (λ x. steps base place (suc i) x (taken .more)))
-    comes-on = g .comes ∙ ap (before (g .done)) (ap (steps base place i here) (taken .is) ∙ next-frame base place i here (taken .frame) (taken .more))
+    comes-on : translated base script ≡ before (g .done) (onward i (step base (by pl) here (taken .frame)) (λ x. steps base (by pl) (suc i) x (taken .more)))
+    comes-on = g .comes ∙ ap (before (g .done)) (ap (steps base (by pl) i here) (taken .is) ∙ next-frame base (by pl) i here (taken .frame) (taken .more))
 
-    pub going-stop : (n : ℕ) → onwardOf (r .adds) ≡ Stop n → Ends (translated base place script) (ended.Refused n i) page
+    pub going-stop : (n : ℕ) → onwardOf (r .adds) ≡ Stop n → Ends (translated base script) (ended.Refused n i) page
     unfolding onward
     going-stop n e =
-        let q : step base place here (taken .frame) ≡ refused n = work .does ∙ stops-by (f .opcode) (r .adds) there drained′ n e in
-        let o : translated base place script ≡ refusedAt n i = comes-on ∙ ap (λ (x : Step). before (g .done) (onward i x (λ y. steps base place (suc i) y (taken .more)))) q in
+        let q : step base (by pl) here (taken .frame) ≡ refused n = work .does ∙ stops-by (f .opcode) (r .adds) there drained′ n e in
+        let o : translated base script ≡ refusedAt n i = comes-on ∙ ap (λ (x : Step). before (g .done) (onward i x (λ y. steps base (by pl) (suc i) y (taken .more)))) q in
         subst (λ (x : Outcome). Ends x (ended.Refused n i) page) (sym o) (told (omega (arith, g .early)))
 
     module _ (dl : length drained′ ≡ 1024) (e : onwardOf (r .adds) ≡ Go) where
       abbrev lines : List Line
       lines = linesOf (f .opcode) (r .adds) drained′
 
-      gives : step base place here (taken .frame) ≡ given (lines, there)
+      gives : step base (by pl) here (taken .frame) ≡ given (lines, there)
       gives = work .does ∙ goes-on (f .opcode) (r .adds) there drained′ e
 
       pub going-few : Few (r .adds)
       going-few = work .few
 
       sound : StateSound base there
-      sound = keeps-step base here here-sound (base-wide .slots) place fair (taken .frame) .at (lines, there) gives
+      sound = keeps-step base here here-sound (base-wide .slots) (by pl) (fair pl) (taken .frame) .at (lines, there) gives
 
       enough : suc i + length (taken .more) ≤ 2048
       enough = omega (arith, g .early, ap length (taken .is))
 
       paid : w + length (linesText lines) + 4 * owing base (view (r .state)) ≤ 11 * suc i + 4 * r .handed
-      paid = omega (arith, g .owed, pays base place here here-sound (taken .frame) .at (lines, there) gives .covers, lines-length lines)
+      paid = omega (arith, g .owed, pays base (by pl) here here-sound (taken .frame) .at (lines, there) gives .covers, lines-length lines)
 
       handed-few : r .handed ≤ 2048
       unfolding base
@@ -253,10 +277,10 @@ module _ (script page₀ : List ℕ) (s : Scopes) (handles holders drained : Lis
       going-room h = omega (arith, paid, handed-few, enough, g .page-length)
 
       small-on : Small (suc i) there
-      small-on = small-step base place fair (omega (arith, base-wide .slots, base-wide .size)) i here (here-sound .scopes .slots) (g .small) (taken .frame) .at (lines, there) gives
+      small-on = small-step base (by pl) (fair pl) (omega (arith, base-wide .slots, base-wide .size)) i here (here-sound .scopes .slots) (g .small) (taken .frame) .at (lines, there) gives
 
       going-suc : (w′ : ℕ) (page′ : List ℕ) → length page′ ≡ length page → Put (f .opcode) (r .adds) drained′ page w w′ page′
-          → Going script page₀ (r .state) handles′ holders′ drained′ (r .handed) nd′ (t .next) (suc i) w′ page′
+          → Going pl script page₀ (r .state) handles′ holders′ drained′ (r .handed) nd′ (t .next) (suc i) w′ page′
       unfolding onward
       going-suc w′ page′ l q = record {
         within = k .within;
@@ -266,7 +290,7 @@ module _ (script page₀ : List ℕ) (s : Scopes) (handles holders drained : Lis
         reads = taken .on;
         early = enough;
         done = g .done ++ lines;
-        comes = comes-on ∙ ap (λ (x : Step). before (g .done) (onward i x (λ y. steps base place (suc i) y (taken .more)))) gives ∙ before-before (g .done) lines (steps base place (suc i) there (taken .more));
+        comes = comes-on ∙ ap (λ (x : Step). before (g .done) (onward i x (λ y. steps base (by pl) (suc i) y (taken .more)))) gives ∙ before-before (g .done) lines (steps base (by pl) (suc i) there (taken .more));
         at = q .0 ∙ ap (λ (m : ℕ). m + length (linesText lines)) (g .at) ∙ sym (ap length (lines-on (g .done) lines) ∙ length-append (linesText (g .done)) (linesText lines));
         written = next page₀ page page′ 0 w (linesText (g .done)) (linesText lines) (omega arith) (omega (arith, g .at)) (g .written) (q .1) ∙ ap (over page₀ 0) (sym (lines-on (g .done) lines));
         owed = omega (arith, paid, q .0);
@@ -275,9 +299,9 @@ module _ (script page₀ : List ℕ) (s : Scopes) (handles holders drained : Lis
       }
 
       pub going-on : (w′ : ℕ) (page′ : List ℕ) → length page′ ≡ length page → Put (f .opcode) (r .adds) drained′ page w w′ page′
-          → Going script page₀ (r .state) handles′ holders′ drained′ (r .handed) nd′ (t .next) (i + 1) w′ page′
+          → Going pl script page₀ (r .state) handles′ holders′ drained′ (r .handed) nd′ (t .next) (i + 1) w′ page′
       going-on w′ page′ l q =
-          subst (λ (m : ℕ). Going script page₀ (r .state) handles′ holders′ drained′ (r .handed) nd′ (t .next) m w′ page′) (sym (add-one i)) (going-suc w′ page′ l q)
+          subst (λ (m : ℕ). Going pl script page₀ (r .state) handles′ holders′ drained′ (r .handed) nd′ (t .next) m w′ page′) (sym (add-one i)) (going-suc w′ page′ l q)
 
   -- ---- after the last frame
 
@@ -293,11 +317,11 @@ module _ (script page₀ : List ℕ) (s : Scopes) (handles holders drained : Lis
     unfolding scriptFrom
     no-more = let q : scriptFrom base i [] ≡ frames (g .left) = sym (ap (scriptFrom base i) (split-end script p over-all)) ∙ g .reads in cc
 
-    comes-last : translated base place script ≡ accepted (g .done ++ []) (s .size)
-    comes-last = g .comes ∙ ap (before (g .done)) (ap (steps base place i here) no-more ∙ no-frame base place i here)
+    comes-last : translated base script ≡ accepted (g .done ++ []) (s .size)
+    comes-last = g .comes ∙ ap (before (g .done)) (ap (steps base (by pl) i here) no-more ∙ no-frame base (by pl) i here)
 
     pub going-end : length page₀ ≡ 32768 → (v : ℕ) (page′ : List ℕ) → v ≡ w + 7 → length page′ ≡ length page → page′ ≡ over page w (lineText (shows 0x90 (s .size ∷ [])))
-        → Ends (translated base place script) (ended.Listed v) page′
+        → Ends (translated base script) (ended.Listed v) page′
     unfolding over
     going-end h v page′ ev l q =
         let last : List ℕ = lineText (shows 0x90 (s .size ∷ [])) in

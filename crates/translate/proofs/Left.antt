@@ -10,9 +10,9 @@ use lib.Seq.{take-suc, drop-cons, set-at, length-take-le}
 use borrow.Author.Tests.{le-leb, lt-leb}
 use Rattle.rules.specs.Notation.{if_then_else_}
 use Rattle.rules.specs.Sizes.{base}
-use Rattle.rules.specs.Slots.{Placement}
+use Rattle.rules.specs.Slots.{Place}
 use Rattle.rules.specs.Frames.{Outcome}
-use Rattle.rules.specs.Text.{split, Script, frames, unread, scriptFrom, listText}
+use Rattle.rules.specs.Text.{Script, frames, unread, title, readScript, listText}
 use Rattle.rules.specs.Entries.{outcome, translated, refusalAnswer, Translation, listLeft, translateEntry}
 use Rattle.text.specs.Whole.{ofScript, scriptChecked}
 use Rattle.text.specs.declared.whole.Checked.the-variants.{Good, Refused}
@@ -35,7 +35,7 @@ copied page list₀ list i h k e =
 
 -- ---- by how the steps ended
 
-module _ (place : Placement) (script list page : List ℕ) (e : Ended) (h : Ends (translated base place script) e page) where
+module _ (script list page : List ℕ) (e : Ended) (h : Ends (translated base script) e page) where
   pub late-line : (n i : ℕ) → e ≡ ended.Refused n i → i ≤ 2048
   late-line n i q = go h q
     where
@@ -43,7 +43,7 @@ module _ (place : Placement) (script list page : List ℕ) (e : Ended) (h : Ends
       go (refused {i = j} b) q = let z : j ≡ i = cc in omega arith
       go (listed a b c) q = absurd (let z : _≡_ {A = ℕ} 0 1 = cc in omega arith)
 
-  pub left-refused : (n i r : ℕ) → e ≡ ended.Refused n i → r ≡ refusalAnswer n i → Leaves (translateEntry base place script list) r list
+  pub left-refused : (n i r : ℕ) → e ≡ ended.Refused n i → r ≡ refusalAnswer n i → Leaves (translateEntry base script list) r list
   unfolding translateEntry listLeft
   left-refused n i r q a = go h q
     where
@@ -51,7 +51,7 @@ module _ (place : Placement) (script list page : List ℕ) (e : Ended) (h : Ends
       go (refused {n = m} {i = j} b) q = let y : m ≡ n = cc in let z : j ≡ i = cc in record { answered = rw (y, z) a; list-left = refl }
       go (listed a b c) q = absurd (let z : _≡_ {A = ℕ} 0 1 = cc in omega arith)
 
-  pub left-short : (n r : ℕ) → e ≡ ended.Listed n → length list < n → r ≡ refusalAnswer 17 0 → Leaves (translateEntry base place script list) r list
+  pub left-short : (n r : ℕ) → e ≡ ended.Listed n → length list < n → r ≡ refusalAnswer 17 0 → Leaves (translateEntry base script list) r list
   unfolding translateEntry listLeft if_then_else_
   left-short n r q l a = go h q
     where
@@ -68,7 +68,7 @@ module _ (place : Placement) (script list page : List ℕ) (e : Ended) (h : Ends
       go (refused b) q = absurd (let z : _≡_ {A = ℕ} 0 1 = cc in omega arith)
       go (listed {n = m} x y z) q = let k : m ≡ n = cc in omega arith
 
-  pub left-list : (n : ℕ) (list′ : List ℕ) → e ≡ ended.Listed n → n ≤ length list → list′ ≡ take n page ++ drop n list → Leaves (translateEntry base place script list) n list′
+  pub left-list : (n : ℕ) (list′ : List ℕ) → e ≡ ended.Listed n → n ≤ length list → list′ ≡ take n page ++ drop n list → Leaves (translateEntry base script list) n list′
   unfolding translateEntry listLeft if_then_else_
   left-list n list′ q l a = go h q
     where
@@ -88,19 +88,19 @@ good-refused e = absurd (let z : _≡_ {A = ℕ} 0 1 = cc in omega arith)
 
 pub checked-good : (script : List ℕ) (n : ℕ) → scriptChecked base script ≡ Good n → Read script
 unfolding scriptChecked
-checked-good script n e = go (scriptFrom base 0 (split script)) refl e
+checked-good script n e = go (readScript base script .script) refl e
   where
-    go : (r : Script) → scriptFrom base 0 (split script) ≡ r → ofScript 0 r ≡ Good n → Read script
+    go : (r : Script) → readScript base script .script ≡ r → ofScript (length (title (readScript base script .place))) r ≡ Good n → Read script
     go (frames fs) q e = record { all = fs; reads = q }
     go (unread m i) q e = good-refused (sym e)
 
-pub left-unread : (place : Placement) (script list : List ℕ) (n i r : ℕ) → scriptChecked base script ≡ Refused n i → r ≡ refusalAnswer n i → Leaves (translateEntry base place script list) r list
+pub left-unread : (script list : List ℕ) (n i r : ℕ) → scriptChecked base script ≡ Refused n i → r ≡ refusalAnswer n i → Leaves (translateEntry base script list) r list
 unfolding scriptChecked translateEntry translated outcome listLeft
-left-unread place script list n i r e a = go (scriptFrom base 0 (split script)) e
+left-unread script list n i r e a = go (readScript base script .place) (readScript base script .script) e
   where
-    go : (x : Script) → ofScript 0 x ≡ Refused n i → Leaves (listLeft (outcome base place x) list) r list
-    go (frames fs) e = good-refused e
-    go (unread m j) e = let y : m ≡ n = cc in let z : j ≡ i = cc in record { answered = rw (y, z) a; list-left = refl }
+    go : (p : Place) (x : Script) → ofScript (length (title p)) x ≡ Refused n i → Leaves (listLeft (outcome base p x) list) r list
+    go p (frames fs) e = good-refused e
+    go p (unread m j) e = let y : m ≡ n = cc in let z : j ≡ i = cc in record { answered = rw (y, z) a; list-left = refl }
 
 -- ---- any two results that the promise admits are equal
 

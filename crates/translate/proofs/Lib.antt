@@ -1,4 +1,5 @@
 pub mod Written
+pub mod Titled
 pub mod Going
 pub mod Left
 pub mod Numbers

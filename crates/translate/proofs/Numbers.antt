@@ -2,51 +2,58 @@
 -- halves of the answer can't be mistaken for each other. Assumes nothing.
 use mathlib.Core.Path.{_≡_, refl}
 use mathlib.Core.Bool.{Bool, true, false}
-use mathlib.Core.List.{List}
-use Prim.Native.Nat.{ℕ, _≤_}
+use mathlib.Core.List.{List, [], _∷_, _++_}
+use Prim.Native.Nat.{ℕ, _+_, _*_, _≤_}
 use native.Mathlib.Omega.{arith}
 use lib.Dec.{leb}
-use lib.ListN.{length}
+use lib.ListN.{length, length-append}
 use borrow.Author.Tests.{leb-true}
 use Rattle.rules.specs.Notation.{if_then_else_}
 use Rattle.rules.specs.Sizes.{base}
-use Rattle.rules.specs.Slots.{Placement, edition1}
-use Rattle.rules.specs.Frames.{start, Frame, Line, Outcome, accepted, refusedAt, steps}
-use Rattle.rules.specs.Text.{split, Script, frames, unread, scriptFrom, listText}
+use Rattle.rules.specs.Slots.{Place, byHead, lowest}
+use Rattle.rules.specs.Frames.{start, Frame, Line, shows, Outcome, accepted, refusedAt, before, steps}
+use Rattle.rules.specs.Text.{Script, frames, unread, title, readScript, lineText, listText}
 use Rattle.rules.specs.Entries.{outcome, translated, Translation, listLeft, translateEntry}
 use Rattle.rules.proofs.Refusals.{refused-within}
 use Rattle.rules.proofs.Reached.{start-sound}
 use Rattle.rules.proofs.KeepsSteps.{keeps-step}
 use Rattle.rules.proofs.Fits.{base-wide}
+use Rattle.rules.proofs.Lengths.{line-length}
 use Rattle.rules.proofs.Pages.{list-length}
-use Rattle.text.proofs.Bounds.{ScriptIn, script-in}
+use Rattle.text.proofs.Bounds.{ScriptIn, read-in}
 pub use Rattle.text.proofs.Halves.{count, number}
 use Rattle.text.proofs.Halves.{Halves as Both, by-count, by-number}
-use Rattle.translate.proofs.Going.{fair, owes-none}
+use Rattle.translate.proofs.Going.{by, fair, owes-none}
 
--- ---- in the room of 01, by edition 1
-
-abbrev place₁ : Placement
-place₁ = edition1 (base .segments)
+-- ---- in the room of 01, by either edition
 
 pub data Comes : Outcome → Type 0 where
   to-list : {ls : List Line} {size : ℕ} → length (listText ls size) ≤ 30727 → Comes (accepted ls size)
   to-stop : (n i : ℕ) → 1 ≤ n → n ≤ 22 → i ≤ 2048 → Comes (refusedAt n i)
 
-pub comes : (script : List ℕ) → Comes (translated base place₁ script)
+title-adds : (p : Place) (ls : List Line) (size : ℕ) → length (listText (title p ++ ls) size) ≤ length (listText ls size) + 7 * length (title p)
+unfolding listText
+title-adds byHead ls size = omega arith
+title-adds lowest ls size = omega (arith, length-append (lineText (shows 0xf0 (2 ∷ []))) (listText ls size), line-length (shows 0xf0 (2 ∷ [])))
+
+pub comes : (script : List ℕ) → Comes (translated base script)
 unfolding translated outcome base
-comes script = go (scriptFrom base 0 (split script)) (script-in base (split script) 0 (omega arith))
+comes script = go (readScript base script .script) (read-in base (omega arith) script)
   where
-    ends : (fs : List Frame) → length fs ≤ 2048 → (o : Outcome) → steps base place₁ 0 start fs ≡ o → Comes o
-    ends fs h (accepted ls size) e =
-        let k = list-length base place₁ (λ s ok f. keeps-step base s ok (base-wide .slots) place₁ fair f) fs 0 start ls size (start-sound base (base-wide .segments) (base-wide .scopes)) e in
-        to-list {ls = ls} {size = size} (omega (arith, k, owes-none))
-    ends fs h (refusedAt n i) e =
-        let k = refused-within base place₁ fs 0 start n i e in
+    p : Place
+    p = readScript base script .place
+
+    -- the title's line is shorter than a frame's may be
+    under : (p : Place) (fs : List Frame) → length (title p) + length fs ≤ 2048 → (o : Outcome) → steps base (by p) (length (title p)) start fs ≡ o → Comes (before (title p) o)
+    under p fs h (accepted ls size) e =
+        let k = list-length base (by p) (λ s ok f. keeps-step base s ok (base-wide .slots) (by p) (fair p) f) fs (length (title p)) start ls size (start-sound base (base-wide .segments) (base-wide .scopes)) e in
+        to-list {ls = title p ++ ls} {size = size} (omega (arith, k, owes-none, title-adds p ls size))
+    under p fs h (refusedAt n i) e =
+        let k = refused-within base (by p) fs (length (title p)) start n i e in
         to-stop n i (k .0) (k .1) (omega (arith, k .2))
 
-    go : (r : Script) → ScriptIn base 0 r → Comes (outcome base place₁ r)
-    go (frames fs) h = ends fs (omega (arith, h)) (steps base place₁ 0 start fs) refl
+    go : (r : Script) → ScriptIn base (length (title p)) r → Comes (outcome base p r)
+    go (frames fs) h = under p fs (omega (arith, h)) (steps base (by p) (length (title p)) start fs) refl
     go (unread n i) h = to-stop n i (h .0) (omega (arith, h .1)) (h .2)
 
 -- ---- the two halves of the answer
@@ -64,6 +71,6 @@ halves-of list _ (to-list {ls = ls} {size = size} a) = go (leb (length (listText
     go true e = rw (e, if_then_else_) (by-count _ _ _ _ _ _ (omega arith) (leb-true _ _ e) a)
     go false e = rw (e, if_then_else_) (by-number _ _ _ _ _ 17 0 (omega arith) (omega arith) (omega arith) (omega arith) refl)
 
-pub translate-halves : (script list : List ℕ) → Halves list (translateEntry base (edition1 8) script list)
+pub translate-halves : (script list : List ℕ) → Halves list (translateEntry base script list)
 unfolding translateEntry base
-translate-halves script list = halves-of list (translated base (edition1 8) script) (comes script)
+translate-halves script list = halves-of list (translated base script) (comes script)

@@ -6,9 +6,12 @@ use lib.ListN.{length, take}
 use Rattle.rules.specs.Sizes.{base}
 use Rattle.rules.specs.Frames as rules
 use Rattle.rules.specs.Frames.{Line, stores, loads, shows, Outcome, accepted, refusedAt}
-use Rattle.rules.specs.Text.{lineText, listText, split, frames, scriptFrom}
+use Rattle.rules.specs.Slots.{Place}
+use Rattle.rules.specs.Text.{lineText, listText, frames, title, readScript}
 use Rattle.rules.specs.Entries.{Translation}
 use Rattle.text.specs.Shapes.{frame}
+use Rattle.text.specs.Titles.{placeBy, Titles}
+use Rattle.text.specs.Writing.{over}
 use Rattle.text.specs.declared.lines.Frame.{Frame}
 use Rattle.text.specs.declared.lines.Reading.{Reading}
 use Rattle.text.specs.declared.lines.Reading.the-variants as reading
@@ -56,10 +59,17 @@ onwardOf (Refused n) = onward.Stop n
 
 -- ---- the whole script
 
--- the script's lines are read: they are these frames
+-- the script's lines are read: behind the title they are these frames
 pub record Read (script : List ℕ) : Type 0 where
   pub all : List rules.Frame
-  pub reads : scriptFrom base 0 (split script) ≡ frames all
+  pub reads : readScript base script .script ≡ frames all
+
+-- the script has n title lines, slots go where they say, and they stand on the first w bytes of the page
+pub record Begun (script page : List ℕ) (n : ℕ) (p : Place) (w : ℕ) : Type 0 where
+  pub titles : Titles script n
+  pub place : p ≡ placeBy n
+  pub at : w ≡ length (linesText (title (placeBy n)))
+  pub written : page ≡ over page 0 (linesText (title (placeBy n)))
 
 -- the list stands at the start of the page, or a refusal is told
 pub data Ends : Outcome → Ended → List ℕ → Type 0 where

@@ -9,7 +9,6 @@ ghost use mathlib.Core.List.{_++_};
 ghost use Prim.Native.Nat.{_≤_};
 ghost use lib.ListN.{length, take, drop};
 ghost use Rattle.rules.specs.Sizes.{base};
-ghost use Rattle.rules.specs.Slots.{edition1};
 ghost use Rattle.rules.specs.Entries.{translateEntry};
 ghost use Rattle.translate.specs.Whole.{Leaves, Read};
 
@@ -30,7 +29,7 @@ fn copy(page: &[u8], list: &mut [u8], n: usize)
 // The script is read: its steps, and 17 last.
 fn translate_read(script: &[u8], list: &mut [u8]) -> u64
     requires { ⌜ Read (now script) ⌝ }
-    ensures { λ r. ⌜ Leaves (translateEntry base (edition1 8) (now (script .entry)) (now (list .entry))) r (now (list .exit)) ⌝ }
+    ensures { λ r. ⌜ Leaves (translateEntry base (now (script .entry)) (now (list .entry))) r (now (list .exit)) ⌝ }
 {
     let mut page = [0u8; 32768];
     match whole_steps(script, &mut page) {
@@ -49,7 +48,7 @@ fn translate_read(script: &[u8], list: &mut [u8]) -> u64
 // as it was.
 #[no_mangle]
 pub extern "C" fn translate(script: &[u8], list: &mut [u8]) -> u64
-    ensures { λ r. ⌜ Leaves (translateEntry base (edition1 8) (now (script .entry)) (now (list .entry))) r (now (list .exit)) ⌝ }
+    ensures { λ r. ⌜ Leaves (translateEntry base (now (script .entry)) (now (list .entry))) r (now (list .exit)) ⌝ }
 {
     match check_script(script) {
         Checked::Refused(m, i) => refuse(m, i),

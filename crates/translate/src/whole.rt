@@ -3,19 +3,22 @@ ghost use mathlib.Core.Path.{_≡_};
 ghost use Prim.Native.Nat.{_+_, _≤_};
 ghost use lib.ListN.{length};
 ghost use Rattle.rules.specs.Sizes.{base};
-ghost use Rattle.rules.specs.Slots.{edition1};
 ghost use Rattle.rules.specs.Frames.{stores};
-ghost use Rattle.rules.specs.Text.{lineText};
+ghost use Rattle.rules.specs.Text.{lineText, title};
 ghost use Rattle.rules.specs.Entries.{translated};
+ghost use Rattle.slots.specs.Spots.{placeOf};
+ghost use Rattle.text.specs.Titles.{placeBy};
 ghost use Rattle.text.specs.Writing.{over};
 ghost use Rattle.frames.specs.Steps.{Few, sourceOf};
-ghost use Rattle.translate.specs.Whole.{frameIn, linesOf, linesText, onwardOf, Read, Ends};
+ghost use Rattle.translate.specs.Whole.{frameIn, linesOf, linesText, onwardOf, Read, Begun, Ends};
 use dispatch::step;
 use frames::steps::Adds;
 use frames::steps::Source;
+use slots::Place;
 use text::lines::Frame;
 use text::lines::Reading;
 use text::lines::frame_at;
+use text::whole::title_lines;
 use text::writing::put_drain;
 use text::writing::put_line;
 use text::writing::put_size;
@@ -86,10 +89,33 @@ fn put_adds(page: &mut [u8], w: usize, opcode: u8, adds: Adds, drained: &[u16]) 
     }
 }
 
-// The script is read: every frame of it, then the size line. The state is opened once into local arrays, which are lent to the steps.
-pub fn steps(script: &[u8], page: &mut [u8]) -> Ended
-    requires { ⌜ Read (now script) × (length (now page) ≡ 32768) ⌝ }
-    ensures { λ r. ⌜ Ends (translated base (edition1 8) (now (script .entry))) r (now (page .exit)) ⌝ }
+// Where slots go, by how many title lines there are.
+fn place_by(titles: usize) -> Place
+    ensures { λ r. ⌜ placeOf r ≡ placeBy titles ⌝ }
+{
+    if titles == 0 {
+        return Place::ByHead;
+    }
+    Place::Lowest
+}
+
+// The title's line, where there is one, at the start of the page. It answers where the next line goes.
+fn put_title(page: &mut [u8], titles: usize) -> usize
+    requires { ⌜ 7 ≤ length (now page) ⌝ }
+    ensures { λ r. ⌜ r ≡ length (linesText (title (placeBy titles))) ⌝ }
+    ensures { λ _. ⌜ now (page .exit) ≡ over (now (page .entry)) 0 (linesText (title (placeBy titles))) ⌝ }
+{
+    if titles == 0 {
+        return 0;
+    }
+    put_line(page, 0, 0xf0, 1, 2, 0)
+}
+
+// The script is read, and its title stands on the page: every frame behind it, then the size line. The state is opened once into local
+// arrays, which are lent to the steps.
+fn steps_behind(script: &[u8], page: &mut [u8], titles: usize, place: Place, begun: usize) -> Ended
+    requires { ⌜ Read (now script) × (length (now page) ≡ 32768) × Begun (now script) (now page) titles (placeOf place) begun ⌝ }
+    ensures { λ r. ⌜ Ends (translated base (now (script .entry))) r (now (page .exit)) ⌝ }
 {
     let mut handles = [0u64; 2048];
     let mut holders = [0u16; 1024];
@@ -108,9 +134,9 @@ pub fn steps(script: &[u8], page: &mut [u8]) -> Ended
     let mut n = scopes::numbers_of(s);
     let mut handed: usize = 0;
     let mut needed: usize = 0;
-    let mut p: usize = 0;
-    let mut i: usize = 0;
-    let mut w: usize = 0;
+    let mut p: usize = 7 * titles;
+    let mut i: usize = titles;
+    let mut w: usize = begun;
     while p < script.len() {
         let t = frame_at(script, p);
         let x = t.reading;
@@ -133,6 +159,7 @@ pub fn steps(script: &[u8], page: &mut [u8]) -> Ended
             &mut remembers,
             needed,
             f,
+            place,
         );
         let adds = r.adds;
         match onward_of(adds) {
@@ -150,4 +177,14 @@ pub fn steps(script: &[u8], page: &mut [u8]) -> Ended
     }
     let size = n.size as u16;
     Ended::Listed(put_size(page, w, size))
+}
+
+// The script is read: its title, and what stands behind it.
+pub fn steps(script: &[u8], page: &mut [u8]) -> Ended
+    requires { ⌜ Read (now script) × (length (now page) ≡ 32768) ⌝ }
+    ensures { λ r. ⌜ Ends (translated base (now (script .entry))) r (now (page .exit)) ⌝ }
+{
+    let titles = title_lines(script);
+    let begun = put_title(page, titles);
+    steps_behind(script, page, titles, place_by(titles), begun)
 }

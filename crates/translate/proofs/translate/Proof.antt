@@ -2,7 +2,6 @@
 use mathlib.Core.Path.{sym, _∙_}
 use native.Mathlib.Omega.{arith}
 use Rattle.rules.specs.Sizes.{base}
-use Rattle.rules.specs.Slots.{edition1}
 use Rattle.text.proofs.Bounds.{script-refused}
 use Rattle.translate.proofs.Left.{checked-good, left-unread}
 use borrow.Author.Needs.{needs}
@@ -20,7 +19,7 @@ unfolding base
 refuse-requires c κs =
     let k = c .before .before .before in
     let a = k .before .before .before in
-    let h = script-refused base (a .args .script .now) _ _ (sym (k .check-script .ensures) ∙ c .before .m .given .1) in omega (arith, h .2)
+    let h = script-refused base (omega arith) (a .args .script .now) _ _ (sym (k .check-script .ensures) ∙ c .before .m .given .1) in omega (arith, h .2)
 
 enum-told : tie.Need-enum-told
 enum-told c = search needs
@@ -35,7 +34,7 @@ returns : tie.Need-returns
 returns c =
     let k = c .before .before .before .before in
     let a = k .before .before .before in
-    left-unread (edition1 8) (a .args .script .now) (a .args .list .now) _ _ _ (sym (k .check-script .ensures) ∙ c .before .before .m .given .1) (c .refuse .ensures)
+    left-unread (a .args .script .now) (a .args .list .now) _ _ _ (sym (k .check-script .ensures) ∙ c .before .before .m .given .1) (c .refuse .ensures)
 
 same-length : tie.Need-same-length
 same-length c = search needs

@@ -1,6 +1,5 @@
 -- `translate_read` meets its contract, over the rules' own `translateEntry`. Assumes nothing.
 use native.Mathlib.Omega.{arith}
-use Rattle.rules.specs.Slots.{edition1}
 use Rattle.translate.proofs.Left.{late-line, left-refused, left-short, page-room, left-list}
 use borrow.Author.Needs.{needs}
 use Rattle.translate.proofs.translate_read.Statement.{statement}
@@ -19,7 +18,7 @@ refuse-requires : tie.Need-refuse-requires
 refuse-requires c κs =
     let s = c .before .before .before .before in
     let a = s .before .before .before .before in
-    let h = late-line (edition1 8) (a .args .script .now) (a .args .list .now) (s .steps .last .1 .0) (s .steps .result) (s .steps .ensures) _ _ (c .before .m .given .1) in omega (arith, h)
+    let h = late-line (a .args .script .now) (a .args .list .now) (s .steps .last .1 .0) (s .steps .result) (s .steps .ensures) _ _ (c .before .m .given .1) in omega (arith, h)
 
 enum-known-n : tie.Need-enum-known-n
 enum-known-n c = search needs
@@ -31,7 +30,7 @@ returns : tie.Need-returns
 returns c =
     let s = c .before .before .before .before .before .before in
     let a = s .before .before .before .before in
-    left-short (edition1 8) (a .args .script .now) (a .args .list .now) (s .steps .last .1 .0) (s .steps .result) (s .steps .ensures) _ _ (c .before .before .before .n .given .1) (c .before .if1 .taken) (c .refuse2 .ensures)
+    left-short (a .args .script .now) (a .args .list .now) (s .steps .last .1 .0) (s .steps .result) (s .steps .ensures) _ _ (c .before .before .before .n .given .1) (c .before .if1 .taken) (c .refuse2 .ensures)
 
 slice-aggregate-copy : tie.Need-slice-aggregate-copy
 slice-aggregate-copy c = search needs
@@ -39,13 +38,13 @@ slice-aggregate-copy c = search needs
 copy-requires : tie.Need-copy-requires
 copy-requires c κs =
     let s = c .before .before .before .before .before .before .before in
-    let a = s .before .before .before .before in (page-room (edition1 8) (a .args .script .now) (a .args .list .now) (s .steps .last .1 .0) (s .steps .result) (s .steps .ensures) _ (c .before .before .before .before .n .given .1), c .before .before .if1 .left)
+    let a = s .before .before .before .before in (page-room (a .args .script .now) (a .args .list .now) (s .steps .last .1 .0) (s .steps .result) (s .steps .ensures) _ (c .before .before .before .before .n .given .1), c .before .before .if1 .left)
 
 returns-2 : tie.Need-returns-2
 returns-2 c =
     let s = c .before .before .before .before .before in
     let a = s .before .before .before .before in
-    left-refused (edition1 8) (a .args .script .now) (a .args .list .now) (s .steps .last .1 .0) (s .steps .result) (s .steps .ensures) _ _ _ (c .before .before .m .given .1) (c .refuse .ensures)
+    left-refused (a .args .script .now) (a .args .list .now) (s .steps .last .1 .0) (s .steps .result) (s .steps .ensures) _ _ _ (c .before .before .m .given .1) (c .refuse .ensures)
 
 same-length : tie.Need-same-length
 same-length c = search needs
@@ -54,7 +53,7 @@ returns-3 : tie.Need-returns-3
 returns-3 c =
     let s = c .before .before .before .before .before .before .before .before .before .before in
     let a = s .before .before .before .before in
-    left-list (edition1 8) (a .args .script .now) (a .args .list .now) (s .steps .last .1 .0) (s .steps .result) (s .steps .ensures) _ _ (c .before .before .before .before .before .before .before .n .given .1) (c .before .before .before .before .before .if1 .left) (c .before .before .copy .ensures)
+    left-list (a .args .script .now) (a .args .list .now) (s .steps .last .1 .0) (s .steps .result) (s .steps .ensures) _ _ (c .before .before .before .before .before .before .before .n .given .1) (c .before .before .before .before .before .if1 .left) (c .before .before .copy .ensures)
 
 pub translate-read-spec : {M : Type 1} → statement M
 translate-read-spec =
