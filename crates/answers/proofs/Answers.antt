@@ -7,7 +7,6 @@ use lib.ListN.{length, replicate}
 use borrow.Author.Tests.{le-leb, lt-ltb, le-ltb}
 use Rattle.rules.specs.Notation.{if_then_else_}
 use Rattle.rules.specs.Sizes.{base}
-use Rattle.rules.specs.Slots.{edition1}
 use Rattle.rules.specs.Frames.{Outcome}
 use Rattle.rules.specs.Text.{listText}
 use Rattle.rules.specs.Entries.{translated, listLeft, translateEntry, RunOutcome, ranOn, loadsText, cellsOf, runLeft, runEntry, refusalAnswer, overFront, eeText, outcomeText, runText, unlessLonger, translatorPrints, runnerPrints}
@@ -48,23 +47,23 @@ translation-says _ (translation.to-list {ls = ls} {size = size} a) out h r out�
     written (rw (e, if_then_else_) at (l .answered)) (omega arith) (rw (e, if_then_else_) at (l .list-left))
 
 module _ (script : List ℕ) where
-  pub script-longer : 32768 < length script → eeText 17 0 ≡ translatorPrints base (edition1 8) script
+  pub script-longer : 32768 < length script → eeText 17 0 ≡ translatorPrints base script
   unfolding translatorPrints unlessLonger if_then_else_ base
   script-longer h = sym (rw (lt-ltb _ _ h, if_then_else_))
 
-  script-fits : length script ≤ 32768 → outcomeText (translated base (edition1 8) script) ≡ translatorPrints base (edition1 8) script
+  script-fits : length script ≤ 32768 → outcomeText (translated base script) ≡ translatorPrints base script
   unfolding translatorPrints unlessLonger if_then_else_ base
   script-fits h = sym (rw (le-ltb _ _ h, if_then_else_))
 
-  come : translation.Comes (translated base (edition1 8) script)
+  come : translation.Comes (translated base script)
   unfolding base
   come = translation.comes script
 
-  pub translate-says : length script ≤ 32768 → (out : List ℕ) → 32768 ≤ length out → (r : ℕ) (out′ : List ℕ) → translate.Leaves (translateEntry base (edition1 8) script out) r out′
-      → Says (translatorPrints base (edition1 8) script) out r out′
+  pub translate-says : length script ≤ 32768 → (out : List ℕ) → 32768 ≤ length out → (r : ℕ) (out′ : List ℕ) → translate.Leaves (translateEntry base script out) r out′
+      → Says (translatorPrints base script) out r out′
   unfolding translateEntry
   translate-says h out wide r out′ l =
-      subst (λ (t : List ℕ). Says t out r out′) (script-fits h) (translation-says (translated base (edition1 8) script) come out wide r out′ l)
+      subst (λ (t : List ℕ). Says t out r out′) (script-fits h) (translation-says (translated base script) come out wide r out′ l)
 
 -- ---- run
 
@@ -94,7 +93,7 @@ module _ (list : List ℕ) where
 
     come-to : running.Comes 2048 (ranOn base (cellsOf cells) list)
     unfolding base
-    come-to = running.comes base (cellsOf cells) list
+    come-to = running.comes base (omega arith) (cellsOf cells) list
 
     pub run-says : (r : ℕ) (cells′ out′ : List ℕ) → machine.Leaves (runEntry base list cells out) r cells′ out′ → Says (runnerPrints base list) out r out′
     unfolding runEntry

@@ -125,5 +125,5 @@ module _ (list : List ℕ) (state : ℕ) (samples : List ℕ) where
     beside-says a cells′ out′ left′ l = subst (λ (t : List ℕ). SaysBeside t out a out′ left′) printed-as (go (isState state) refl)
       where
         go : (b : Bool) → isState state ≡ b → SaysBeside (if (isState state) then recordedText (recordedOn base (cellsOf cells) r list) else eeText 29 0) out a out′ left′
-        go true e = rw (e, if_then_else_) (outcome-says (readerOf state .line) (omega arith) _ (comes-told base (cellsOf cells) (readerOf state .line) (cellsOf samples) list (eqb (readerOf state .column) 0)) cells out left wide four a cells′ out′ left′ (rw (e, if_then_else_) at l))
+        go true e = rw (e, if_then_else_) (outcome-says (readerOf state .line) (omega arith) _ (comes-told base (omega arith) (cellsOf cells) (readerOf state .line) (cellsOf samples) list (eqb (readerOf state .column) 0)) cells out left wide four a cells′ out′ left′ (rw (e, if_then_else_) at l))
         go false e = let k = rw (e, if_then_else_) at l in rw (e, if_then_else_) (refusal 29 0 (k .answered) (omega arith) (omega arith) (omega arith) (λ ne. omega arith) refl (k .out-left))

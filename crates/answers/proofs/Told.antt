@@ -8,13 +8,13 @@ use Rattle.rules.specs.Notation.{if_then_else_}
 use Rattle.rules.specs.Sizes.{base}
 use Rattle.rules.specs.Frames.{constant, nextSample, Line, stores, loads, shows}
 use Rattle.rules.specs.Meaning.{listTakes}
-use Rattle.rules.specs.Text.{split, Listed, listed, unlisted, listFrom}
+use Rattle.rules.specs.Text.{Listed, listed, unlisted, readList}
 use Rattle.rules.specs.Entries.{RunOutcome, runListed, recordedOn, cellsOf, readEntry, unlessLonger, recordedText, recordedPrints}
 use Rattle.rules.specs.Cuts.{PartsTell}
 use Rattle.rules.proofs.SampleCells.{cells-length}
 use Rattle.rules.proofs.PartsTell.{parts-tell}
 use Rattle.rules.proofs.RunTold.{runs-as-told}
-use Rattle.text.proofs.Bounds.{ListIn, list-in}
+use Rattle.text.proofs.Bounds.{ListIn, read-list-in}
 use Rattle.answers.specs.Prints.{besidePrints}
 
 takes-most : (ls : List Line) → listTakes ls ≤ length ls
@@ -26,9 +26,9 @@ takes-most (loads o a ∷ ls) = let h = takes-most ls in omega arith
 takes-most (shows o l ∷ ls) = let h = takes-most ls in omega arith
 
 -- a list takes no more samples than it may have lines
-takes-few : (list : List ℕ) (ls : List Line) (size : ℕ) → listFrom base 0 (split list) ≡ listed ls size → listTakes ls ≤ 2048
+takes-few : (list : List ℕ) (ls : List Line) (size : ℕ) → readList base list ≡ listed ls size → listTakes ls ≤ 2048
 unfolding base
-takes-few list ls size e = go (listFrom base 0 (split list)) (list-in base (split list) 0 (omega arith)) e
+takes-few list ls size e = go (readList base list) (read-list-in base (omega arith) list) e
   where
     go : (l : Listed) → ListIn base 0 l → l ≡ listed ls size → listTakes ls ≤ 2048
     go (unlisted n i) h q = absurd (let z : _≡_ {A = ℕ} 0 1 = cc in omega arith)
@@ -40,4 +40,4 @@ told-prints list s memory h =
     let t = parts-tell s memory in
     rw (t .state, if_then_else_)
     (ap (λ (o : RunOutcome). unlessLonger base list (recordedText o))
-    (runs-as-told (replicate (base .size) 0) s memory _ _ (t .by-entry) (listFrom base 0 (split list)) (λ ls size e. omega (arith, takes-few list ls size e, cells-length memory))))
+    (runs-as-told (replicate (base .size) 0) s memory _ _ (t .by-entry) (readList base list) (λ ls size e. omega (arith, takes-few list ls size e, cells-length memory))))

@@ -7,7 +7,6 @@ use text::writing::put_refusal;
 ghost use Prim.Native.Nat.{_+_, _/_, _%_, _≤_};
 ghost use lib.ListN.{length};
 ghost use Rattle.rules.specs.Sizes.{base};
-ghost use Rattle.rules.specs.Slots.{edition1};
 ghost use Rattle.rules.specs.Entries.{eeText, translatorPrints, runnerPrints, recordedPrints};
 ghost use Rattle.answers.specs.Prints.{Prints, Halved, Shown, Behind, HalvedBeside, stoppedText};
 
@@ -39,7 +38,7 @@ fn shown(answer: u64, out: &mut [u8; 32768]) -> usize
 
 // What the translating program prints for a script.
 pub fn translated(script: &[u8], out: &mut [u8; 32768]) -> usize
-    ensures { λ r. ⌜ Prints (translatorPrints base (edition1 8) (now (script .entry))) (now (out .entry)) r (now (out .exit)) ⌝ }
+    ensures { λ r. ⌜ Prints (translatorPrints base (now (script .entry))) (now (out .entry)) r (now (out .exit)) ⌝ }
 {
     if script.len() > MOST {
         return longer(out);

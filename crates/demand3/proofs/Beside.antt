@@ -9,10 +9,9 @@ use lib.ListN.{length, drop}
 use borrow.Author.Tests.{le-leb}
 use Rattle.rules.specs.Notation.{if_then_else_}
 use Rattle.rules.specs.Sizes.{base}
-use Rattle.rules.specs.Slots.{edition1}
 use Rattle.rules.specs.Frames.{Line, accepted}
 use Rattle.rules.specs.Meaning.{Ran, listTakes}
-use Rattle.rules.specs.Text.{split, listText, listed, listFrom}
+use Rattle.rules.specs.Text.{listText, listed, readList}
 use Rattle.rules.specs.Recordings.{Recording, recorded, malformed, recording, Reader, readerOf, isState, ended}
 use Rattle.rules.specs.Entries.{translated, overFront, loadsText, cellsOf, oddByte, bytesOf, RunOutcome, ran, runListed, recordedOn, readEntry, RecordedRunning, recordedLeft, recordedEntry, bytes4}
 use Rattle.rules.specs.Cuts.{Told, PartsTell}
@@ -26,7 +25,7 @@ use Rattle.demand3.proofs.Ran.{reads, as-many, worked, ran-on, loaded, 
 
 -- ---- what a run that went through leaves
 
-module _ (script : List ℕ) (ls : List Line) (size : ℕ) (ok : translated base (edition1 8) script ≡ accepted ls size)
+module _ (script : List ℕ) (ls : List Line) (size : ℕ) (ok : translated base script ≡ accepted ls size)
     (n : ℕ) (vs : List ℕ) (many : takes script ≤ n) (enough : takes script ≤ length vs) (cells : List ℕ) (f : size ≤ length (cellsOf cells)) where
   abbrev x : Ran
   x = worked script ls size ok n vs many enough (cellsOf cells) f
@@ -73,8 +72,8 @@ as-many-lines r vs ws n e h = go (eqb (r .column) 0) e
 
 -- ---- with the recording
 
-module _ (script : List ℕ) (ls : List Line) (size : ℕ) (ok : translated base (edition1 8) script ≡ accepted ls size) where
-  room-for : (memory : List ℕ) → 2 * takes script ≤ length memory → (ms : List Line) (k : ℕ) → listFrom base 0 (split (listText ls size)) ≡ listed ms k → listTakes ms ≤ length (cellsOf memory)
+module _ (script : List ℕ) (ls : List Line) (size : ℕ) (ok : translated base script ≡ accepted ls size) where
+  room-for : (memory : List ℕ) → 2 * takes script ≤ length memory → (ms : List Line) (k : ℕ) → readList base (listText ls size) ≡ listed ms k → listTakes ms ≤ length (cellsOf memory)
   room-for memory h ms k e =
       let b = reads script ls size ok in
       let same : ls ≡ ms = cc in
@@ -88,7 +87,7 @@ module _ (script : List ℕ) (ls : List Line) (size : ℕ) (ok : translated base
   told-run memory s h cells out left =
       let t = parts-tell s memory in
       rw (t .state, if_then_else_)
-      (ap (λ (o : RunOutcome). recordedLeft o cells out left) (runs-as-told (cellsOf cells) s memory _ _ (t .by-entry) (listFrom base 0 (split (listText ls size))) (room-for memory h)))
+      (ap (λ (o : RunOutcome). recordedLeft o cells out left) (runs-as-told (cellsOf cells) s memory _ _ (t .by-entry) (readList base (listText ls size)) (room-for memory h)))
 
   pub beside : (parts : List (List ℕ)) (memory : List ℕ) (state : ℕ) (samples : List ℕ) → Fed parts 0 memory state samples
       → (n : ℕ) (vs : List ℕ) → recording (joined parts) ≡ recorded n vs → takes script ≤ n → 2 * takes script ≤ length memory

@@ -10,7 +10,6 @@ use lib.Seq.{take-at}
 use borrow.Author.Tests.{le-leb}
 use Rattle.rules.specs.Notation.{if_then_else_}
 use Rattle.rules.specs.Sizes.{base}
-use Rattle.rules.specs.Slots.{edition1}
 use Rattle.rules.specs.Frames.{Line, Outcome, accepted}
 use Rattle.rules.specs.Meaning.{Ran}
 use Rattle.rules.specs.Text.{listText}
@@ -26,7 +25,7 @@ use Rattle.demand3.proofs.Beside.{prints-by, above-by, beside}
 
 -- ---- what translate left
 
-pub come : (script : List ℕ) → Comes (translated base (edition1 8) script)
+pub come : (script : List ℕ) → Comes (translated base script)
 unfolding base
 come script = comes script
 
@@ -34,10 +33,10 @@ come script = comes script
 pub record Listing (script list : List ℕ) : Type 0 where
   pub lines : List Line
   pub size : ℕ
-  pub ok : translated base (edition1 8) script ≡ accepted lines size
+  pub ok : translated base script ≡ accepted lines size
   pub is : list ≡ listText lines size
 
-listing : (script list : List ℕ) (o : Outcome) → translated base (edition1 8) script ≡ o → Comes o → (r : ℕ) (list′ : List ℕ) → translate.Leaves (listLeft o list) r list′ → Accepts r → Listing script (take r list′)
+listing : (script list : List ℕ) (o : Outcome) → translated base script ≡ o → Comes o → (r : ℕ) (list′ : List ℕ) → translate.Leaves (listLeft o list) r list′ → Accepts r → Listing script (take r list′)
 unfolding listLeft if_then_else_
 listing script list _ e (to-stop n i a b c) r list′ h k = absurd (omega (arith, h .answered))
 listing script list _ e (to-list {ls = ls} {size = size} a) r list′ h k = go (leb (length (listText ls size)) (length list)) refl
@@ -56,7 +55,7 @@ listing script list _ e (to-list {ls = ls} {size = size} a) r list′ h k = go (
 
 pub listed-by : (script list : List ℕ) (r : ℕ) (list′ : List ℕ) → TranslatePromise script list r list′ → Accepts r → Listing script (take r list′)
 unfolding translateEntry
-listed-by script list r list′ h k = listing script list (translated base (edition1 8) script) refl (come script) r list′ h k
+listed-by script list r list′ h k = listing script list (translated base script) refl (come script) r list′ h k
 
 -- ---- what run left
 
@@ -69,7 +68,7 @@ left-ran x n cells out h =
     rw (le-leb (length (loadsText (x .loaded))) (length out) (omega arith), if_then_else_)
     (ap (λ (k : ℕ). record { answer = k; cells = bytesOf (x .cells) ++ oddByte cells; out = overFront (loadsText (x .loaded)) out }) l)
 
-module _ (script : List ℕ) (ls : List Line) (size : ℕ) (ok : translated base (edition1 8) script ≡ accepted ls size) where
+module _ (script : List ℕ) (ls : List Line) (size : ℕ) (ok : translated base script ≡ accepted ls size) where
   larger : takes script ≡ 0 → (cells out : List ℕ) → 2 * size ≤ length cells → 7 * length (means script []) ≤ length out
       → (a : ℕ) (cells′ out′ : List ℕ) → RunPromise (listText ls size) cells out a cells′ out′ → PrintsMeaning script [] out a out′ × Above size cells cells′
   unfolding runEntry ranOn

@@ -7,27 +7,26 @@ use native.Mathlib.Omega.{arith}
 use lib.ListN.{length, replicate, drop}
 use borrow.Author.Tests.{le-ltb, lt-ltb}
 use Rattle.rules.specs.Sizes.{base}
-use Rattle.rules.specs.Slots.{edition1}
 use Rattle.rules.specs.Frames.{Line, accepted}
 use Rattle.rules.specs.Meaning.{Ran, obey, high, listTakes, lacking}
-use Rattle.rules.specs.Text.{split, listText, listed, listFrom}
+use Rattle.rules.specs.Text.{listText, listed, readList}
 use Rattle.rules.specs.Recordings.{recorded}
 use Rattle.rules.specs.Entries.{translated, ran, stopped, runSampled, runListed, recordedOn}
 use Rattle.rules.specs.Demand3.{Demand3Bytes, Runs}
-use Rattle.rules.proofs.Bytes.{held-edition1, bytes-edition1, takes-edition1}
+use Rattle.rules.proofs.Bytes.{held-base, bytes-base, takes-base}
 use Rattle.rules.proofs.Taking.{enough}
 use Rattle.demand3.specs.Promises.{means, takes}
 
-module _ (script : List ℕ) (ls : List Line) (size : ℕ) (ok : translated base (edition1 8) script ≡ accepted ls size) where
-  pub reads : listFrom base 0 (split (listText ls size)) ≡ listed ls size
-  reads = held-edition1 script ls size ok .back
+module _ (script : List ℕ) (ls : List Line) (size : ℕ) (ok : translated base script ≡ accepted ls size) where
+  pub reads : readList base (listText ls size) ≡ listed ls size
+  reads = held-base script ls size ok .back
 
   -- no 20 in it
   pub below : high size 0 ls ≡ none
-  below = held-edition1 script ls size ok .holds .inside
+  below = held-base script ls size ok .holds .inside
 
   pub as-many : listTakes ls ≡ takes script
-  as-many = takes-edition1 script ls size ok
+  as-many = takes-base script ls size ok
 
   pub lacks : (cells : List ℕ) (n i : ℕ) (vs : List ℕ) → lacking 0 n ls ≡ some i → recordedOn base cells (recorded n vs) (listText ls size) ≡ stopped 23 i
   unfolding recordedOn runListed
@@ -56,7 +55,7 @@ module _ (script : List ℕ) (ls : List Line) (size : ℕ) (ok : translated base
 
       runs : Runs base size cells (recorded n vs) (listText ls size) (means script vs) (n - takes script)
       unfolding Demand3Bytes
-      runs = bytes-edition1 script ls size ok cells h n vs many kept
+      runs = bytes-base script ls size ok cells h n vs many kept
 
       pub loaded : worked .loaded ≡ means script vs
       loaded = let x = ran-on in let y = runs .runs in cc

@@ -10,7 +10,6 @@ use lib.ListN.{length, take, drop, replicate}
 use borrow.Author.Tests.{le-leb, lt-leb, leb-true, leb-false}
 use Rattle.rules.specs.Notation.{if_then_else_}
 use Rattle.rules.specs.Sizes.{base}
-use Rattle.rules.specs.Slots.{edition1}
 use Rattle.rules.specs.Frames.{Line, Outcome, accepted}
 use Rattle.rules.specs.Meaning.{Ran, obey, listTakes, lacking}
 use Rattle.rules.specs.Text.{listText}
@@ -35,7 +34,7 @@ left-short : (x : Ran) (n : ℕ) (cells out : List ℕ) → length out < 7 * len
 unfolding runLeft if_then_else_
 left-short x n cells out h = rw (lt-leb (length (loadsText (x .loaded))) (length out) (omega (arith, text-length (x .loaded))), if_then_else_)
 
-module _ (script : List ℕ) (ls : List Line) (size : ℕ) (ok : translated base (edition1 8) script ≡ accepted ls size) (cells out : List ℕ) (bytes : Bytes cells) where
+module _ (script : List ℕ) (ls : List Line) (size : ℕ) (ok : translated base script ≡ accepted ls size) (cells out : List ℕ) (bytes : Bytes cells) where
   -- with cells enough: 17 for out, or the work
   roomy : (x : Ran) (n : ℕ) → x .loaded ≡ means script [] → bytesOf (x .cells) ++ oddByte cells ≡ overFront (frameAfter ls size) cells
       → runLeft (ran x n) cells out ≡ (if leb (7 * length (means script [])) (length out) then worked ls size (means script []) cells out else refusal 17 0 cells out)
@@ -82,7 +81,7 @@ module _ (script page : List ℕ) (r : ℕ) (page′ : List ℕ) (said : Transla
   pub on-page : Accepts r → r ≤ length page
   on-page k = go (translate-halves script page)
     where
-      go : Halves page (translateEntry base (edition1 8) script page) → r ≤ length page
+      go : Halves page (translateEntry base script page) → r ≤ length page
       go (count a b c) = omega (arith, said .answered)
       go (number n i a b c d e f) = absurd (omega (arith, said .answered))
 
@@ -99,7 +98,7 @@ module _ (script page : List ℕ) (r : ℕ) (page′ : List ℕ) (said : Transla
   -- 17 is no answer here: every list goes on the page
   pub refused-both : 32768 ≤ length page → 4294967296 ≤ r → (cells out : List ℕ) → Leaves (together script cells out) r cells out
   unfolding together translateEntry togetherOn listLeft if_then_else_
-  refused-both room k cells out = go (translated base (edition1 8) script) (come script) (said .answered)
+  refused-both room k cells out = go (translated base script) (come script) (said .answered)
     where
       go : (o : Outcome) → Comes o → r ≡ listLeft o page .answer → Leaves (togetherOn o (means script []) cells out) r cells out
       go _ (to-stop n i a b c) e = record { answered = e; cells-left = refl; out-left = refl }
@@ -112,7 +111,7 @@ module _ (script page : List ℕ) (r : ℕ) (page′ : List ℕ) (said : Transla
 -- demand 3: an answer below 2^32 counts the bytes of the script's meaning, and they lie at the front of out
 pub together-prints : (script cells out : List ℕ) (r : ℕ) (cells′ out′ : List ℕ) → Leaves (together script cells out) r cells′ out′ → Accepts r → PrintsMeaning script [] out r out′
 unfolding together togetherOn if_then_else_
-together-prints script cells out r cells′ out′ h k = go (translated base (edition1 8) script) (come script) h
+together-prints script cells out r cells′ out′ h k = go (translated base script) (come script) h
   where
     go : (o : Outcome) → Comes o → Leaves (togetherOn o (means script []) cells out) r cells′ out′ → PrintsMeaning script [] out r out′
     go _ (to-stop n i a b c) h = absurd (omega (arith, h .answered))
@@ -133,8 +132,8 @@ together-one script cells out r r′ cells′ cells″ out′ out″ a b = machi
 -- the two halves of the answer can't be mistaken for each other
 pub together-answer : (script cells out : List ℕ) → Bytes cells → machine.HalvesOf cells out 23 2048 (together script cells out)
 unfolding together togetherOn base
-together-answer script cells out bytes = go (translated base (edition1 8) script) refl (come script)
+together-answer script cells out bytes = go (translated base script) refl (come script)
   where
-    go : (o : Outcome) → translated base (edition1 8) script ≡ o → Comes o → machine.HalvesOf cells out 23 2048 (togetherOn o (means script []) cells out)
+    go : (o : Outcome) → translated base script ≡ o → Comes o → machine.HalvesOf cells out 23 2048 (togetherOn o (means script []) cells out)
     go _ e (to-stop n i a b c) = by-number _ _ _ _ _ n i (omega arith) a (omega arith) c (refl, refl)
-    go _ e (to-list {ls = ls} {size = size} a) = subst (machine.HalvesOf cells out 23 2048) (run-is script ls size e cells out bytes) (machine.run-halves 23 (omega arith) base (omega arith) (listText ls size) cells out)
+    go _ e (to-list {ls = ls} {size = size} a) = subst (machine.HalvesOf cells out 23 2048) (run-is script ls size e cells out bytes) (machine.run-halves 23 (omega arith) base (omega arith) (omega arith) (listText ls size) cells out)

@@ -7,10 +7,9 @@ use mathlib.Core.List.{List, [], _∷_, _++_}
 use Prim.Native.Nat.{ℕ, _*_, _-_, _≤_, _<_}
 use lib.ListN.{length, take, drop}
 use Rattle.rules.specs.Sizes.{base}
-use Rattle.rules.specs.Slots.{edition1}
 use Rattle.rules.specs.Frames.{Line, shows}
 use Rattle.rules.specs.Meaning.{high}
-use Rattle.rules.specs.Text.{split, lineText, listed, listFrom}
+use Rattle.rules.specs.Text.{lineText, listed, readList}
 use Rattle.rules.specs.Recordings.{recording, recorded}
 use Rattle.rules.specs.Entries.{overFront, loadsText, translateEntry, cellsOf, oddByte, runEntry, readEntry, recordedEntry, bytes4}
 use Rattle.rules.specs.Demand3.{scriptMeaning, scriptTakes}
@@ -23,7 +22,7 @@ use Rattle.recordings.specs.Reading as recordings
 
 -- translate may answer r and leave list′, where it was lent list
 abbrev pub TranslatePromise : List ℕ → List ℕ → ℕ → List ℕ → Type 0
-TranslatePromise script list r list′ = translate.Leaves (translateEntry base (edition1 8) script list) r list′
+TranslatePromise script list r list′ = translate.Leaves (translateEntry base script list) r list′
 
 -- run may answer a and leave cells′ and out′, where it was lent cells and out
 abbrev pub RunPromise : List ℕ → List ℕ → List ℕ → ℕ → List ℕ → List ℕ → Type 0
@@ -52,7 +51,7 @@ Accepts r = r < 4294967296
 
 -- "what the script means if each allocation had a box of its own", with these samples; and how many it takes
 abbrev pub means : List ℕ → List ℕ → List ℕ
-means script vs = scriptMeaning base (edition1 8) script vs
+means script vs = scriptMeaning base script vs
 
 abbrev pub takes : List ℕ → ℕ
 takes script = scriptTakes base script
@@ -65,7 +64,7 @@ pub record Reports (list : List ℕ) (size : ℕ) : Type 0 where
 -- "no load or store falls outside the frame": each address of the list's 10, 11, 12 and 14 is below the size
 pub record Inside (list : List ℕ) (size : ℕ) : Type 0 where
   pub lines : List Line
-  pub read : listFrom base 0 (split list) ≡ listed lines size
+  pub read : readList base list ≡ listed lines size
   pub below : high size 0 lines ≡ none
 
 -- "prints what the script means", 7 bytes a load; what is lent beyond it stays

@@ -8,7 +8,6 @@ use lib.ListN.{length, replicate}
 use lib.Dec.{leb}
 use Rattle.rules.specs.Notation.{if_then_else_}
 use Rattle.rules.specs.Sizes.{base}
-use Rattle.rules.specs.Slots.{edition1}
 use Rattle.rules.specs.Frames.{Line, Outcome, accepted, refusedAt}
 use Rattle.rules.specs.Meaning.{obey, lacking}
 use Rattle.rules.specs.Entries.{translated, overFront, loadsText, bytesOf, Running}
@@ -35,4 +34,4 @@ togetherOn (accepted ls size) values cells out =
     ]
 
 unfoldable pub together : List ℕ → List ℕ → List ℕ → Running
-together script cells out = togetherOn (translated base (edition1 8) script) (means script []) cells out
+together script cells out = togetherOn (translated base script) (means script []) cells out

@@ -2,11 +2,10 @@
 use mathlib.Core.List.{List}
 use Prim.Native.Nat.{ℕ}
 use Rattle.rules.specs.Sizes.{base}
-use Rattle.rules.specs.Slots.{edition1}
 use Rattle.rules.specs.Entries.{translatorPrints, runnerPrints}
 use Rattle.programs.specs.declared.Program.{Program}
 use Rattle.programs.specs.declared.Program.the-variants.{Translator, Runner}
 
 abbrev pub printedBy : Program → List ℕ → List ℕ
-printedBy Translator text = translatorPrints base (edition1 8) text
+printedBy Translator text = translatorPrints base text
 printedBy Runner text = runnerPrints base text

@@ -5,7 +5,6 @@ use Prim.Native.Nat.{ℕ, zero, suc, _+_, _-_}
 use lib.ListN.{length, take, drop}
 use lib.Dec.{ltb, eqb}
 use Rattle.rules.specs.Sizes.{base}
-use Rattle.rules.specs.Slots.{edition1}
 use Rattle.rules.specs.Entries.{translatorPrints}
 use Rattle.records.specs.declared.Found.{Found}
 use Rattle.records.specs.declared.Found.the-variants.{Broken, Record}
@@ -18,7 +17,7 @@ part a e s = take (e - a) (drop a s)
 
 -- whether the answer from b to e is what the rules have the translating program print for the script from a to b
 abbrev pub agrees : List ℕ → ℕ → ℕ → ℕ → Bool
-agrees s a b e = sameText (translatorPrints base (edition1 8) (part a b s)) (part b e s)
+agrees s a b e = sameText (translatorPrints base (part a b s)) (part b e s)
 
 abbrev pub tally : ℕ → ℕ → ℕ → Bool → Tally
 tally n d f b = record { records = n; differ = d; first = f; broken = b }

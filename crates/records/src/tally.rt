@@ -7,7 +7,6 @@ ghost use mathlib.Core.Path.{_≡_};
 ghost use Prim.Native.Nat.{_+_, _≤_, _<_, _^_};
 ghost use lib.ListN.{length};
 ghost use Rattle.rules.specs.Sizes.{base};
-ghost use Rattle.rules.specs.Slots.{edition1};
 ghost use Rattle.rules.specs.Entries.{translatorPrints};
 ghost use Rattle.records.specs.Records.{sameText};
 ghost use Rattle.records.specs.Tally.{noRecords, oneMore, tallied};
@@ -22,7 +21,7 @@ pub struct Tally {
 
 // Whether the answer is what the translating program prints for the script.
 fn agrees(script: &[u8], answer: &[u8]) -> bool
-    ensures { λ r. ⌜ r ≡ sameText (translatorPrints base (edition1 8) (now (script .entry))) (now (answer .entry)) ⌝ }
+    ensures { λ r. ⌜ r ≡ sameText (translatorPrints base (now (script .entry))) (now (answer .entry)) ⌝ }
 {
     let mut out = [0u8; 32768];
     let n = translated(script, &mut out);
