@@ -2,7 +2,8 @@
 
 /// Each is a mistake that a reader of 01 or 02 may make; the first four are 01's "tempting and wrong". `ClearLeavesHead` is 01's own
 /// first wording of `remove`, which W-202 amends: no script shows it, only bare slots do. From `NeedHandleFreed` on they are of needs,
-/// from `SampleUnwritten` on of samples and recordings.
+/// from `SampleUnwritten` on of samples and recordings, from `TightFromHead` on of edition 2. That edition 1 is placed tightly is
+/// `SearchFromZero`. `TightKeepsHead` is shown by no script either: no insert of edition 2 looks at the head.
 #[derive(Clone, Copy, Debug, PartialEq, Eq)]
 pub enum Fault {
     SearchFromZero,
@@ -61,13 +62,35 @@ pub enum Fault {
     SampleSkipped,
     /// the number left over is that of the samples kept
     LeftOfKept,
+    /// edition 2 looks from the head's segment on
+    TightFromHead,
+    /// edition 2 looks from slot 1 on
+    TightFromOne,
+    /// edition 2 leaves L, so that slots at L and above are given
+    TightKeepsLength,
+    /// edition 2 leaves H
+    TightKeepsHead,
+    /// in edition 2 a slot for a scope or a need, 07 and 23, is looked for from the head on
+    TightAllocOnly,
+    /// the title is taken on line 1 too
+    TitleLater,
+    /// the title is taken with any number
+    TitleAnyNumber,
+    /// the title isn't one of the 2,048 lines
+    TitleBesideLimit,
+    /// refusals count their lines from the one after the title
+    TitleUnnumbered,
+    /// the list doesn't repeat the title
+    TitleLeftOut,
+    /// the frame machine doesn't know the title
+    TitleUnread,
 }
 
 /// At most one fault.
 pub type Plant = Option<Fault>;
 
 /// All faults by the name that `--plant` takes.
-pub const FAULTS: [(&str, Fault); 37] = [
+pub const FAULTS: [(&str, Fault); 48] = [
     ("search-from-zero", Fault::SearchFromZero),
     ("run-in-gap", Fault::RunInGap),
     ("low-half", Fault::LowHalf),
@@ -105,6 +128,17 @@ pub const FAULTS: [(&str, Fault); 37] = [
     ("sample-twice", Fault::SampleTwice),
     ("sample-skipped", Fault::SampleSkipped),
     ("left-of-kept", Fault::LeftOfKept),
+    ("tight-from-head", Fault::TightFromHead),
+    ("tight-from-one", Fault::TightFromOne),
+    ("tight-keeps-length", Fault::TightKeepsLength),
+    ("tight-keeps-head", Fault::TightKeepsHead),
+    ("tight-alloc-only", Fault::TightAllocOnly),
+    ("title-later", Fault::TitleLater),
+    ("title-any-number", Fault::TitleAnyNumber),
+    ("title-beside-limit", Fault::TitleBesideLimit),
+    ("title-unnumbered", Fault::TitleUnnumbered),
+    ("title-left-out", Fault::TitleLeftOut),
+    ("title-unread", Fault::TitleUnread),
 ];
 
 impl Fault {

@@ -2,6 +2,7 @@
 //! comparisons, and it knows the refusals that the original doesn't (handles, held and written marks, room limits).
 
 mod address_set;
+mod edition;
 mod fault;
 mod frame;
 mod list;
@@ -12,6 +13,7 @@ mod session;
 mod slots;
 mod text;
 
+pub use edition::{Placement, Script};
 pub use fault::{Fault, Plant, FAULTS};
 pub use frame::{Frame, Source};
 pub use list::{print_refusal, write_list, Line};
@@ -21,7 +23,7 @@ pub use recording::{
 };
 pub use scopes::{Id, Scopes};
 pub use session::{
-    play, translate, translate_with, translator, translator_with, NeedNumber, Session,
+    play, play_script, translate, translate_with, translator, translator_with, NeedNumber, Session,
 };
 pub use slots::{Slots, SEGMENT, SEGMENTS, SLOTS};
 pub use text::read_script;

@@ -1,9 +1,10 @@
-//! The frame machine: lists, read and obeyed, with a recording beside them (W-205).
+//! The frame machine: lists, read and obeyed, with a recording beside them (W-205). A title (W-211) is read and does nothing.
 
+use crate::edition::{is_titled, title};
 use crate::fault::{Fault, Plant};
 use crate::list::write_digits;
 use crate::recording::{read_recording, Reader};
-use crate::text::{parts, split, RawLine};
+use crate::text::{most_lines, parts, split, titles, RawLine};
 use crate::{print_refusal, refused, Line, Refusal, BUFFER, LINES, SLOTS};
 
 /// "`90`, four digits and LF"
@@ -30,8 +31,12 @@ fn list_line(line: &RawLine<'_>) -> Option<Line> {
     right.then_some(Line { opcode, operands })
 }
 
-/// A list's lines and its size, or the first line with 1 or 2.
+/// A list's lines and its size, or the first line with 1 or 2. The title is one of the lines.
 pub fn read_list(text: &[u8]) -> Result<(Vec<Line>, usize), Refusal> {
+    read_list_with(text, None)
+}
+
+fn read_list_with(text: &[u8], plant: Plant) -> Result<(Vec<Line>, usize), Refusal> {
     let raw = split(text);
     let mut lines = Vec::new();
     for (i, line) in raw.iter().enumerate() {
@@ -42,8 +47,12 @@ pub fn read_list(text: &[u8]) -> Result<(Vec<Line>, usize), Refusal> {
             }
             return Ok((lines, size.into()));
         }
-        if i == LINES {
+        if i == most_lines(is_titled(&lines), plant) {
             return refused(2, i);
+        }
+        if titles(i, line, plant) && plant != Some(Fault::TitleUnread) {
+            lines.push(title());
+            continue;
         }
         match list_line(line) {
             Some(line) => lines.push(line),
@@ -53,22 +62,33 @@ pub fn read_list(text: &[u8]) -> Result<(Vec<Line>, usize), Refusal> {
     refused(1, raw.len())
 }
 
+/// A refusal at one of the lines.
+fn refused_at<T>(number: u8, i: usize, lines: &[Line], plant: Plant) -> Result<T, Refusal> {
+    let uncounted = plant == Some(Fault::TitleUnnumbered) && is_titled(lines);
+    refused(number, i - usize::from(uncounted))
+}
+
 /// 20: "list address (10, 11, 12) not below size"; W-205: "which covers 14 too"
-fn check_addresses(lines: &[Line], size: usize, covered: &[u8]) -> Result<(), Refusal> {
+fn check_addresses(
+    lines: &[Line],
+    size: usize,
+    covered: &[u8],
+    plant: Plant,
+) -> Result<(), Refusal> {
     for (i, line) in lines.iter().enumerate() {
         let touches = covered.contains(&line.opcode);
         if touches && usize::from(line.operands[0]) >= size {
-            return refused(20, i);
+            return refused_at(20, i, lines, plant);
         }
     }
     Ok(())
 }
 
 /// 23: "the first 14 line without a sample"
-fn check_samples(lines: &[Line], samples: usize) -> Result<(), Refusal> {
+fn check_samples(lines: &[Line], samples: usize, plant: Plant) -> Result<(), Refusal> {
     let sampled = lines.iter().enumerate().filter(|(_, l)| l.opcode == 0x14);
     match sampled.map(|(i, _)| i).nth(samples) {
-        Some(i) => refused(23, i),
+        Some(i) => refused_at(23, i, lines, plant),
         None => Ok(()),
     }
 }
@@ -79,16 +99,17 @@ fn checked(
     reader: &Reader,
     plant: Plant,
 ) -> Result<(Vec<Line>, usize, usize), Refusal> {
-    let (lines, size) = read_list(list)?;
+    let (lines, size) = read_list_with(list, plant)?;
     let late = plant == Some(Fault::SampleHighLate);
-    check_addresses(&lines, size, if late { &TOUCHES[..3] } else { &TOUCHES })?;
+    let first = if late { &TOUCHES[..3] } else { &TOUCHES };
+    check_addresses(&lines, size, first, plant)?;
     if plant == Some(Fault::TooFewFirst) {
-        check_samples(&lines, reader.line)?;
+        check_samples(&lines, reader.line, plant)?;
     }
     let samples = reader.ended(plant)?;
-    check_samples(&lines, samples)?;
+    check_samples(&lines, samples, plant)?;
     if late {
-        check_addresses(&lines, size, &TOUCHES)?;
+        check_addresses(&lines, size, &TOUCHES, plant)?;
     }
     Ok((lines, size, samples))
 }

@@ -1,6 +1,7 @@
 //! Document 01, "Scopes". A refusal is its number alone; the order of tests is that of "Order".
 
 use crate::address_set::AddressSet;
+use crate::edition::Placement;
 use crate::fault::{Fault, Plant};
 use crate::slots::{Slots, SLOTS};
 
@@ -56,20 +57,20 @@ pub struct Scopes {
     counter: u32,
     dangling: AddressSet,
     size: usize,
-    /// an insert met H > L
+    /// an insert of edition 1 met H > L
     pub head_above_length: bool,
     plant: Plant,
 }
 
 impl Scopes {
     /// "Root is (0, 0). The child counter starts at 1"
-    pub fn new(plant: Plant) -> Self {
+    pub fn new(placement: Placement, plant: Plant) -> Self {
         let root = Id {
             index: 0,
             number: 0,
         };
         Scopes {
-            slots: Slots::new(plant),
+            slots: Slots::new(placement, plant),
             live: vec![Some(Scope::new(root, None))],
             top: Some(0),
             counter: 1,
@@ -136,10 +137,15 @@ impl Scopes {
 
     /// "insert; the owner's list gains the address; it leaves the dangling list; size becomes max(size, address + 1)"; 7
     pub fn alloc(&mut self, owner: Id) -> Result<usize, u8> {
-        if self.slots.head() > self.slots.length() {
-            self.head_above_length = true;
-        }
+        self.head_above_length |= self.slots.head_is_above();
         let address = self.slots.insert().ok_or(7)?;
+        self.gain(owner, address);
+        Ok(address)
+    }
+
+    /// The same by the head in either edition, which only a planted fault asks for.
+    pub fn alloc_by_head(&mut self, owner: Id) -> Result<usize, u8> {
+        let address = self.slots.insert_by_head().ok_or(7)?;
         self.gain(owner, address);
         Ok(address)
     }
@@ -319,7 +325,7 @@ mod tests {
 
     #[test]
     fn the_counter_goes_back_to_0() {
-        let mut scopes = Scopes::new(None);
+        let mut scopes = Scopes::new(Placement::ByHead, None);
         scopes.counter = u32::MAX;
         assert_eq!(scopes.child().map(|id| id.number), Ok(u32::MAX));
         let second = scopes.child().unwrap();
@@ -329,7 +335,7 @@ mod tests {
 
     #[test]
     fn the_lowest_free_index() {
-        let mut scopes = Scopes::new(None);
+        let mut scopes = Scopes::new(Placement::ByHead, None);
         scopes.child().unwrap();
         scopes.dangle(1).unwrap();
         scopes.child().unwrap();

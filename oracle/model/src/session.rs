@@ -6,11 +6,12 @@ pub use needs::NeedNumber;
 
 use needs::Need;
 
+use crate::edition::title;
 use crate::fault::{Fault, Plant};
 use crate::scopes::Binding;
 use crate::{
-    print_refusal, read_script, refused, write_list, Frame, Id, Line, Refusal, Scopes, Source,
-    BUFFER, HANDLES,
+    print_refusal, read_script, refused, write_list, Frame, Id, Line, Placement, Refusal, Scopes,
+    Script, Source, BUFFER, HANDLES,
 };
 
 /// The kinds that a script can reach.
@@ -47,9 +48,9 @@ pub struct Session {
 type Step = Result<Vec<u16>, u8>;
 
 impl Session {
-    pub fn new(plant: Plant) -> Self {
+    pub fn new(placement: Placement, plant: Plant) -> Self {
         Session {
-            scopes: Scopes::new(plant),
+            scopes: Scopes::new(placement, plant),
             handles: Vec::new(),
             needs: Vec::new(),
             root_freed_late: false,
@@ -150,7 +151,10 @@ impl Session {
     /// A slot for a live scope, and its handle: 16, 7
     fn alloc_for(&mut self, owner: Id) -> Result<usize, u8> {
         self.room_for(1)?;
-        let address = self.scopes.alloc(owner)?;
+        let address = match self.plant {
+            Some(Fault::TightAllocOnly) => self.scopes.alloc_by_head(owner)?,
+            _ => self.scopes.alloc(owner)?,
+        };
         self.hand_out(address, owner, Kind::Scope(owner));
         Ok(address)
     }
@@ -293,9 +297,13 @@ impl Session {
     }
 }
 
-/// The lines of all frames, and where the script stands after them or after its first refused frame.
-pub fn play(frames: &[Frame], plant: Plant) -> (Session, Result<Vec<Line>, Refusal>) {
-    let mut session = Session::new(plant);
+/// The lines of all frames, and where they stand after them or after the first refused one, at its place among them.
+pub fn play(
+    placement: Placement,
+    frames: &[Frame],
+    plant: Plant,
+) -> (Session, Result<Vec<Line>, Refusal>) {
+    let mut session = Session::new(placement, plant);
     let mut lines = Vec::new();
     for (line, frame) in frames.iter().enumerate() {
         match session.step(*frame) {
@@ -306,9 +314,25 @@ pub fn play(frames: &[Frame], plant: Plant) -> (Session, Result<Vec<Line>, Refus
     (session, Ok(lines))
 }
 
+/// The same of a script, with its title among the lines: W-211, "That line counts as a frame and its list line repeats it."
+pub fn play_script(script: &Script, plant: Plant) -> (Session, Result<Vec<Line>, Refusal>) {
+    let (session, played) = play(script.placement, &script.frames, plant);
+    let first = match plant {
+        Some(Fault::TitleUnnumbered) => 0,
+        _ => script.first_line(),
+    };
+    let repeated = script.is_titled() && plant != Some(Fault::TitleLeftOut);
+    let lines = match played {
+        Ok(lines) if repeated => Ok([vec![title()], lines].concat()),
+        Ok(lines) => Ok(lines),
+        Err(Refusal { number, line }) => refused(number, line + first),
+    };
+    (session, lines)
+}
+
 /// The list of a script. `room` is the length of the lent memory: "17 comes last".
 pub fn translate_with(script: &[u8], room: usize, plant: Plant) -> Result<Vec<u8>, Refusal> {
-    let (session, lines) = play(&read_script(script, plant)?, plant);
+    let (session, lines) = play_script(&read_script(script, plant)?, plant);
     let list = write_list(&lines?, session.scopes.size());
     match list.len() > room {
         true => refused(17, 0),

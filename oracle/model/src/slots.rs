@@ -1,5 +1,6 @@
-//! Document 01, "Slots"; `remove` as W-202 of document 02 amends it.
+//! Document 01, "Slots"; `remove` as W-202 of document 02 amends it, and `insert` of edition 2 by W-211.
 
+use crate::edition::Placement;
 use crate::fault::{Fault, Plant};
 
 /// "1,024 slots, addresses 0..1023, in 8 segments of 128."
@@ -15,16 +16,18 @@ pub struct Slots {
     occupied: [bool; SLOTS],
     length: usize,
     head: usize,
+    placement: Placement,
     plant: Plant,
 }
 
 impl Slots {
     /// "Fresh: none, 0, 0."
-    pub fn new(plant: Plant) -> Self {
+    pub fn new(placement: Placement, plant: Plant) -> Self {
         Slots {
             occupied: [false; SLOTS],
             length: 0,
             head: 0,
+            placement,
             plant,
         }
     }
@@ -39,6 +42,11 @@ impl Slots {
         self.head
     }
 
+    /// Would an insert of edition 1 meet H > L? There the original answers one slot and marks another.
+    pub fn head_is_above(&self) -> bool {
+        self.placement == Placement::ByHead && self.head > self.length
+    }
+
     pub fn occupied(&self, address: usize) -> bool {
         address < SLOTS && self.occupied[address]
     }
@@ -50,6 +58,34 @@ impl Slots {
 
     /// None is a refusal by 7.
     pub fn insert(&mut self) -> Option<usize> {
+        match self.placement {
+            Placement::ByHead => self.insert_by_head(),
+            Placement::Lowest => self.insert_lowest(),
+        }
+    }
+
+    /// W-211: "insert gives the lowest clear slot of all, whatever was removed last, L grows to take in its segment, and H becomes it".
+    /// No later answer depends on this L and H: no insert looks at them, and a slot past L is clear, which `remove` says no to anyway.
+    fn insert_lowest(&mut self) -> Option<usize> {
+        let first = match self.plant {
+            Some(Fault::TightFromHead) => SEGMENT * self.head.min(self.length),
+            Some(Fault::TightFromOne) => 1,
+            _ => 0,
+        };
+        let address = (first..SLOTS).find(|a| !self.occupied[*a])?;
+        let segment = address / SEGMENT;
+        self.occupied[address] = true;
+        if self.plant != Some(Fault::TightKeepsLength) {
+            self.length = self.length.max(segment + 1);
+        }
+        if self.plant != Some(Fault::TightKeepsHead) {
+            self.head = segment;
+        }
+        Some(address)
+    }
+
+    /// In edition 2 only a planted fault asks for it.
+    pub fn insert_by_head(&mut self) -> Option<usize> {
         let mut start = self.head.min(self.length);
         if self.plant == Some(Fault::SearchFromZero) {
             start = 0;

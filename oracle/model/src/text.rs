@@ -1,7 +1,8 @@
-//! Document 01, "Script frames" and "Numbers given back", 1 and 2: texts, read.
+//! Document 01, "Script frames" and "Numbers given back", 1 and 2: texts, read; with the title of W-211.
 
+use crate::edition::is_title;
 use crate::fault::{Fault, Plant};
-use crate::{refused, Frame, Refusal, LINES};
+use crate::{refused, Frame, Placement, Refusal, Script, LINES};
 
 /// A line without its LF, and whether LF ended it.
 pub struct RawLine<'a> {
@@ -64,19 +65,37 @@ pub fn parts(line: &RawLine<'_>, plant: Plant) -> Option<(u8, Vec<u16>)> {
     Some((opcode, operands))
 }
 
+/// Is the line this text's title? None stands later than line 1, even by a planted fault.
+pub fn titles(i: usize, line: &RawLine<'_>, plant: Plant) -> bool {
+    let title = |(opcode, operands): (u8, Vec<u16>)| is_title(i, opcode, &operands, plant);
+    i < 2 && parts(line, plant).is_some_and(title)
+}
+
+/// How many lines a text may have; "That line counts as a frame" (W-211).
+pub fn most_lines(titled: bool, plant: Plant) -> usize {
+    match titled && plant == Some(Fault::TitleBesideLimit) {
+        true => LINES + 1,
+        false => LINES,
+    }
+}
+
 /// "Text: the first line with 1 or 2, before any step; line 2,048 gives 2 whatever it holds"
-pub fn read_script(text: &[u8], plant: Plant) -> Result<Vec<Frame>, Refusal> {
-    let mut frames = Vec::new();
+pub fn read_script(text: &[u8], plant: Plant) -> Result<Script, Refusal> {
+    let mut script = Script::default();
     for (i, line) in split(text).iter().enumerate() {
-        if i == LINES {
+        if i == most_lines(script.is_titled(), plant) {
             return refused(2, i);
+        }
+        if titles(i, line, plant) {
+            script.placement = Placement::Lowest;
+            continue;
         }
         let frame = parts(line, plant).and_then(|(o, xs)| Frame::from_parts(o, &xs));
         match frame {
-            Some(frame) => frames.push(frame),
+            Some(frame) => script.frames.push(frame),
             None if !line.ended && plant == Some(Fault::TornLineNext) => return refused(1, i + 1),
             None => return refused(1, i),
         }
     }
-    Ok(frames)
+    Ok(script)
 }

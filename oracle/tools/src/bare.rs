@@ -1,7 +1,7 @@
 //! The original's `Slots` by itself against ours or the model's: every answer, L and H after each call, and at the end which slots are
 //! occupied.
 
-use model::{Plant, Slots, SEGMENT, SLOTS};
+use model::{Placement, Plant, Slots, SEGMENT, SLOTS};
 use rune::Bare;
 use std::fmt;
 
@@ -84,8 +84,8 @@ const REFUSED: usize = 65536;
 pub type Player<'a> = &'a mut dyn FnMut(&[Call]) -> Vec<Row>;
 
 /// The model's rows, perhaps with a fault.
-pub fn model_rows(calls: &[Call], plant: Plant) -> Vec<Row> {
-    let mut slots = Slots::new(plant);
+pub fn model_rows(calls: &[Call], placement: Placement, plant: Plant) -> Vec<Row> {
+    let mut slots = Slots::new(placement, plant);
     let row = |call: &Call| {
         let answer = match call {
             Call::Insert => slots.insert().unwrap_or(REFUSED + 7),

@@ -2,7 +2,7 @@
 
 use crate::bare::Call;
 use crate::rng::Rng;
-use model::{Slots, SEGMENT, SLOTS};
+use model::{Placement, Slots, SEGMENT, SLOTS};
 
 /// Every run of so many calls after each beginning: inserts, pushes and removals of addresses about the limits of segments, occupied or clear.
 /// False once the taker wants no more.
@@ -45,7 +45,7 @@ fn extend(
 /// A run by chance: bursts of one call, removals of what is occupied, and in three runs of four of anything, clear or not.
 pub fn by_chance(rng: &mut Rng) -> Vec<Call> {
     let mut maker = Maker {
-        slots: Slots::new(None),
+        slots: Slots::new(Placement::ByHead, None),
         calls: Vec::new(),
         above: rng.once_in(6),
         any: [0, 1, 4, 20][rng.below(4)],
@@ -89,7 +89,7 @@ impl Maker {
 
     fn inserts(&mut self, n: usize) {
         for _ in 0..n {
-            match self.slots.head() > self.slots.length() && !self.above {
+            match self.slots.head_is_above() && !self.above {
                 true => self.make(Call::Push),
                 false => self.make(Call::Insert),
             }

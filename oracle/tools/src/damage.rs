@@ -1,11 +1,22 @@
-//! Damaged texts: a good script with a few bytes changed, and texts about the limits of lines and bytes.
+//! Damaged texts: a good script with a few bytes changed, titles that are none, and texts about the limits of lines and bytes.
 
 use crate::random;
 use crate::rng::Rng;
-use model::Frame;
 
 /// Bytes that a careless reader may take for something else.
 const ODD: &[u8] = b"\n\n0f9aA FgG\r\t\0\x7f\x80\xff:/`@x9";
+
+/// Titles, and lines that are near to one.
+const TITLES: [&[u8]; 8] = [
+    b"f00002\n",
+    b"f00002\n",
+    b"f00002\n",
+    b"f00003\n",
+    b"f00102\n",
+    b"f0\n",
+    b"f000020000\n",
+    b"f00002",
+];
 
 fn place(rng: &mut Rng, text: &[u8]) -> usize {
     match rng.once_in(4) {
@@ -35,6 +46,18 @@ pub fn damage_once(rng: &mut Rng, text: &mut Vec<u8>) {
     }
 }
 
+/// A title, or what is near to one: mostly as the first line, else as one of the next.
+pub fn entitle(rng: &mut Rng, text: &mut Vec<u8>) {
+    let title = TITLES[rng.below(TITLES.len())];
+    let lines: Vec<&[u8]> = text.split_inclusive(|b| *b == b'\n').collect();
+    let before = match rng.once_in(4) {
+        true => rng.below(lines.len().min(3) + 1),
+        false => 0,
+    };
+    let at = lines[..before].concat().len();
+    text.splice(at..at, title.iter().copied());
+}
+
 /// Lines and bytes about the limits.
 fn at_the_limits(rng: &mut Rng) -> Vec<u8> {
     let lines = 2046 + rng.below(4);
@@ -43,6 +66,9 @@ fn at_the_limits(rng: &mut Rng) -> Vec<u8> {
         1 => b"080000\n".repeat(lines),
         _ => b"0".repeat(32766 + rng.below(4)),
     };
+    if rng.once_in(2) {
+        text.splice(..0, TITLES[0].iter().copied());
+    }
     if rng.once_in(2) {
         let end = text.len();
         text.truncate(end - rng.below(3));
@@ -53,8 +79,12 @@ fn at_the_limits(rng: &mut Rng) -> Vec<u8> {
 pub fn text(rng: &mut Rng) -> Vec<u8> {
     let mut text = match rng.below(20) {
         0 => at_the_limits(rng),
-        _ => Frame::script(&random::any(rng).frames),
+        1..5 => random::tight(rng).text(),
+        _ => random::any(rng).text(),
     };
+    if rng.once_in(8) {
+        entitle(rng, &mut text);
+    }
     for _ in 0..rng.below(4) {
         damage_once(rng, &mut text);
     }

@@ -1,7 +1,7 @@
 //! Every script of up to so many frames over a small alphabet. A script that goes on after a refused frame says nothing
 //! new (its answer is fixed by then, and after a refusal nothing is compared), so it isn't made.
 
-use model::{Frame, NeedNumber, Session, Source};
+use model::{Frame, NeedNumber, Placement, Session, Source};
 
 /// All eighteen frames of 01, 37 of them: two scopes besides root, two names, three handles, runs of 0 to 2.
 pub fn alphabet() -> Vec<Frame> {
@@ -79,9 +79,14 @@ fn write(handle: u16) -> Frame {
     Frame::Write { handle, source }
 }
 
-/// False once the taker wants no more.
-pub fn every(alphabet: &[Frame], longest: usize, take: &mut dyn FnMut(&[Frame]) -> bool) -> bool {
-    let fresh = Session::new(None);
+/// False once the taker wants no more. The placement says which frames are refused.
+pub fn every(
+    placement: Placement,
+    alphabet: &[Frame],
+    longest: usize,
+    take: &mut dyn FnMut(&[Frame]) -> bool,
+) -> bool {
+    let fresh = Session::new(placement, None);
     take(&[]) && extend(&mut Vec::new(), &fresh, alphabet, longest, take)
 }
 

@@ -1,6 +1,7 @@
 //! Is an answer right? By 01's rules on where the Rust is the oracle, and by the model.
 
-use model::Frame;
+use crate::tight;
+use model::{Frame, Placement, Script};
 use rune::{drive, Driven, Stop};
 
 /// Whom an answer is held against, and faults planted on that side.
@@ -44,6 +45,8 @@ pub enum Verdict {
     /// refused as a text, which the original doesn't read
     Text(u8),
     Outside(Outside),
+    /// of edition 2, which the original doesn't know: taken, or refused by this number
+    Second(Option<u8>),
     Differs(String),
 }
 
@@ -74,9 +77,13 @@ pub fn judge(script: &[u8], printed: &[u8], against: Against) -> Verdict {
             return Verdict::Differs(first_difference("the model", &expected, printed));
         }
     }
-    let Ok(frames) = model::read_script(script, None) else {
+    let Ok(script) = model::read_script(script, None) else {
         return text_verdict(printed);
     };
+    if script.placement == Placement::Lowest {
+        return second_edition(&script, printed);
+    }
+    let frames = script.frames;
     let verdict = match answer(printed) {
         None => Verdict::Differs(format!("no answer: {}", shown(printed))),
         Some(Answer::Refused(n, _)) if matches!(n, 1 | 2 | 17) => Verdict::Text(n),
@@ -87,6 +94,17 @@ pub fn judge(script: &[u8], printed: &[u8], against: Against) -> Verdict {
     match against.model && against.original {
         true => domains_agree(&frames, verdict),
         false => verdict,
+    }
+}
+
+/// "the Rust is the oracle for edition 1 only": here the sets of slots stand beside the model.
+fn second_edition(script: &Script, printed: &[u8]) -> Verdict {
+    match (answer(printed), tight::wrong(script, printed)) {
+        (None, _) => Verdict::Differs(format!("no answer: {}", shown(printed))),
+        (Some(Answer::Refused(n @ (1 | 2 | 17), _)), _) => Verdict::Text(n),
+        (_, Some(why)) => Verdict::Differs(why),
+        (Some(Answer::List(_)), None) => Verdict::Second(None),
+        (Some(Answer::Refused(n, _)), None) => Verdict::Second(Some(n)),
     }
 }
 
@@ -216,7 +234,7 @@ fn domains_agree(frames: &[Frame], verdict: Verdict) -> Verdict {
     if !matches!(verdict, Verdict::Outside(_) | Verdict::Equal) {
         return verdict;
     }
-    let (session, lines) = model::play(frames, None);
+    let (session, lines) = model::play(Placement::ByHead, frames, None);
     let model = match (session.scopes.head_above_length, session.root_freed_late) {
         (true, _) => Some(Outside::HeadAboveLength),
         (_, true) => Some(Outside::RootFreedLate),

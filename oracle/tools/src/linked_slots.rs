@@ -1,6 +1,7 @@
 //! Our slots by themselves, linked: the archive of the crate `bare`, which is for comparisons and figures only.
 
 use crate::bare::{Call, Row};
+use model::Placement;
 
 #[link(name = "bare", kind = "static")]
 extern "C" {
@@ -9,18 +10,19 @@ extern "C" {
     fn bare_pairs_lent(n: usize, stride: u16) -> u64;
 }
 
-/// A call as the crate `bare` numbers it. Past 65,533 there is no slot either.
-fn number(call: &Call) -> u16 {
-    match call {
-        Call::Insert => 65535,
-        Call::Push => 65534,
-        Call::Remove(a) => (*a).min(65533) as u16,
+/// A call as the crate `bare` numbers it. Past 65,532 there is no slot either.
+fn number(call: &Call, placement: Placement) -> u16 {
+    match (call, placement) {
+        (Call::Insert, Placement::ByHead) => 65535,
+        (Call::Insert, Placement::Lowest) => 65533,
+        (Call::Push, _) => 65534,
+        (Call::Remove(a), _) => (*a).min(65532) as u16,
     }
 }
 
-/// A row a call, from fresh slots.
-pub fn rows(calls: &[Call]) -> Vec<Row> {
-    let numbers: Vec<u16> = calls.iter().map(number).collect();
+/// A row a call, from fresh slots, with the insert of that edition.
+pub fn rows(calls: &[Call], placement: Placement) -> Vec<Row> {
+    let numbers: Vec<u16> = calls.iter().map(|c| number(c, placement)).collect();
     let mut shown = vec![0; 3 * calls.len()];
     // SAFETY: two slices that don't overlap; the function is proved to stay within them.
     let made = unsafe {

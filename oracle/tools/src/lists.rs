@@ -1,8 +1,9 @@
-//! Lists for the run program: those of scripts made by chance, some damaged, some with other addresses and sizes; some with samples.
+//! Lists for the run program: those of scripts made by chance, some damaged, some with other addresses and sizes; some with samples, some with
+//! a title or what is near to one.
 
+use crate::damage::{damage_once, entitle};
 use crate::random;
 use crate::rng::Rng;
-use model::Frame;
 
 /// What lines by chance are like.
 struct Lines {
@@ -40,7 +41,8 @@ fn by_chance(rng: &mut Rng, kind: &Lines) -> Vec<u8> {
         0 => 2046 + rng.below(4),
         _ => rng.below(40),
     };
-    let mut list = String::new();
+    let titled = rng.once_in(4);
+    let mut list = String::from(if titled { "f00002\n" } else { "" });
     for _ in 0..lines {
         list += &line(rng, size, kind);
     }
@@ -49,20 +51,24 @@ fn by_chance(rng: &mut Rng, kind: &Lines) -> Vec<u8> {
 }
 
 fn of_script(rng: &mut Rng, source: random::Source) -> Vec<u8> {
-    model::translator(&Frame::script(&source(rng).frames))
+    model::translator(&source(rng).text())
 }
 
 /// For a run without a recording, so a few have samples.
 pub fn list(rng: &mut Rng) -> Vec<u8> {
-    let mut list = match rng.below(3) {
+    let mut list = match rng.below(6) {
         0 => of_script(rng, random::any),
+        1 => of_script(rng, random::tight),
         _ => {
             let sampled = rng.once_in(8);
             by_chance(rng, &Lines { high: 12, sampled })
         }
     };
+    if rng.once_in(12) {
+        entitle(rng, &mut list);
+    }
     if rng.once_in(3) {
-        crate::damage::damage_once(rng, &mut list);
+        damage_once(rng, &mut list);
     }
     list
 }
@@ -76,8 +82,11 @@ pub fn sampled(rng: &mut Rng) -> Vec<u8> {
             by_chance(rng, &Lines { high, sampled })
         }
     };
+    if rng.once_in(12) {
+        entitle(rng, &mut list);
+    }
     if rng.once_in(8) {
-        crate::damage::damage_once(rng, &mut list);
+        damage_once(rng, &mut list);
     }
     list
 }

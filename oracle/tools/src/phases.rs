@@ -5,15 +5,34 @@ use crate::comparison::Comparison;
 use crate::ours::Ours;
 use crate::rng::Rng;
 use crate::{bare_calls, damage, every, lists, random, sessions};
-use model::Frame;
+use model::{Frame, Placement, Script};
 use std::collections::BTreeMap;
 
 /// Every script of up to `longest` frames over the alphabet.
 pub fn every_script(comparison: &mut Comparison, alphabet: &[Frame], longest: usize) {
-    every::every(alphabet, longest, &mut |frames| {
+    every::every(Placement::ByHead, alphabet, longest, &mut |frames| {
         comparison.offer(Frame::script(frames))
     });
     comparison.settle();
+}
+
+/// The same in edition 2, with the title before them: by the model only.
+pub fn every_tight_script(comparison: &mut Comparison, alphabet: &[Frame], longest: usize) {
+    by_model(comparison, |comparison| {
+        every::every(Placement::Lowest, alphabet, longest, &mut |frames| {
+            comparison.offer(Script::tight(frames).text())
+        });
+    });
+}
+
+/// What the original doesn't know is held against the model only.
+fn by_model(comparison: &mut Comparison, phase: impl FnOnce(&mut Comparison)) {
+    let against = comparison.against;
+    comparison.against.original = false;
+    comparison.against.model = true;
+    phase(comparison);
+    comparison.settle();
+    comparison.against = against;
 }
 
 /// Scripts by chance; where the last frame is refused, what stands before it is a script of its own.
@@ -29,10 +48,10 @@ pub fn random_scripts(
     for _ in 0..count {
         let mut made = source(&mut rng);
         *profiles.entry(made.profile).or_default() += 1;
-        let mut more = comparison.offer(Frame::script(&made.frames));
+        let mut more = comparison.offer(made.text());
         if made.refused {
             made.frames.pop();
-            more = comparison.offer(Frame::script(&made.frames));
+            more = comparison.offer(made.text());
         }
         if !more {
             break;
@@ -40,6 +59,29 @@ pub fn random_scripts(
     }
     comparison.settle();
     profiles
+}
+
+/// Scripts of all kinds by chance in edition 2: by the model only.
+pub fn random_tight_scripts(
+    comparison: &mut Comparison,
+    count: u64,
+    seed: u64,
+) -> BTreeMap<&'static str, u64> {
+    let mut profiles = BTreeMap::new();
+    by_model(comparison, |comparison| {
+        profiles = random_scripts(comparison, random::tight, count, seed);
+    });
+    profiles
+}
+
+/// The sessions of edition 2: by the model only.
+pub fn sessions_of_edition_2(comparison: &mut Comparison) {
+    by_model(comparison, |comparison| {
+        let long = sessions::long_edition_2();
+        for script in sessions::edition_2().into_iter().chain(long) {
+            comparison.offer(script);
+        }
+    });
 }
 
 /// The sessions of needs: some have 64 needs, which no short script has.
@@ -61,16 +103,13 @@ pub fn sessions_of_samples(comparison: &mut Comparison) {
 /// Damaged texts: by the model only, since the original reads none.
 pub fn damaged_texts(comparison: &mut Comparison, count: u64, seed: u64) {
     let mut rng = Rng::new(seed);
-    let against = comparison.against;
-    comparison.against.original = false;
-    comparison.against.model = true;
-    for _ in 0..count {
-        if !comparison.offer(damage::text(&mut rng)) {
-            break;
+    by_model(comparison, |comparison| {
+        for _ in 0..count {
+            if !comparison.offer(damage::text(&mut rng)) {
+                break;
+            }
         }
-    }
-    comparison.settle();
-    comparison.against = against;
+    });
 }
 
 /// A run of bare `Slots`, counted. A difference is cut down to its shortest end.
@@ -124,13 +163,18 @@ fn smallest(mut calls: Vec<Call>, ours: Player) -> (Vec<Call>, End) {
     (calls, end)
 }
 
-/// The runs by chance by the model, whole: past a refusal, and where H > L. The first that differs, at which call.
-pub fn bare_by_model(count: u64, seed: u64, ours: Player) -> (u64, Option<(Vec<Call>, usize)>) {
+/// The runs by chance by the model, whole: past a refusal, where H > L, and in edition 2. The first that differs, at which call.
+pub fn bare_by_model(
+    count: u64,
+    seed: u64,
+    placement: Placement,
+    ours: Player,
+) -> (u64, Option<(Vec<Call>, usize)>) {
     let mut rng = Rng::new(seed);
     let mut equal = 0;
     for _ in 0..count {
         let calls = bare_calls::by_chance(&mut rng);
-        let (rows, model) = (ours(&calls), bare::model_rows(&calls, None));
+        let (rows, model) = (ours(&calls), bare::model_rows(&calls, placement, None));
         match (0..calls.len()).find(|i| rows[*i] != model[*i]) {
             Some(i) => return (equal, Some((calls, i))),
             None => equal += calls.len() as u64,

@@ -2,18 +2,31 @@
 
 use crate::profile::{length, opcode, Profile, PROFILES, WITH_NEEDS, WITH_SAMPLES};
 use crate::rng::Rng;
-use model::{Frame, NeedNumber, Session};
+use model::{Frame, NeedNumber, Placement, Script, Session, LINES};
 
 pub struct Made {
     pub profile: &'static str,
+    pub placement: Placement,
     pub frames: Vec<Frame>,
     /// the last frame is refused
     pub refused: bool,
 }
 
+impl Made {
+    /// With the title, where it is of edition 2.
+    pub fn text(&self) -> Vec<u8> {
+        let script = Script {
+            placement: self.placement,
+            frames: self.frames.clone(),
+        };
+        script.text()
+    }
+}
+
 struct Maker<'a> {
     rng: &'a mut Rng,
     profile: &'static Profile,
+    placement: Placement,
     session: Session,
     scopes: usize,
     /// frames that come next, last first
@@ -27,36 +40,52 @@ pub type Source = fn(&mut Rng) -> Made;
 
 /// One script of 01's frames; nine of ten stay where the Rust is the oracle.
 pub fn script(rng: &mut Rng) -> Made {
-    by_profile(rng, &PROFILES)
+    by_profile(rng, &PROFILES, Placement::ByHead)
 }
 
 /// The same with needs.
 pub fn with_needs(rng: &mut Rng) -> Made {
-    by_profile(rng, &WITH_NEEDS)
+    by_profile(rng, &WITH_NEEDS, Placement::ByHead)
 }
 
 /// The same with samples, and some needs.
 pub fn with_samples(rng: &mut Rng) -> Made {
-    by_profile(rng, &WITH_SAMPLES)
+    by_profile(rng, &WITH_SAMPLES, Placement::ByHead)
+}
+
+fn profiles(rng: &mut Rng) -> &'static [Profile] {
+    match rng.below(4) {
+        0 => &WITH_NEEDS,
+        1 => &WITH_SAMPLES,
+        _ => &PROFILES,
+    }
 }
 
 /// One of them.
 pub fn any(rng: &mut Rng) -> Made {
-    match rng.below(4) {
-        0 => with_needs(rng),
-        1 => with_samples(rng),
-        _ => script(rng),
-    }
+    let profiles = profiles(rng);
+    by_profile(rng, profiles, Placement::ByHead)
 }
 
-fn by_profile(rng: &mut Rng, profiles: &'static [Profile]) -> Made {
+/// One of any kind in edition 2.
+pub fn tight(rng: &mut Rng) -> Made {
+    let profiles = profiles(rng);
+    by_profile(rng, profiles, Placement::Lowest)
+}
+
+fn by_profile(rng: &mut Rng, profiles: &'static [Profile], placement: Placement) -> Made {
     let profile = &profiles[rng.below(profiles.len())];
-    let frames = length(rng);
+    // the title takes a frame's place
+    let frames = match placement {
+        Placement::ByHead => length(rng),
+        Placement::Lowest => length(rng).min(LINES - 1),
+    };
     let inside = !rng.once_in(10);
     let mut maker = Maker {
         rng,
         profile,
-        session: Session::new(None),
+        placement,
+        session: Session::new(placement, None),
         scopes: 1,
         planned: Vec::new(),
         inside,
@@ -93,6 +122,7 @@ impl Maker<'_> {
         }
         Made {
             profile: self.profile.name,
+            placement: self.placement,
             frames,
             refused,
         }
@@ -100,12 +130,11 @@ impl Maker<'_> {
 
     /// Would this frame leave the domain?
     fn leaves(&self, frame: Frame) -> bool {
-        let slots = &self.session.scopes.slots;
         let inserts = matches!(
             frame,
             Frame::Alloc | Frame::AllocIn(_) | Frame::Linear(1) | Frame::AllocNeed(_)
         );
-        self.inside && inserts && slots.head() > slots.length()
+        self.inside && inserts && self.session.scopes.slots.head_is_above()
     }
 
     fn next(&mut self) -> Frame {

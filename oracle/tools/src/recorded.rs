@@ -144,13 +144,18 @@ fn plainer(case: &Case) -> Vec<Case> {
     cases
 }
 
-/// Fewer lines of the list, a plainer case, fewer lines of the recording, fewer cuts.
-fn smallest(mut case: Case, ours: &mut dyn Recorder) -> Case {
+fn fewer_lines(mut case: Case, ours: &mut dyn Recorder) -> Case {
     let mut fewer = case.clone();
     case.list = shrink_lines(&case.list, &mut |list| {
         fewer.list = list.to_vec();
         differs(ours, &fewer).is_some()
     });
+    case
+}
+
+/// Fewer lines of the list, a plainer case, fewer lines of the recording and of the list again, which took samples of it, fewer cuts.
+fn smallest(case: Case, ours: &mut dyn Recorder) -> Case {
+    let mut case = fewer_lines(case, ours);
     for plainer in plainer(&case) {
         if differs(ours, &plainer).is_some() {
             case = plainer;
@@ -161,6 +166,7 @@ fn smallest(mut case: Case, ours: &mut dyn Recorder) -> Case {
         fewer.recording = recording.to_vec();
         differs(ours, &fewer).is_some()
     });
+    case = fewer_lines(case, ours);
     fewer_cuts(case, ours)
 }
 

@@ -1,4 +1,4 @@
-//! 01's sessions, those of needs and of samples and the boundaries, as scripts.
+//! 01's sessions, those of needs, of samples and of edition 2 and the boundaries, as scripts.
 
 fn text(lines: &str) -> Vec<u8> {
     let mut out = Vec::new();
@@ -174,6 +174,31 @@ const SAMPLES: [&str; 22] = [
     "06 130000",
 ];
 
+/// W-211: holes below the head, each frame that inserts, runs, frames that are smaller and one that is larger than in edition 1, the title.
+const EDITION_2: [&str; 21] = [
+    "f00002",
+    "f00002 080081 0c0005 0c0080 06",
+    "f00002 080400 0c0005 0c0200 06 06",
+    "f00002 080400 0c0005 0c0200 06 06 06",
+    "f00002 080101 0c0005 0c0100 070000 0c0007 080001",
+    "f00002 080101 0c0005 0c0100 200000 230000 240000 250000 0f",
+    "f00002 080081 0c0003 0c0080 06 140081 110081 0f",
+    "f00002 06 06 0c0000 080002",
+    "f00002 01 080180 020001 06 080180",
+    "f00002 01 080082 0c0005 0c0080 06 0c0006 06 070000 020001 080080",
+    "f00002 01 080101 020001 080002 06 080080",
+    "f00002 080401",
+    "f00002 01 080400 020001 080400 06",
+    "f00002 05 06",
+    "f00002 06 zz",
+    "f00002 f00002",
+    "06 f00002",
+    "f00003 06",
+    "f00001",
+    "f0",
+    "f000020000 06",
+];
+
 /// 256 bindings, one taken, then one that is too many, or one in its place.
 fn bindings() -> Vec<Vec<u8>> {
     let mut full = text("06");
@@ -190,6 +215,17 @@ pub fn needs() -> Vec<Vec<u8>> {
 
 pub fn samples() -> Vec<Vec<u8>> {
     SAMPLES.iter().map(|s| text(s)).collect()
+}
+
+pub fn edition_2() -> Vec<Vec<u8>> {
+    let mut all: Vec<Vec<u8>> = EDITION_2.iter().map(|s| text(s)).collect();
+    all.push(b"f00002".to_vec());
+    all
+}
+
+/// As many frames as stand behind a title, and one more: too long to be stored.
+pub fn long_edition_2() -> [Vec<u8>; 2] {
+    [text("f00002 2047*0f"), text("f00002 2048*0f")]
 }
 
 pub fn sessions() -> Vec<Vec<u8>> {

@@ -1,15 +1,29 @@
 //! Makes a script that shows a difference small.
 
-use model::{Frame, NeedNumber, Source};
+use model::{Frame, NeedNumber, Placement, Script, Source};
 
 type Shows<'a> = &'a mut dyn FnMut(&[u8]) -> bool;
+/// The same of the frames alone.
+type Shown<'a> = &'a mut dyn FnMut(&[Frame]) -> bool;
 
-/// The smallest that these steps find: fewer frames, then smaller numbers. A damaged text loses lines only.
+/// The smallest that these steps find: no title, fewer frames, then smaller numbers. A damaged text loses lines only.
 pub fn shrink(script: &[u8], shows: Shows<'_>) -> Vec<u8> {
     match model::read_script(script, None) {
-        Ok(frames) => Frame::script(&shrink_frames(frames, shows)),
+        Ok(script) => shrink_script(script, shows).text(),
         Err(_) => shrink_lines(script, shows),
     }
+}
+
+fn shrink_script(mut script: Script, shows: Shows<'_>) -> Script {
+    if shows(&Frame::script(&script.frames)) {
+        script.placement = Placement::ByHead;
+    }
+    let placement = script.placement;
+    let frames = shrink_frames(script.frames, &mut |frames| {
+        let frames = frames.to_vec();
+        shows(&Script { placement, frames }.text())
+    });
+    Script { placement, frames }
 }
 
 pub fn shrink_lines(script: &[u8], shows: Shows<'_>) -> Vec<u8> {
@@ -30,7 +44,7 @@ pub fn shrink_lines(script: &[u8], shows: Shows<'_>) -> Vec<u8> {
     lines.concat()
 }
 
-fn shrink_frames(mut frames: Vec<Frame>, shows: Shows<'_>) -> Vec<Frame> {
+fn shrink_frames(mut frames: Vec<Frame>, shows: Shown<'_>) -> Vec<Frame> {
     loop {
         let before = frames.clone();
         frames = fewer_frames(frames, shows);
@@ -41,7 +55,7 @@ fn shrink_frames(mut frames: Vec<Frame>, shows: Shows<'_>) -> Vec<Frame> {
     }
 }
 
-fn fewer_frames(mut frames: Vec<Frame>, shows: Shows<'_>) -> Vec<Frame> {
+fn fewer_frames(mut frames: Vec<Frame>, shows: Shown<'_>) -> Vec<Frame> {
     let mut size = frames.len().div_ceil(2);
     while size > 0 {
         let mut at = 0;
@@ -57,15 +71,13 @@ fn fewer_frames(mut frames: Vec<Frame>, shows: Shows<'_>) -> Vec<Frame> {
 }
 
 /// Without some frames: later handles, scopes and needs are renumbered, or left as they are.
-fn without(frames: &[Frame], at: usize, size: usize, shows: Shows<'_>) -> Option<Vec<Frame>> {
+fn without(frames: &[Frame], at: usize, size: usize, shows: Shown<'_>) -> Option<Vec<Frame>> {
     let end = (at + size).min(frames.len());
     let gone = Handed::by(&frames[..at]).gone(&Handed::by(&frames[..end]));
     let renumbered = frames[end..].iter().map(|f| renumber(*f, &gone));
     let renumbered: Vec<Frame> = frames[..at].iter().copied().chain(renumbered).collect();
     let plain: Vec<Frame> = [&frames[..at], &frames[end..]].concat();
-    [renumbered, plain]
-        .into_iter()
-        .find(|fewer| shows(&Frame::script(fewer)))
+    [renumbered, plain].into_iter().find(|fewer| shows(fewer))
 }
 
 /// How many handles, scopes and needs some frames hand out; of each need, whether it is deferred still.
@@ -189,7 +201,7 @@ fn simpler(frame: Frame) -> Vec<Frame> {
     }
 }
 
-fn smaller_numbers(mut frames: Vec<Frame>, shows: Shows<'_>) -> Vec<Frame> {
+fn smaller_numbers(mut frames: Vec<Frame>, shows: Shown<'_>) -> Vec<Frame> {
     for at in 0..frames.len() {
         for frame in simpler(frames[at]) {
             let mut smaller = frames.clone();
@@ -203,7 +215,7 @@ fn smaller_numbers(mut frames: Vec<Frame>, shows: Shows<'_>) -> Vec<Frame> {
                 }
             }
             smaller[at] = frame;
-            if shows(&Frame::script(&smaller)) {
+            if shows(&smaller) {
                 frames = smaller;
                 break;
             }

@@ -23,6 +23,8 @@ impl Tally {
             Verdict::Ours(n) => format!("refused by {n:2}, a rule of ours"),
             Verdict::Text(n) => format!("refused by {n:2}, a text"),
             Verdict::Outside(why) => format!("outside the domain: {why:?}"),
+            Verdict::Second(None) => "edition 2, accepted, by the model".to_string(),
+            Verdict::Second(Some(n)) => format!("edition 2, refused by {n:2}, by the model"),
             Verdict::Differs(_) => "DIFFERENT".to_string(),
         };
         *self.counts.entry(label).or_default() += 1;

@@ -1,6 +1,6 @@
 //! Bare slots: ours by 01 and by W-202, against the original's; with the feature `linked` the proved functions too.
 
-use model::Fault;
+use model::{Fault, Placement};
 use oracle::bare::{model_rows, Call, End, Row};
 use oracle::comparison::Comparison;
 use oracle::every::{alphabet, wide_alphabet};
@@ -11,9 +11,9 @@ use rune::Bare;
 
 /// What the rules have a run of calls show; ours is the same.
 fn rows(calls: &[Call]) -> Vec<Row> {
-    let rows = model_rows(calls, None);
+    let rows = model_rows(calls, Placement::ByHead, None);
     #[cfg(feature = "linked")]
-    assert_eq!(oracle::linked_slots::rows(calls), rows);
+    assert_eq!(oracle::linked_slots::rows(calls, model::Placement::ByHead), rows);
     rows
 }
 
@@ -64,14 +64,15 @@ fn the_next_insert_shows_it() {
     let mut calls = vec![Call::Push; 129];
     calls.extend([Call::Remove(5), Call::Remove(129), Call::Insert]);
     assert_eq!(rows(&calls)[131], row(129, 2, 1));
-    let first = model_rows(&calls, Some(Fault::ClearLeavesHead));
+    let first = model_rows(&calls, Placement::ByHead, Some(Fault::ClearLeavesHead));
     assert_eq!(first[131], row(5, 2, 0));
 }
 
 /// .. so the bare slots find the first wording,
 #[test]
 fn bare_slots_find_the_first_wording() {
-    let mut first = |calls: &[Call]| model_rows(calls, Some(Fault::ClearLeavesHead));
+    let mut first =
+        |calls: &[Call]| model_rows(calls, Placement::ByHead, Some(Fault::ClearLeavesHead));
     let (_, found) = phases::bare_every(1, &mut first);
     let (calls, end) = found.expect("a difference");
     assert!(matches!(end, End::Differs(..)), "{calls:?}");
@@ -96,7 +97,7 @@ fn no_script_finds_the_first_wording() {
 
 #[test]
 fn the_rules_have_no_difference() {
-    let mut ours = |calls: &[Call]| model_rows(calls, None);
+    let mut ours = |calls: &[Call]| model_rows(calls, Placement::ByHead, None);
     let (tally, found) = phases::bare_every(2, &mut ours);
     assert_eq!(found, None);
     assert!(tally.went.clear > 100, "{tally}");

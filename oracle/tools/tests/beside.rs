@@ -1,6 +1,6 @@
 //! Side by side: what is marked and what isn't, who shares a slot, and that a page can be drawn of any script.
 
-use model::{Fault, Frame};
+use model::Fault;
 use oracle::beside::{page, sentence, shared, table, Beside, Counts, Mark};
 use oracle::ours::{Model, Ours};
 use oracle::random;
@@ -113,6 +113,65 @@ fn after_a_refusal_nothing_is_compared() {
     assert!(!late.fault());
 }
 
+/// Ours in edition 2 beside the old allocator's edition 1: no difference, but for how many slots each takes.
+#[test]
+fn edition_2_is_shown_beside_edition_1() {
+    let sample = include_bytes!("../../../samples/tight-frame.script");
+    let beside = Beside::new("tight-frame", sample, &mut Model(None));
+    assert!(beside.titled() && !beside.differs());
+    let said = "edition 2, as the model has it; the old allocator knows edition 1 only: 897 slots there, 385 here, 512 fewer";
+    assert_eq!(sentence(&beside), said);
+    let marked = marks(&beside);
+    assert!(marked.contains(&Mark::Edition) && marked.contains(&Mark::Equal));
+    let shown = table(&beside, true);
+    assert_eq!(shown.lines().count(), 2 + beside.rows.len());
+    assert!(
+        shown.contains("    0  f00002                 . f00002\n"),
+        "{shown}"
+    );
+    assert!(
+        shown.contains("    4  06          060100     2 060000\n"),
+        "{shown}"
+    );
+    let mut counts = Counts::default();
+    counts.count(&beside);
+    assert_eq!((counts.faults, counts.differ), (0, 0));
+    let told = counts.to_string();
+    assert!(
+        told.contains("1 in edition 2, which the old allocator doesn't know"),
+        "{told}"
+    );
+    let drawn = page(&[beside], &counts);
+    assert!(drawn.contains("ours, edition 2") && drawn.contains("<tr class='edition'>"));
+    // line 4 gave handle 384 its slot
+    assert!(drawn.contains("handle 384, slot 0, lines 4\u{2013}"));
+}
+
+/// The old allocator goes on where ours refuses, or has no more slots than ours has; lines count the title.
+#[test]
+fn edition_2_refused() {
+    let full = beside("f00002 / 080400 / 0c0005 / 0c0200 / 06 / 06 / 06 / 0f");
+    assert!(!full.differs());
+    let said = "edition 2, refused at line 6 as by the model (7: no slot); the old allocator knows edition 1 only";
+    assert_eq!(sentence(&full), said);
+    assert_eq!(full.rows[5].ours, "refused 7");
+    let there = beside("f00002 / 080400 / 0c0005 / 0c0200 / 06 / 06");
+    assert!(sentence(&there).ends_with(": 1025 slots there, 1024 here, 1 fewer"));
+    let late = beside("f00002 / 070000 / 05 / 0c0000");
+    assert!(sentence(&late).ends_with("knows edition 1 only: it doesn't take these frames"));
+    assert!(!late.differs());
+}
+
+/// A slot that isn't the lowest one: wrong, whatever the old allocator does.
+#[test]
+fn a_fault_in_edition_2_is_marked() {
+    let mut wrong = Model(Some(Fault::TightFromHead));
+    let script = text("f00002 / 080081 / 0c0005 / 0c0080 / 06");
+    let beside = Beside::new("wrong", &script, &mut wrong);
+    assert!(beside.fault());
+    assert!(sentence(&beside).starts_with("DIFFERS from edition 2: line 4"));
+}
+
 #[test]
 fn a_damaged_text_is_not_compared() {
     let torn = Beside::new("torn", b"06\n06", &mut Model(None));
@@ -154,6 +213,9 @@ fn every_script_can_be_drawn() {
         "22 / 230000",
         "200000 / 230000 / 05 / 250000",
         "01 / 080101 / 020001 / 080002 / 200000 / 230000 / 250000",
+        "f00002",
+        "f00002 / 080400 / 0c0005 / 0c0200 / 06 / 06",
+        "f00002 / 080401",
     ]
     .into_iter()
     .map(beside)
@@ -164,8 +226,11 @@ fn every_script_can_be_drawn() {
         &b"06\n0c0000\n".repeat(1024),
         &mut ours,
     ));
-    for n in 0..60 {
-        let script = Frame::script(&random::any(&mut rng).frames);
+    for n in 0..80 {
+        let script = match n % 4 {
+            0 => random::tight(&mut rng).text(),
+            _ => random::any(&mut rng).text(),
+        };
         let made = Beside::new(&n.to_string(), &script, &mut ours as &mut dyn Ours);
         assert!(!made.fault(), "{}", sentence(&made));
         all.push(made);

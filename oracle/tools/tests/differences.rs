@@ -6,7 +6,8 @@ use rune::{drive, Driven, Stop};
 
 fn frames(script: &str) -> Vec<Frame> {
     let text = script.replace(" / ", "\n") + "\n";
-    model::read_script(text.as_bytes(), None).expect("a script")
+    let script = model::read_script(text.as_bytes(), None);
+    script.expect("a script").frames
 }
 
 fn list(lines: &str) -> Vec<u8> {

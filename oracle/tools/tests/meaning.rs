@@ -1,16 +1,16 @@
 //! W-205, demand 3 by chance: a script that is accepted, translated and run beside a recording with samples enough, loads what it means "with
-//! those samples in order, each used once", if each allocation had a box of its own.
+//! those samples in order, each used once", if each allocation had a box of its own. W-211: so it does in either edition.
 
-use model::{Frame, Session, Source};
+use model::{Frame, Script, Session, Source};
 use oracle::random;
 use oracle::rng::Rng;
 
 /// What the script prints by its boxes, and how many samples it takes; none where it is refused.
-fn meaning(frames: &[Frame], samples: &[u16]) -> Option<(String, usize)> {
-    let mut session = Session::new(None);
+fn meaning(script: &Script, samples: &[u16]) -> Option<(String, usize)> {
+    let mut session = Session::new(script.placement, None);
     let (mut boxes, mut taken) = (vec![0; model::HANDLES], 0);
     let mut printed = String::new();
-    for frame in frames {
+    for frame in &script.frames {
         let read = match frame {
             Frame::Read(handle) => Some(usize::from(*handle)),
             Frame::ReadName(name) => session.scopes.get(*name).ok().map(|b| b.handle),
@@ -51,13 +51,16 @@ fn printed_linked(script: &[u8], recording: &[u8]) -> Vec<u8> {
     out
 }
 
-#[test]
-fn scripts_with_samples_load_what_they_mean() {
+/// Scripts by chance in the edition they were made for.
+fn load_what_they_mean(source: random::Source) {
     let (mut rng, mut told, mut loads) = (Rng::new(205), 0, 0);
     for _ in 0..2000 {
-        let frames = random::with_samples(&mut rng).frames;
+        let random::Made {
+            placement, frames, ..
+        } = source(&mut rng);
+        let script = Script { placement, frames };
         let samples: Vec<u16> = (0..model::LINES).map(|_| rng.draw() as u16).collect();
-        let Some((expected, taken)) = meaning(&frames, &samples) else {
+        let Some((expected, taken)) = meaning(&script, &samples) else {
             continue;
         };
         let left = rng.below(5);
@@ -67,12 +70,22 @@ fn scripts_with_samples_load_what_they_mean() {
             .collect();
         let left = recording.len() / 7 - taken;
         let expected = format!("{expected}a1{left:08x}\n").into_bytes();
-        let script = Frame::script(&frames);
+        let script = script.text();
         assert_eq!(printed(&script, recording.as_bytes()), expected);
         #[cfg(feature = "linked")]
         assert_eq!(printed_linked(&script, recording.as_bytes()), expected);
         told += usize::from(taken > 0);
         loads += expected.len() / 7;
     }
-    assert!(told > 1000 && loads > 10_000, "{told}, {loads}");
+    assert!(told > 250 && loads > 5_000, "{told}, {loads}");
+}
+
+#[test]
+fn scripts_with_samples_load_what_they_mean() {
+    load_what_they_mean(random::with_samples);
+}
+
+#[test]
+fn scripts_of_edition_2_load_what_they_mean() {
+    load_what_they_mean(random::tight);
 }

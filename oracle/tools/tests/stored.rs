@@ -25,14 +25,19 @@ fn stored_answers() {
     let bytes = data("answers.txt");
     let records = records::read(&bytes).expect("records");
     assert!(records.len() >= 300);
-    let mut sampled = 0;
+    let (mut sampled, mut titled) = (0, 0);
     for (mark, script, printed) in records {
         assert_eq!(model::translator(script), printed);
         sampled += usize::from(printed.windows(3).any(|w| w == b"\n14"));
+        if script.starts_with(b"f00002\n") {
+            assert_eq!(mark, b'm');
+            titled += usize::from(printed.starts_with(b"f00002\n"));
+        }
         if mark == b'o' {
-            let frames = model::read_script(script, None).expect("a script");
-            assert_eq!(rune::drive(&frames).list, printed);
+            let script = model::read_script(script, None).expect("a script");
+            assert_eq!(script.placement, model::Placement::ByHead);
+            assert_eq!(rune::drive(&script.frames).list, printed);
         }
     }
-    assert!(sampled >= 20, "{sampled}");
+    assert!(sampled >= 20 && titled >= 15, "{sampled}, {titled}");
 }

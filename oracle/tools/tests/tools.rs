@@ -1,14 +1,16 @@
 //! The tools themselves: records, shrinking, and that a planted fault is found and an honest answer isn't blamed.
 
-use model::{Fault, Frame, FAULTS};
+use model::{Fault, Lent, Placement, FAULTS};
+use oracle::bare::{model_rows, Call};
 use oracle::comparison::Comparison;
+use oracle::editions;
 use oracle::every::{alphabet, needs_alphabet, samples_alphabet, wide_alphabet};
 use oracle::judge::Against;
-use oracle::ours::Model;
+use oracle::ours::{Model, Ours};
 use oracle::recorded::{self, Modelled};
 use oracle::records::{self, Mark};
 use oracle::rng::Rng;
-use oracle::{phases, random, shrink};
+use oracle::{phases, random, sessions, shrink};
 
 const BOTH: Against = Against {
     original: true,
@@ -56,6 +58,51 @@ fn the_model_has_no_difference() {
     assert!(comparison.tally.offered > 4000);
 }
 
+/// .. nor does edition 2, by the sets of slots: held to both, the original isn't asked.
+#[test]
+fn the_model_has_no_difference_in_edition_2() {
+    let mut comparison = Comparison::new(Box::new(Model(None)), BOTH);
+    phases::every_tight_script(&mut comparison, &alphabet(), 3);
+    phases::every_tight_script(&mut comparison, &wide_alphabet(), 3);
+    phases::every_tight_script(&mut comparison, &needs_alphabet(), 3);
+    phases::sessions_of_edition_2(&mut comparison);
+    phases::random_tight_scripts(&mut comparison, 600, 7);
+    assert!(comparison.found.is_empty());
+    let told = comparison.tally.to_string();
+    assert!(comparison.tally.offered > 8000, "{told}");
+    for label in ["edition 2, accepted", "edition 2, refused by  7"] {
+        assert!(told.contains(label), "{told}");
+    }
+    assert!(!told.contains("original"), "{told}");
+}
+
+/// What is taken in both editions prints the same when run, and no refusal but 7 depends on the edition.
+#[test]
+fn both_editions_mean_the_same() {
+    let (tally, differs) = editions::by_chance(&mut Model(None), 1500, 211);
+    assert_eq!(differs, None);
+    let sizes = &tally.sizes;
+    assert!(sizes.scripts > 1000 && sizes.smaller > 50, "{tally}");
+    assert!(sizes.second < sizes.first, "{tally}");
+}
+
+/// .. and where the meaning does depend on it, that is found: here the second edition forgets that a sample was written.
+#[test]
+fn editions_that_mean_something_else_are_found() {
+    struct Apart;
+    impl Ours for Apart {
+        fn answer(&mut self, script: &[u8]) -> Vec<u8> {
+            let fault = script.starts_with(b"f0").then_some(Fault::SampleUnwritten);
+            model::translator_with(script, fault)
+        }
+        fn name(&self) -> String {
+            "two models".into()
+        }
+    }
+    let (_, differs) = editions::by_chance(&mut Apart, 1500, 211);
+    assert!(differs.is_some());
+}
+
 /// What goes with a frame that is left out: its need, the handle of that need, and their numbers later on.
 #[test]
 fn a_script_with_needs_is_made_small() {
@@ -74,7 +121,7 @@ fn many_needs_by_chance() {
     let mut rng = Rng::new(1);
     let most = (0..300).map(|_| {
         let frames = random::with_needs(&mut rng).frames;
-        model::play(&frames, None).0.needed()
+        model::play(Placement::ByHead, &frames, None).0.needed()
     });
     assert_eq!(most.max(), Some(model::NEEDS));
 }
@@ -125,7 +172,8 @@ fn faults_of_recordings_are_found() {
     }
     let of_recordings = FAULTS
         .iter()
-        .skip_while(|(_, f)| *f != Fault::SampleHighLate);
+        .skip_while(|(_, f)| *f != Fault::SampleHighLate)
+        .take_while(|(_, f)| *f != Fault::TightFromHead);
     for (name, fault) in of_recordings {
         let (_, found) = recorded::by_chance(&mut Modelled(Some(*fault)), 2000, 205);
         let (case, _) = found.expect(name);
@@ -134,6 +182,89 @@ fn faults_of_recordings_are_found() {
             "{name}: {case}"
         );
     }
+}
+
+/// The faults of titles that lists show when they are run.
+const IN_LISTS: [Fault; 4] = [
+    Fault::TitleLater,
+    Fault::TitleAnyNumber,
+    Fault::TitleUnnumbered,
+    Fault::TitleUnread,
+];
+
+/// The faults of edition 2's slots that bare slots show.
+const IN_SLOTS: [Fault; 4] = [
+    Fault::TightFromHead,
+    Fault::TightFromOne,
+    Fault::TightKeepsLength,
+    Fault::TightKeepsHead,
+];
+
+/// Each fault of edition 2 is found by a session, but for the head, which no script shows, and for lists that are run. That of the limit has a
+/// test of its own: a long script isn't made small quickly.
+#[test]
+fn faults_of_edition_2_are_found() {
+    let of_edition_2 = FAULTS
+        .iter()
+        .skip_while(|(_, f)| *f != Fault::TightFromHead)
+        .filter(|(_, f)| *f != Fault::TitleBesideLimit);
+    for (name, fault) in of_edition_2 {
+        let mut comparison = Comparison::new(Box::new(Model(Some(*fault))), BOTH);
+        phases::sessions_of_edition_2(&mut comparison);
+        let by_script = !matches!(fault, Fault::TightKeepsHead | Fault::TitleUnread);
+        assert_eq!(!comparison.found.is_empty(), by_script, "{name}");
+        let mut rows = |c: &[Call]| model_rows(c, Placement::Lowest, Some(*fault));
+        let (_, by_bare) = phases::bare_by_model(100, 211, Placement::Lowest, &mut rows);
+        assert_eq!(by_bare.is_some(), IN_SLOTS.contains(fault), "{name}");
+        let (_, by_list) = recorded::by_chance(&mut Modelled(Some(*fault)), 300, 211);
+        assert_eq!(by_list.is_some(), IN_LISTS.contains(fault), "{name}");
+    }
+}
+
+#[test]
+fn a_title_beside_the_limit_is_found() {
+    let fault = Some(Fault::TitleBesideLimit);
+    let [full, over] = sessions::long_edition_2();
+    assert_eq!(
+        model::translator(&full),
+        model::translator_with(&full, fault)
+    );
+    assert_eq!(model::translator(&over), b"ee020800\n");
+    let list = model::translator_with(&over, fault);
+    assert!(list.starts_with(b"f00002\n"));
+    let run = |plant| {
+        let [cells, out, left] = &mut [[0; 4]; 3];
+        model::run_recorded_with(&list, 0, &[], Lent { cells, out, left }, plant)
+    };
+    assert_eq!(run(fault), Ok(0));
+    assert_eq!(run(None).map_err(|r| (r.number, r.line)), Err((2, 2048)));
+}
+
+/// The head of edition 2 is looked at by no insert: scripts don't show it.
+#[test]
+fn no_script_shows_the_head_of_edition_2() {
+    let mut comparison = Comparison::new(Box::new(Model(Some(Fault::TightKeepsHead))), BOTH);
+    phases::every_tight_script(&mut comparison, &wide_alphabet(), 3);
+    phases::random_tight_scripts(&mut comparison, 300, 211);
+    assert!(comparison.found.is_empty());
+}
+
+/// Edition 1 placed tightly is 01's first "tempting and wrong": it gives the slots of edition 2.
+#[test]
+fn edition_1_searched_from_slot_0_is_edition_2() {
+    let mut rng = Rng::new(211);
+    let mut other = 0;
+    for _ in 0..400 {
+        let made = random::tight(&mut rng);
+        let frames = model::Frame::script(&made.frames);
+        let from_zero = model::translator_with(&frames, Some(Fault::SearchFromZero));
+        let tight = model::translator(&made.text());
+        if !tight.starts_with(b"ee") {
+            assert_eq!(tight, [b"f00002\n", &from_zero[..]].concat());
+            other += usize::from(model::translator(&frames) != from_zero);
+        }
+    }
+    assert!(other > 20, "{other}");
 }
 
 #[test]
@@ -147,7 +278,7 @@ fn a_planted_fault_is_found_by_the_original() {
     let small: Vec<usize> = comparison
         .found
         .iter()
-        .map(|f| model::read_script(&f.small, None).map_or(0, |fs: Vec<Frame>| fs.len()))
+        .map(|f| model::read_script(&f.small, None).map_or(0, |s| s.frames.len()))
         .collect();
     assert!(small.contains(&4), "{small:?}");
 }

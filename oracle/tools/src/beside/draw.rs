@@ -11,6 +11,7 @@ const ABOVE: f64 = 34.0;
 const BELOW: f64 = 40.0;
 
 struct Pen<'a> {
+    beside: &'a Beside,
     axes: &'a Axes,
     colours: Colours,
     top: f64,
@@ -31,7 +32,7 @@ impl Pen<'_> {
         self.top + self.axes.y(slot)
     }
 
-    fn panel(&mut self, name: &str, beside: &Beside, side: &Side) {
+    fn panel(&mut self, name: &str, side: &Side) {
         let (x, y, w, h) = (LEFT, self.top, self.axes.width(), self.axes.height);
         self.put(format_args!(
             "<rect class='ground' x='{x:.1}' y='{y:.1}' width='{w:.1}' height='{h:.1}'/>\
@@ -49,23 +50,24 @@ impl Pen<'_> {
                 below - 1.0
             ));
         }
-        self.frames(beside);
-        if side.end < beside.frames.len() {
+        self.frames();
+        if side.end < self.beside.frames.len() {
             self.ended(side.end);
         }
     }
 
     /// The numbers of the frames and, where there is room, their text.
-    fn frames(&mut self, beside: &Beside) {
+    fn frames(&mut self) {
         let below = self.top + self.axes.height;
         for line in self.axes.frame_ticks() {
             let middle = self.x(line) + self.axes.frame / 2.0;
+            let number = self.beside.line(line);
             self.put(format_args!(
-                "<text class='tick' text-anchor='middle' x='{middle:.1}' y='{:.1}'>{line}</text>",
+                "<text class='tick' text-anchor='middle' x='{middle:.1}' y='{:.1}'>{number}</text>",
                 below + 13.0
             ));
             if self.axes.frame >= 66.0 {
-                let frame = &beside.rows[line].script;
+                let frame = &self.beside.rows[line].script;
                 self.put(format_args!(
                     "<text class='frame' text-anchor='middle' x='{middle:.1}' y='{:.1}'>{frame}</text>",
                     below + 26.0
@@ -78,6 +80,7 @@ impl Pen<'_> {
     fn ended(&mut self, line: usize) {
         let (x, y, h) = (self.x(line), self.top, self.axes.height);
         let w = LEFT + self.axes.width() - x;
+        let line = self.beside.line(line);
         self.put(format_args!(
             "<rect class='ended' x='{x:.1}' y='{y:.1}' width='{w:.1}' height='{h:.1}'><title>refused at line {line}</title></rect>"
         ));
@@ -99,7 +102,8 @@ impl Pen<'_> {
             1 => format!("slot {}", block.first.slot),
             _ => format!("slots {}\u{2013}{}", block.first.slot, block.past() - 1),
         };
-        let (from, until) = (block.first.from, block.until - 1);
+        let from = self.beside.line(block.first.from);
+        let until = self.beside.line(block.until - 1);
         let title = format!("handle {label}, {slots}, lines {from}\u{2013}{until}");
         self.coloured(block.first.handle, (x, y, past - x, below - y), &title);
         let past = covered.map_or(past, |line| self.x(line));
@@ -213,12 +217,17 @@ pub fn draw(beside: &Beside) -> String {
     }
     let axes = Axes::new(beside, &old, &ours);
     let mut pen = Pen {
+        beside,
         axes: &axes,
         colours: Colours::new(&old, &ours),
         top: ABOVE,
         out: String::new(),
     };
-    pen.panel("old", beside, &beside.old);
+    let (old_name, our_name) = match beside.titled() {
+        true => ("old, edition 1", "ours, edition 2"),
+        false => ("old", "ours"),
+    };
+    pen.panel(old_name, &beside.old);
     for block in &old {
         let shares = |s: &&Shared| [s.older.handle, s.newer.handle].contains(&block.first.handle);
         let covered = beside.shared.iter().find(shares).map(|s| s.newer.from);
@@ -228,7 +237,7 @@ pub fn draw(beside: &Beside) -> String {
     beside.shared.iter().for_each(|s| pen.twice(s, end));
     pen.calls(&beside.shared);
     pen.top += axes.height + BELOW + ABOVE - 8.0;
-    pen.panel("ours", beside, &beside.ours);
+    pen.panel(our_name, &beside.ours);
     ours.iter().for_each(|b| pen.bar(b, None));
     let bottom = pen.top + axes.height;
     left(&mut pen, beside, bottom);

@@ -1,6 +1,6 @@
 //! Which allocation holds which slot, from frame to frame.
 
-use model::{Frame, Session};
+use model::{Script, Session};
 use rune::Held;
 
 /// Two allocations that hold one slot at one time.
@@ -45,10 +45,10 @@ fn address(line: &str) -> Option<usize> {
 
 /// From a list that was printed: its lines have the addresses. Who lets go when doesn't depend on addresses, so a session of
 /// the model goes along.
-pub fn by_list(frames: &[Frame], lines: &[String]) -> Vec<Held> {
-    let mut session = Session::new(None);
+pub fn by_list(script: &Script, lines: &[String]) -> Vec<Held> {
+    let mut session = Session::new(script.placement, None);
     let mut held: Vec<Held> = Vec::new();
-    for (line, (frame, printed)) in frames.iter().zip(lines).enumerate() {
+    for (line, (frame, printed)) in script.frames.iter().zip(lines).enumerate() {
         let before = session.handed();
         if session.step(*frame).is_err() {
             break;

@@ -20,7 +20,7 @@ pub use table::table;
 
 use crate::judge::{answer, judge, Against, Answer, Outside, Verdict};
 use crate::ours::Ours;
-use model::Frame;
+use model::{Frame, Placement, Script};
 use rune::{drive, Driven, Held};
 
 /// One of the two allocators, as far as its answers are compared.
@@ -32,8 +32,11 @@ pub struct Side {
     pub end: usize,
 }
 
+/// Lines are places among the frames here; as they are shown, a title counts before them.
 pub struct Beside {
     pub name: String,
+    /// ours follows the script's edition, the old allocator edition 1
+    pub placement: Placement,
     pub frames: Vec<Frame>,
     pub rows: Vec<Row>,
     pub verdict: Verdict,
@@ -57,11 +60,12 @@ fn ask(ours: &mut dyn Ours, script: &[u8]) -> Vec<u8> {
     ours.answer(script)
 }
 
-/// The lines of the frames; the size line too, if the list has one for all of them.
-fn lines(list: &[u8], whole: bool, frames: usize) -> Vec<String> {
+/// The lines of the frames; the size line too, if the list has one for all of them. The title's line isn't one of them.
+fn lines(list: &[u8], titles: usize, whole: bool, frames: usize) -> Vec<String> {
     let text = String::from_utf8_lossy(list);
     let most = if whole { frames + 1 } else { frames };
-    text.lines().take(most).map(String::from).collect()
+    let lines = text.lines().skip(titles).take(most);
+    lines.map(String::from).collect()
 }
 
 fn left(driven: &Driven, end: usize) -> Option<(usize, Outside)> {
@@ -82,25 +86,23 @@ fn old_side(driven: &Driven, end: usize, whole: bool) -> Side {
     let stop = driven.stop.as_ref().map_or(end, |(line, _)| *line);
     let held = driven.held.iter().filter(|h| h.from < end).copied();
     Side {
-        lines: lines(&driven.list, whole, end + 1),
+        lines: lines(&driven.list, 0, whole, end + 1),
         held: held.collect(),
         end: end.min(stop),
     }
 }
 
 /// Ours: a refused script is asked again without the refused frame and what comes after it.
-fn our_side(ours: &mut dyn Ours, frames: &[Frame], printed: &[u8], whole: bool) -> Side {
+fn our_side(ours: &mut dyn Ours, script: &Script, printed: &[u8], whole: bool) -> Side {
+    let (titles, frames) = (script.first_line(), script.frames.len());
     let lines = match whole {
-        true => lines(printed, true, frames.len()),
-        false => {
-            let before = ask(ours, &Frame::script(frames));
-            lines(&before, false, frames.len())
-        }
+        true => lines(printed, titles, true, frames),
+        false => lines(&ask(ours, &script.text()), titles, false, frames),
     };
     Side {
-        held: held::by_list(frames, &lines),
+        held: held::by_list(script, &lines),
         lines,
-        end: frames.len(),
+        end: frames,
     }
 }
 
@@ -113,6 +115,7 @@ fn unread(name: &str, refused: Option<(usize, u8)>, verdict: Verdict) -> Beside 
     };
     Beside {
         name: name.into(),
+        placement: Placement::ByHead,
         frames: vec![],
         rows: vec![],
         verdict,
@@ -132,20 +135,29 @@ impl Beside {
             Some(Answer::Refused(number, line)) => Some((line, number)),
             _ => None,
         };
-        let (frames, end) = match (model::read_script(script, None), refused) {
-            (Ok(frames), None) => (frames.clone(), frames.len()),
-            (Ok(frames), Some((line, _))) if line < frames.len() => (frames, line),
+        let script = match model::read_script(script, None) {
+            Ok(script) if !matches!(verdict, Verdict::Text(_)) => script,
             _ => return unread(name, refused, verdict),
         };
-        if matches!(verdict, Verdict::Text(_)) {
+        let first = script.first_line();
+        let (frames, whole) = (script.frames.len(), refused.is_none());
+        let end = refused.map_or(Some(frames), |(line, _)| line.checked_sub(first));
+        let Some(end) = end.filter(|end| whole || *end < frames) else {
             return unread(name, refused, verdict);
-        }
+        };
+        let Script { placement, frames } = script;
         let driven = drive(&frames[..frames.len().min(end + 1)]);
-        let old = old_side(&driven, end, refused.is_none());
-        let ours = our_side(ours, &frames[..end], &printed, refused.is_none());
+        let old = old_side(&driven, end, whole);
+        let taken = Script {
+            placement,
+            frames: frames[..end].to_vec(),
+        };
+        let ours = our_side(ours, &taken, &printed, whole);
+        let refused = refused.map(|(_, number)| (end, number));
         let shared = shared(&old.held);
         let mut beside = Beside {
             name: name.into(),
+            placement,
             rows: vec![],
             verdict,
             left: left(&driven, end),
@@ -162,6 +174,15 @@ impl Beside {
     /// How many frames are compared.
     pub fn end(&self) -> usize {
         self.refused.map_or(self.frames.len(), |(line, _)| line)
+    }
+
+    pub fn titled(&self) -> bool {
+        self.placement == Placement::Lowest
+    }
+
+    /// As the script counts its lines.
+    pub fn line(&self, place: usize) -> usize {
+        place + usize::from(self.titled())
     }
 
     /// Inside the domain of 01, or by the model: ours is wrong.

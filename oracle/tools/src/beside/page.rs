@@ -20,7 +20,7 @@ details { margin: 4px 0 0; } summary { color: #6b7280; cursor: pointer; }
 table { border-collapse: collapse; font: 12.5px ui-monospace, monospace; margin-top: 6px; }
 td, th { text-align: left; padding: 1px 16px 1px 0; vertical-align: top; font-weight: 400; }
 th { color: #6b7280; } td.n { color: #6b7280; text-align: right; } td.long { max-width: 26ch; overflow-wrap: anywhere; }
-tr.outside td { background: #fdecea; color: inherit; } tr.differs td { background: #b42318; color: #fff; display: table-cell; padding: 1px 16px 1px 0; }
+tr.outside td { background: #fdecea; color: inherit; } tr.edition td { background: #eef4ff; } tr.differs td { background: #b42318; color: #fff; display: table-cell; padding: 1px 16px 1px 0; }
 tr.apart td { color: #9aa1ab; } tr.note td { font-family: system-ui, sans-serif; color: #b42318; }
 ";
 
@@ -33,6 +33,7 @@ fn class(mark: Mark) -> &'static str {
     match mark {
         Mark::Equal => "",
         Mark::Outside => " class='outside'",
+        Mark::Edition => " class='edition'",
         Mark::Differs => " class='differs'",
         Mark::Apart => " class='apart'",
     }
@@ -70,8 +71,11 @@ fn section(beside: &Beside, out: &mut String) {
     let open = if beside.rows.len() <= 16 { " open" } else { "" };
     out.push_str(&format!("<details{open}><summary>line by line</summary>\n"));
     out.push_str("<table><tr><th><th>script<th>old<th>ours\n");
-    for (number, one) in beside.rows.iter().enumerate() {
-        row(number, one, out);
+    if beside.titled() {
+        row(0, &Row::title(), out);
+    }
+    for (place, one) in beside.rows.iter().enumerate() {
+        row(beside.line(place), one, out);
     }
     out.push_str("</table></details>\n");
 }

@@ -2,7 +2,7 @@
 
 use super::words::words;
 use super::{Beside, Outside, Verdict};
-use model::Frame;
+use model::{Frame, Script};
 use rune::{Driven, Stop};
 
 /// A line may give many slots again: so many are named.
@@ -13,6 +13,8 @@ pub enum Mark {
     Equal,
     /// they differ, after the script left the domain of 01
     Outside,
+    /// they differ because ours is of edition 2
+    Edition,
     /// they differ where 01 says that they don't
     Differs,
     /// not compared
@@ -27,10 +29,28 @@ pub struct Row {
     pub notes: Vec<String>,
 }
 
+impl Row {
+    /// The title's, which the old allocator isn't told of.
+    pub fn title() -> Row {
+        let title = shown(&Script::tight(&[]).text());
+        Row {
+            script: title.clone(),
+            old: String::new(),
+            ours: title,
+            mark: Mark::Apart,
+            notes: vec![],
+        }
+    }
+}
+
+fn shown(line: &[u8]) -> String {
+    String::from_utf8_lossy(line).trim_end().into()
+}
+
 fn text(frame: &Frame) -> String {
     let mut bytes = Vec::new();
     frame.write(&mut bytes);
-    String::from_utf8_lossy(&bytes).trim_end().into()
+    shown(&bytes)
 }
 
 pub(super) fn rows(beside: &Beside, driven: &Driven) -> Vec<Row> {
@@ -91,6 +111,7 @@ fn mark(beside: &Beside, driven: &Driven, line: usize, row: &Row) -> Mark {
     }
     match (row.old == row.ours, outside) {
         (true, _) => Mark::Equal,
+        _ if beside.titled() => Mark::Edition,
         (false, true) => Mark::Outside,
         (false, false) => Mark::Differs,
     }
@@ -110,9 +131,10 @@ fn notes(beside: &Beside, driven: &Driven, line: usize) -> Vec<String> {
     let given_again = || beside.shared.iter().filter(|s| s.newer.from == line);
     for s in given_again().take(NAMED) {
         let (older, newer) = (s.older.handle, s.newer.handle);
-        let (first, slot) = (s.older.from, s.slot);
+        let (first, again) = (beside.line(s.older.from), beside.line(line));
+        let slot = s.slot;
         notes.push(format!(
-            "slot {slot} given twice: handle {older} (line {first}) and handle {newer} (line {line}) both hold it"
+            "slot {slot} given twice: handle {older} (line {first}) and handle {newer} (line {again}) both hold it"
         ));
     }
     if let more @ 1.. = given_again().skip(NAMED).count() {

@@ -1,12 +1,12 @@
 //! What came out, in a sentence for one script and in a line for many.
 
 use super::words::words;
-use super::{Beside, Mark, Outside, Verdict};
+use super::{Beside, Mark, Outside, Side, Verdict};
 use std::fmt;
 
 /// How a script came out, in few words.
 pub fn sentence(beside: &Beside) -> String {
-    let at = beside.refused.map_or(0, |(line, _)| line);
+    let at = beside.refused.map_or(0, |(place, _)| beside.line(place));
     let differing = beside.rows.iter().filter(|r| r.mark == Mark::Outside);
     let differing = match differing.count() {
         1 => "1 line differs".into(),
@@ -35,7 +35,33 @@ pub fn sentence(beside: &Beside) -> String {
             ),
             None => "outside 01's domain".into(),
         },
+        Verdict::Second(None) => {
+            format!("edition 2, as the model has it; {EDITION_1}: {}", sizes(beside))
+        }
+        Verdict::Second(Some(n)) => format!(
+            "edition 2, refused at line {at} as by the model ({n}: {}); {EDITION_1}",
+            words(*n)
+        ),
+        Verdict::Differs(why) if beside.titled() => format!("DIFFERS from edition 2: {why}"),
         Verdict::Differs(why) => format!("DIFFERS inside 01's domain: {why}"),
+    }
+}
+
+const EDITION_1: &str = "the old allocator knows edition 1 only";
+
+/// How many slots the frames take in both editions.
+fn sizes(beside: &Beside) -> String {
+    let size = |side: &Side| {
+        let line = side.lines.get(beside.frames.len())?;
+        usize::from_str_radix(line.strip_prefix("90")?, 16).ok()
+    };
+    match (size(&beside.old), size(&beside.ours)) {
+        (Some(old), Some(ours)) if ours < old => {
+            let fewer = old - ours;
+            format!("{old} slots there, {ours} here, {fewer} fewer")
+        }
+        (Some(old), Some(ours)) => format!("{old} slots there, {ours} here"),
+        _ => "it doesn't take these frames".into(),
     }
 }
 
@@ -50,6 +76,7 @@ pub struct Counts {
     known_fault: usize,
     shared: usize,
     late: usize,
+    second: usize,
     pub faults: usize,
     /// scripts whose lists differ, for whatever reason
     pub differ: usize,
@@ -70,6 +97,7 @@ impl Counts {
             Verdict::Text(_) => self.unread += 1,
             Verdict::Outside(Outside::HeadAboveLength) => self.known_fault += 1,
             Verdict::Outside(Outside::RootFreedLate) => self.late += 1,
+            Verdict::Second(_) => self.second += 1,
             Verdict::Differs(_) => {}
         }
         self.shared += usize::from(!beside.shared.is_empty());
@@ -90,6 +118,10 @@ impl fmt::Display for Counts {
             (self.known_fault, "with the known fault"),
             (self.shared, "of them with a slot given twice"),
             (self.late, "outside by a root Scope handle freed after 05"),
+            (
+                self.second,
+                "in edition 2, which the old allocator doesn't know",
+            ),
         ];
         for (n, what) in more.into_iter().filter(|(n, _)| *n > 0) {
             write!(f, ", {n} {what}")?;

@@ -11,6 +11,7 @@ fn sign(mark: Mark) -> &'static str {
     match mark {
         Mark::Equal => " ",
         Mark::Outside => "~",
+        Mark::Edition => "2",
         Mark::Differs => "#",
         Mark::Apart => ".",
     }
@@ -39,7 +40,9 @@ fn line(number: usize, row: &Row, wide: usize, out: &mut String) {
 fn stays(rows: &[Row], at: usize) -> bool {
     let near = &rows[at.saturating_sub(ABOUT)..rows.len().min(at + ABOUT + 1)];
     let ends = at < ABOUT || at + ABOUT >= rows.len();
-    let told = |r: &Row| matches!(r.mark, Mark::Outside | Mark::Differs) || !r.notes.is_empty();
+    let told = |r: &Row| {
+        matches!(r.mark, Mark::Outside | Mark::Edition | Mark::Differs) || !r.notes.is_empty()
+    };
     ends || near.iter().any(told)
 }
 
@@ -52,6 +55,9 @@ pub fn table(beside: &Beside, whole: bool) -> String {
         "{:>5}  {:<12}{:<wide$}   {}\n",
         "line", "script", "old", "ours"
     );
+    if beside.titled() {
+        line(0, &Row::title(), wide, &mut out);
+    }
     let mut at = 0;
     while at < rows.len() {
         let alike = |i: &usize| !stays(rows, *i) && rows[*i].mark == rows[at].mark;
@@ -65,7 +71,7 @@ pub fn table(beside: &Beside, whole: bool) -> String {
             at += quiet;
             continue;
         }
-        line(at, &rows[at], wide, &mut out);
+        line(beside.line(at), &rows[at], wide, &mut out);
         at += 1;
     }
     out

@@ -1,6 +1,6 @@
 //! Ours against the original and the model, at scale. See oracle/README.md for the options.
 
-use model::{Fault, Frame, Plant};
+use model::{Fault, Frame, Placement, Plant};
 use oracle::args::Args;
 use oracle::bare::{model_rows, Player};
 use oracle::comparison::{Comparison, Found};
@@ -8,7 +8,7 @@ use oracle::judge::{Against, ORIGINAL_FAULTS};
 use oracle::known::known;
 use oracle::ours::{Model, Ours, Program, RecordedProgram};
 use oracle::recorded::{self, Modelled, Recorder};
-use oracle::{every, phases, random};
+use oracle::{editions, every, phases, random};
 use std::process::ExitCode;
 use std::time::Instant;
 
@@ -22,9 +22,11 @@ struct Plan {
     wide: usize,
     needs: usize,
     samples: usize,
+    editions: usize,
     random: u64,
     random_needs: u64,
     random_samples: u64,
+    random_editions: u64,
     damaged: u64,
     bare: u64,
     bare_every: usize,
@@ -62,9 +64,11 @@ fn plan(args: &Args) -> Plan {
         wide: args.number("--wide", every - 1) as usize,
         needs: args.number("--needs", every) as usize,
         samples: args.number("--samples", every) as usize,
+        editions: args.number("--editions", every - 1) as usize,
         random: args.number("--random", random),
         random_needs: args.number("--random-needs", random / 3),
         random_samples: args.number("--random-samples", random / 3),
+        random_editions: args.number("--random-editions", random / 3),
         damaged: args.number("--damaged", few),
         bare: args.number("--bare", 20_000),
         bare_every: args.number("--bare-every", 2) as usize,
@@ -97,22 +101,65 @@ fn report(found: &[Found]) -> usize {
     unknown
 }
 
-fn every_script(comparison: &mut Comparison, name: &str, alphabet: &[Frame], longest: usize) {
+/// What was counted since the last time.
+fn print_tally(comparison: &mut Comparison) {
+    println!("{}", comparison.tally);
+    comparison.tally = Default::default();
+}
+
+/// A name, the frames, and how many of them a script has at most.
+type Short<'a> = (&'a str, &'a [Frame], usize);
+
+fn every_script(
+    comparison: &mut Comparison,
+    every: fn(&mut Comparison, &[Frame], usize),
+    (name, alphabet, longest): Short,
+) {
     let begun = Instant::now();
-    phases::every_script(comparison, alphabet, longest);
+    every(comparison, alphabet, longest);
     let seconds = begun.elapsed().as_secs();
     let letters = alphabet.len();
     println!("every script of up to {longest} frames, {name} alphabet of {letters}, {seconds} s");
-    println!("{}", comparison.tally);
-    comparison.tally = Default::default();
+    print_tally(comparison);
 }
 
 fn by_chance(comparison: &mut Comparison, source: random::Source, count: u64, seed: u64) {
     let begun = Instant::now();
     let profiles = phases::random_scripts(comparison, source, count, seed);
     println!("by chance, {} s, {profiles:?}", begun.elapsed().as_secs());
-    println!("{}", comparison.tally);
-    comparison.tally = Default::default();
+    print_tally(comparison);
+}
+
+/// With the title before them. The wide scripts have a frame less: there are more slots to look at.
+fn second_edition(comparison: &mut Comparison, plan: &Plan) {
+    println!("edition 2: held against the model, and against the sets of slots; the original knows edition 1 only");
+    let (small, wide) = (every::alphabet(), every::wide_alphabet());
+    let shorts: [Short; 2] = [
+        ("small", &small, plan.editions),
+        ("wide", &wide, plan.editions.saturating_sub(1)),
+    ];
+    for short in shorts {
+        every_script(comparison, phases::every_tight_script, short);
+    }
+    let begun = Instant::now();
+    let profiles = phases::random_tight_scripts(comparison, plan.random_editions, plan.seed);
+    println!("by chance, {} s, {profiles:?}", begun.elapsed().as_secs());
+    print_tally(comparison);
+}
+
+/// The same frames in either edition: what they print, and which of them are refused.
+fn both_editions(plan: &Plan) -> usize {
+    let mut ours = translator(plan);
+    let (count, seed) = (plan.random_editions, plan.seed);
+    let (tally, differs) = editions::by_chance(ours.as_mut(), count, seed);
+    println!(
+        "scripts by chance in both editions, by {}\n{tally}",
+        ours.name()
+    );
+    if let Some((frames, why)) = &differs {
+        println!("DIFFERENCE: {}\n  {why}", shown(&Frame::script(frames)));
+    }
+    differs.into_iter().count()
 }
 
 /// The two linked functions.
@@ -153,11 +200,17 @@ fn scripts(plan: &Plan) -> usize {
     let ours = translator(plan);
     println!("ours: {}; seed {}", ours.name(), plan.seed);
     let mut comparison = Comparison::new(ours, plan.against);
-    every_script(&mut comparison, "small", &every::alphabet(), plan.every);
-    every_script(&mut comparison, "wide", &every::wide_alphabet(), plan.wide);
+    let (small, wide) = (every::alphabet(), every::wide_alphabet());
     let (needs, samples) = (every::needs_alphabet(), every::samples_alphabet());
-    every_script(&mut comparison, "needs", &needs, plan.needs);
-    every_script(&mut comparison, "samples", &samples, plan.samples);
+    let shorts: [Short; 4] = [
+        ("small", &small, plan.every),
+        ("wide", &wide, plan.wide),
+        ("needs", &needs, plan.needs),
+        ("samples", &samples, plan.samples),
+    ];
+    for short in shorts {
+        every_script(&mut comparison, phases::every_script, short);
+    }
     let sources: [(random::Source, u64); 3] = [
         (random::script, plan.random),
         (random::with_needs, plan.random_needs),
@@ -166,7 +219,7 @@ fn scripts(plan: &Plan) -> usize {
     for (source, count) in sources {
         by_chance(&mut comparison, source, count, plan.seed);
     }
-
+    second_edition(&mut comparison, plan);
     if plan.linked || plan.program.is_some() || plan.plant.is_some() {
         phases::damaged_texts(&mut comparison, plan.damaged, plan.seed);
         println!("damaged texts, by the model only");
@@ -179,12 +232,18 @@ fn scripts(plan: &Plan) -> usize {
 #[cfg(feature = "linked")]
 fn bare_linked(plan: &Plan) -> usize {
     use oracle::linked_slots::rows;
-    let (equal, differs) = phases::bare_by_model(plan.bare, plan.seed, &mut |c| rows(c));
-    println!("bare slots (ours, linked, against the model)\n{equal} calls equal");
-    if let Some((calls, i)) = &differs {
-        println!("DIFFERENCE at call {i} of {calls:?}");
+    let mut differences = 0;
+    for (edition, place) in [(1, Placement::ByHead), (2, Placement::Lowest)] {
+        let player: Player = &mut |c| rows(c, place);
+        let (equal, differs) = phases::bare_by_model(plan.bare, plan.seed, place, player);
+        println!("bare slots (ours, linked, against the model), edition {edition}\n{equal} calls equal");
+        if let Some((calls, i)) = &differs {
+            println!("DIFFERENCE at call {i} of {calls:?}");
+            differences += 1;
+        }
     }
-    differs.into_iter().count() + bare_against_original("ours, linked", plan, &mut |c| rows(c))
+    let first: Player = &mut |c| rows(c, Placement::ByHead);
+    differences + bare_against_original("ours, linked", plan, first)
 }
 
 #[cfg(not(feature = "linked"))]
@@ -214,7 +273,9 @@ fn bare_against_original(whose: &str, plan: &Plan, player: Player) -> usize {
 fn bare(plan: &Plan) -> usize {
     match plan.linked {
         true => bare_linked(plan),
-        false => bare_against_original("the model's", plan, &mut |c| model_rows(c, plan.plant)),
+        false => bare_against_original("the model's", plan, &mut |c| {
+            model_rows(c, Placement::ByHead, plan.plant)
+        }),
     }
 }
 
@@ -278,7 +339,7 @@ fn recorded_program(plan: &Plan) -> usize {
 
 fn main() -> ExitCode {
     let plan = plan(&Args::new());
-    let differences = scripts(&plan) + bare(&plan) + lists(&plan);
+    let differences = scripts(&plan) + both_editions(&plan) + bare(&plan) + lists(&plan);
     let differences = differences + recordings(&plan) + recorded_program(&plan);
     match differences {
         0 => {

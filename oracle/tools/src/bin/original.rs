@@ -1,5 +1,6 @@
 //! Reads a script and prints the original's list, or the line that it refused with its own words.
 
+use model::Placement;
 use oracle::args::Args;
 use rune::{drive, Driven, Stop};
 use std::io::{Read, Write};
@@ -34,14 +35,20 @@ fn analysis(driven: &Driven) {
 
 fn main() -> ExitCode {
     let args = Args::new();
-    let frames = match model::read_script(&input(args.first()), None) {
-        Ok(frames) => frames,
+    let script = match model::read_script(&input(args.first()), None) {
+        Ok(script) => script,
         Err(r) => {
             eprintln!("line {}: no script, {}", r.line, r.number);
             return ExitCode::from(2);
         }
     };
-    let refused = model::play(&frames, None).1.err();
+    if script.placement == Placement::Lowest {
+        eprintln!(
+            "the title is left out: the original knows edition 1 only; its frames count from 0"
+        );
+    }
+    let frames = script.frames;
+    let refused = model::play(Placement::ByHead, &frames, None).1.err();
     let end = refused.map_or(frames.len(), |r| r.line + 1);
     let driven = drive(&frames[..end]);
     analysis(&driven);

@@ -1,9 +1,9 @@
 //! Plants each fault in turn, in the model or in the original's answers, and says who finds it. Fails if one isn't found.
 
-use model::{Fault, FAULTS};
+use model::{Fault, Placement, FAULTS};
 use oracle::bare;
 use oracle::comparison::Comparison;
-use oracle::every::{alphabet, needs_alphabet, samples_alphabet};
+use oracle::every::{alphabet, needs_alphabet, samples_alphabet, wide_alphabet};
 use oracle::judge::{Against, ORIGINAL_FAULTS};
 use oracle::ours::Model;
 use oracle::recorded::{self, Modelled};
@@ -38,8 +38,17 @@ fn found(fault: Option<Fault>, against: Against) -> Option<String> {
             phase(&mut comparison);
         }
     }
-    if comparison.found.is_empty() && against.model {
-        phases::damaged_texts(&mut comparison, 2000, SEED);
+    let by_model: [fn(&mut Comparison); 5] = [
+        |c| phases::every_tight_script(c, &alphabet(), 3),
+        |c| phases::every_tight_script(c, &wide_alphabet(), 3),
+        phases::sessions_of_edition_2,
+        |c| drop(phases::random_tight_scripts(c, 2000, SEED)),
+        |c| phases::damaged_texts(c, 2000, SEED),
+    ];
+    for phase in by_model {
+        if comparison.found.is_empty() && against.model {
+            phase(&mut comparison);
+        }
     }
     let shortest = comparison.found.iter().min_by_key(|f| f.small.len())?;
     Some(format!("{}; {}", shown(&shortest.small), shortest.why))
@@ -53,22 +62,34 @@ fn whom(original: bool) -> Against {
     }
 }
 
+/// Against the original in edition 1, and against the model in edition 2.
+fn bare_slots(fault: Fault) -> Option<String> {
+    let rows = |placement| move |c: &[bare::Call]| bare::model_rows(c, placement, Some(fault));
+    let (_, first) = phases::bare_runs(300, SEED, &mut rows(Placement::ByHead));
+    if let Some((calls, _)) = first {
+        return Some(format!("{} calls", calls.len()));
+    }
+    let second = Placement::Lowest;
+    let (_, differs) = phases::bare_by_model(300, SEED, second, &mut rows(second));
+    differs.map(|(_, call)| format!("edition 2, call {call}"))
+}
+
 fn model_fault(name: &str, fault: Fault) -> bool {
     let by_original = found(Some(fault), whom(true));
     let by_model = found(Some(fault), whom(false));
     let said = |s: &Option<String>| s.clone().unwrap_or("nothing".into());
     println!("{name}\n  original: {}", said(&by_original));
     println!("  model: {}", said(&by_model));
-    let by_bare = phases::bare_runs(300, SEED, &mut |c| bare::model_rows(c, Some(fault))).1;
-    let calls = by_bare.as_ref().map(|(calls, _)| calls.len());
-    println!(
-        "  bare slots: {}",
-        calls.map_or("nothing".into(), |n| format!("{n} calls"))
-    );
+    let by_bare = bare_slots(fault);
+    println!("  bare slots: {}", said(&by_bare));
     let by_recording = recorded::by_chance(&mut Modelled(Some(fault)), 3000, SEED).1;
-    let case = by_recording
-        .as_ref()
-        .map(|(case, why)| format!("{case}; {why}"));
+    let case = by_recording.as_ref().map(|(case, why)| {
+        let case = match case.list.len() > 300 {
+            true => format!("a list of {} bytes", case.list.len()),
+            false => case.to_string(),
+        };
+        format!("{case}; {why}")
+    });
     println!("  recordings: {}", said(&case));
     by_original.is_some() || by_model.is_some() || by_bare.is_some() || by_recording.is_some()
 }

@@ -1,6 +1,6 @@
 //! For each refusal of 01 and each frame: the shortest script that meets it, and what the original does with that frame.
 
-use model::Frame;
+use model::{Frame, Placement};
 use oracle::every::{alphabet, every, needs_alphabet, samples_alphabet};
 use rune::{drive, Stop};
 use std::collections::BTreeMap;
@@ -24,8 +24,8 @@ fn kind(words: &str) -> String {
 type Table = BTreeMap<(u8, u8, String), (Vec<Frame>, String)>;
 
 fn collect(alphabet: &[Frame], table: &mut Table) {
-    every(alphabet, 5, &mut |frames| {
-        let refusal = model::play(frames, None).1.err();
+    every(Placement::ByHead, alphabet, 5, &mut |frames| {
+        let refusal = model::play(Placement::ByHead, frames, None).1.err();
         if let (Some(refusal), Some(words)) = (refusal, theirs(frames)) {
             let opcode = frames[refusal.line].opcode();
             let key = (refusal.number, opcode, kind(&words));

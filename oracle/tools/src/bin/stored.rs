@@ -1,4 +1,5 @@
-//! Writes stored answers (see `records`) to standard output: 01's sessions and limits first, then scripts by chance; then the same with needs, then with samples.
+//! Writes stored answers (see `records`) to standard output: 01's sessions and limits first, then scripts by chance; then the same with needs, with samples, and
+//! in edition 2.
 //! With --wrong, the short sessions with their answer as it is and spoilt in each of four ways; with --broken, one record and another that is
 //! cut off.
 
@@ -8,7 +9,7 @@ use oracle::judge::{judge, Against, Verdict};
 use oracle::random::{self, Source};
 use oracle::records::{self, Mark};
 use oracle::rng::Rng;
-use oracle::sessions::{needs, samples, sessions};
+use oracle::sessions::{edition_2, needs, samples, sessions};
 use std::io::Write;
 
 const AGAINST: Against = Against {
@@ -22,7 +23,9 @@ fn mark(script: &[u8], printed: &[u8]) -> Mark {
     match judge(script, printed, AGAINST) {
         Verdict::Equal => Mark::Original,
         Verdict::BothRefuse(_) => Mark::Refused,
-        Verdict::Ours(_) | Verdict::Text(_) | Verdict::Outside(_) => Mark::Ours,
+        Verdict::Ours(_) | Verdict::Text(_) | Verdict::Outside(_) | Verdict::Second(_) => {
+            Mark::Ours
+        }
         Verdict::Differs(why) => panic!("a difference can't be stored: {why}"),
     }
 }
@@ -53,8 +56,22 @@ fn least(i: u64) -> usize {
 
 fn by_chance(source: Source, rng: &mut Rng, i: u64) -> Vec<u8> {
     loop {
-        let script = Frame::script(&source(rng).frames);
+        let script = source(rng).text();
         if (least(i)..most(i)).contains(&script.len()) {
+            return script;
+        }
+    }
+}
+
+/// A short script of edition 2 that is taken, and whose slots aren't those of edition 1.
+fn tight_by_chance(rng: &mut Rng) -> Vec<u8> {
+    loop {
+        let made = random::tight(rng);
+        let (script, first) = (made.text(), Frame::script(&made.frames));
+        let printed = model::translator(&script);
+        let taken = script.len() >= 60 && printed.starts_with(b"f0");
+        let other = !printed.ends_with(&model::translator(&first));
+        if taken && other && script.len() + printed.len() < 400 {
             return script;
         }
     }
@@ -101,6 +118,7 @@ fn answers(args: &Args) -> Vec<u8> {
     let count = args.number("--count", 240);
     let few = args.number("--needs", 24);
     let fewer = args.number("--samples", 12);
+    let fewest = args.number("--editions", 8);
     let seed = args.number("--seed", 1);
     let mut scripts = sessions();
     let mut rng = Rng::new(seed);
@@ -112,6 +130,9 @@ fn answers(args: &Args) -> Vec<u8> {
     scripts.extend(samples());
     let mut rng = Rng::new(seed);
     scripts.extend((1..=fewer).map(|i| by_chance(random::with_samples, &mut rng, i)));
+    scripts.extend(edition_2());
+    let mut rng = Rng::new(seed);
+    scripts.extend((0..fewest).map(|_| tight_by_chance(&mut rng)));
     let mut out = Vec::new();
     let marks: Vec<Mark> = scripts.iter().map(|s| store(s, &mut out)).collect();
     let of = |mark: Mark| marks.iter().filter(|m| **m == mark).count();

@@ -6,7 +6,7 @@ use model::{NeedNumber, Source, NEEDS};
 /// A kind's name, and its script of n frames.
 pub type Kind = (&'static str, fn(usize) -> Vec<Frame>);
 
-pub const KINDS: [Kind; 9] = [
+pub const KINDS: [Kind; 10] = [
     ("alloc and free, in turn", pairs),
     ("alloc, write, read, free", mix),
     ("scopes 8 deep with names", names),
@@ -16,6 +16,7 @@ pub const KINDS: [Kind; 9] = [
     ("a need: defer, allocate, output, .., free", needs),
     ("allocate, output, write, read, over needs", asked),
     ("alloc and free, in turn, beside needs", beside),
+    ("alloc and free, in turn, above 1,000 slots", above),
 ];
 
 /// By how much the slot of the next pair is further on, and which slots that gives.
@@ -171,6 +172,17 @@ fn beside(n: usize) -> Vec<Frame> {
     };
     let made = (0..2 * needs).map(made);
     made.chain((0..n - 2 * needs).map(frame)).collect()
+}
+
+/// A run of 1,000 slots stays: the lowest clear slot is in the last segment.
+fn above(n: usize) -> Vec<Frame> {
+    let run = 1000;
+    let frame = |i: usize| match i % 2 {
+        0 => Alloc,
+        _ => Free(run + (i / 2) as u16),
+    };
+    let run = std::iter::once(Linear(run));
+    run.chain((0..n - 1).map(frame)).collect()
 }
 
 /// How many lines the lists of figures have.

@@ -1,5 +1,6 @@
 //! Prints docs/FIGURES.md's tables: ours, linked, beside the original in the same run. See oracle/README.md.
 
+mod editions;
 mod recordings;
 mod runs;
 mod shown;
@@ -126,6 +127,7 @@ fn main() {
         pairs();
     }
     translation();
+    editions::print();
     runs::print();
     recordings::print();
     check();
