@@ -13,7 +13,8 @@ extern "C" {
  * 0, in the low 32. A refusal leaves all lent memory as it was. Each pointer may be read, and if it isn't const written, over the length
  * that follows it; what is lent must not overlap. */
 
-/* Translates a script into list. No list of a script is longer than 32,768 bytes. */
+/* Translates a script into list. No list of a script is longer than 32,768 bytes. A script whose first line is `f00002` follows edition 2,
+ * which gives the lowest clear slot of all, and its list begins with that line; run and run_recorded read both kinds of lists. */
 uint64_t translate(const uint8_t *script, size_t script_len, uint8_t *list, size_t list_len);
 
 /* Runs a list over cells, two bytes each, high first, and writes what its loads show into out, 7 bytes a load. Cells from the

@@ -113,7 +113,8 @@ extern "C" {
     ) -> u64;
 }
 
-/// Translates a script into `list`. No list of a script is longer than 32,768 bytes.
+/// Translates a script into `list`. No list of a script is longer than 32,768 bytes. A script whose first line is `f00002` follows edition 2,
+/// which gives the lowest clear slot of all, and its list begins with that line; [`run`] and [`run_recorded`] read both kinds of lists.
 #[cfg(translate)]
 pub fn translate(script: &[u8], list: &mut [u8]) -> Answer {
     // SAFETY: both are slices, so they may be read, and the second written, over their lengths, and they don't overlap. The

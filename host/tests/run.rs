@@ -32,9 +32,25 @@ fn each_refusal() {
     assert_eq!(run_over(b"110001\n900001\n", 8, 8), refused(20, 0));
     assert_eq!(run_over(b"140001\n900001\n", 8, 8), refused(20, 0));
     assert_eq!(run_over(b"05\n140000\n900001\n", 0, 0), refused(23, 1));
+    assert_eq!(run_over(b"05\nf00002\n900000\n", 8, 8), refused(1, 1));
+    assert_eq!(run_over(b"f00003\n900000\n", 8, 8), refused(1, 0));
+    assert_eq!(run_over(b"f00002\n110001\n900001\n", 8, 8), refused(20, 1));
     assert_eq!(run_over(LIST, 5, 7), refused(17, 0));
     assert_eq!(run_over(LIST, 6, 6), refused(17, 0));
     assert_eq!(run_over(LIST, 6, 7), Answer::Written(7));
+}
+
+/// W-211: the title is a line that does nothing.
+#[test]
+fn a_list_of_edition_2() {
+    let (mut cells, mut out) = ([0x5a; 10], [0x5a; 9]);
+    let titled = [b"f00002\n", LIST].concat();
+    assert_eq!(run(&titled, &mut cells, &mut out), Answer::Written(7));
+    assert_eq!(&out, b"a000ff\nZZ");
+    let full = [b"f00002\n", &b"05\n".repeat(2047)[..], b"900000\n"].concat();
+    assert_eq!(run_over(&full, 0, 0), Answer::Written(0));
+    let over = [b"f00002\n", &b"05\n".repeat(2048)[..], b"900000\n"].concat();
+    assert_eq!(run_over(&over, 0, 0), refused(2, 2048));
 }
 
 #[test]
