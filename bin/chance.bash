@@ -25,7 +25,9 @@ spoilt() {
     printf '%sx%s' "${text:0:end-2}" "${text:end-1:${#text}-end}"
 }
 
-by_chance() { printf '%04x' $((RANDOM * 2 + RANDOM % 2)); }
+hex() { printf '%04x' "$1"; }
+
+by_chance() { hex $((RANDOM * 2 + RANDOM % 2)); }
 
 # TAKEN samples that are read back in turn and LEFT that aren't; the page has to show the samples that were taken and count the wraps.
 try_recorded() { # TAKEN LEFT
@@ -63,11 +65,40 @@ failed() {
     exit 1
 }
 
-# Texts made by chance: a value that is written and read; samples that are taken and read in turn; a stored answer that is spoilt.
+# In edition 2 the lower of two slots that went back is given first, though the other one went back last.
+try_tight() { # VALUE
+    local slots=$((RANDOM % 800 + 200)) low high new
+    low=$(hex $((RANDOM % 128)))
+    high=$(hex $((128 + RANDOM % (slots - 128))))
+    new=$(hex $slots)
+    printf '%s\n' f00002 "08$new" "0c$low" "0c$high" 06 06 "10$new$1" "11$new" >"$room/script"
+    printf '%s\n' f00002 080000 0c 0c "06$low" "06$high" "10$low$1" "11$low" "90$new" >"$room/list"
+    echo "a0$1" >"$room/loads"
+    holds "$room/list" "$room/script" translator
+    holds "$room/loads" "$room/list" runner
+}
+
+# A title with another number is refused on line 0, and one on a later line there, in a script and in a list.
+try_titles() {
+    local later=$((RANDOM % 60 + 1))
+    printf '%s\n' "f0$(hex $((RANDOM + 3)))" 06 >"$room/script"
+    echo ee010000 >"$room/count"
+    holds "$room/count" "$room/script" translator
+    printf "%${later}s" | sed 's/ /0f\n/g' >"$room/script"
+    sed 's/$/0000/' "$room/script" >"$room/list"
+    echo f00002 | tee -a "$room/script" >>"$room/list"
+    echo 900000 >>"$room/list"
+    echo "ee01$(hex $later)" >"$room/count"
+    holds "$room/count" "$room/script" translator
+    holds "$room/count" "$room/list" runner
+}
+
+# Texts made by chance: a value that is written and read; samples that are taken and read in turn; scripts and lists with titles; a stored answer
+# that is spoilt.
 try() {
-    local value record taken
+    local value record taken records=452
     value=$(by_chance)
-    record=$((RANDOM % 422 + 1))
+    record=$((RANDOM % records + 1))
     taken=$((RANDOM % 30 + 1))
     build translator
     build runner
@@ -78,8 +109,10 @@ try() {
     holds "$room/list" "$room/script" translator
     holds "$room/loads" "$room/list" runner
     try_recorded $taken $((RANDOM % 300))
+    try_tight "$value"
+    try_titles
     spoilt $record >"$room/spoilt"
-    printf '422 replayed, 1 differ\nthe first that differs is record %d\n' $record >"$room/count"
+    printf '%d replayed, 1 differ\nthe first that differs is record %d\n' $records $record >"$room/count"
     holds "$room/count" /dev/null replay "$room/spoilt"
     echo "translator and runner know the value $value and $taken samples, replay finds the spoilt record $record"
 }
