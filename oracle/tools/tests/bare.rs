@@ -13,7 +13,10 @@ use rune::Bare;
 fn rows(calls: &[Call]) -> Vec<Row> {
     let rows = model_rows(calls, Placement::ByHead, None);
     #[cfg(feature = "linked")]
-    assert_eq!(oracle::linked_slots::rows(calls, model::Placement::ByHead), rows);
+    assert_eq!(
+        oracle::linked_slots::rows(calls, model::Placement::ByHead),
+        rows
+    );
     rows
 }
 

@@ -236,7 +236,9 @@ fn bare_linked(plan: &Plan) -> usize {
     for (edition, place) in [(1, Placement::ByHead), (2, Placement::Lowest)] {
         let player: Player = &mut |c| rows(c, place);
         let (equal, differs) = phases::bare_by_model(plan.bare, plan.seed, place, player);
-        println!("bare slots (ours, linked, against the model), edition {edition}\n{equal} calls equal");
+        println!(
+            "bare slots (ours, linked, against the model), edition {edition}\n{equal} calls equal"
+        );
         if let Some((calls, i)) = &differs {
             println!("DIFFERENCE at call {i} of {calls:?}");
             differences += 1;
