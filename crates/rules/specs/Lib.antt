@@ -17,3 +17,4 @@ pub mod Sessions
 pub mod FirstWording
 pub mod Drops
 pub mod Editions
+pub mod Suppliers

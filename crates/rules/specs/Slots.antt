@@ -1,10 +1,11 @@
--- Document 01, "Slots"; `remove` as W-202 of document 02 amends it; edition 2 of W-211. `n` is the most segments there may be. Assumes nothing.
+-- Document 01, "Slots"; `remove` as W-202 of document 02 amends it; edition 2 of W-211; W-203's allocations where a list shows them. `n` is the most
+-- segments there may be. Assumes nothing.
 use mathlib.Core.Bool.{Bool, true, false, not, _&&_}
 use mathlib.Core.Option.{Option, none, some}
 use mathlib.Core.List.{List, [], _∷_}
 use Prim.Native.Nat.{ℕ, zero, suc, _+_, _*_, _-_, _/_, _%_, min, max}
-use lib.Dec.{eqb, ltb}
-use Rattle.rules.specs.Notation.{isSome, orElse, put, first, pastLast}
+use lib.Dec.{eqb, ltb, leb}
+use Rattle.rules.specs.Notation.{isSome, orElse, put, first, pastLast, allBelow}
 
 -- "State: the occupied slots, segment count L, head segment H."
 pub record Slots : Type 0 where
@@ -139,10 +140,29 @@ insertLowest m s = elim (lowestOfAll m s) [ none ↦ none | some a ↦ placed a 
 unfoldable pub edition2 : ℕ → Placement
 edition2 m n s = elim (eqb n 1) [ true ↦ insertLowest m s | false ↦ pushRun m n s ]
 
--- Where an allocation goes is a value: by the head (edition 1), or to the lowest clear slot (edition 2).
+-- ---- W-203, "Lists from the rig supplier": an allocation goes where the list shows it
+
+-- the n slots from a on lie in the room, and none of them is occupied
+unfoldable pub vacant : ℕ → ℕ → ℕ → Slots → Bool
+vacant m a n s = leb (a + n) (128 * m) && allBelow (λ i. not (s .occupied (a + i))) n
+
+-- they become occupied one after another, each with L and H as by edition 2's insert
+unfoldable pub takeRun : ℕ → ℕ → Slots → Slots
+takeRun a zero s = s
+takeRun a (suc n) s = takeRun (suc a) n (takeAt a s)
+
+-- "each run is consecutive, no slot is given while another allocation holds it": the n slots from a on, or none
+unfoldable pub exactly : ℕ → ℕ → Placement
+exactly m a n s = elim (vacant m a n s) [ true ↦ placed a (takeRun a n s) | false ↦ none ]
+
+-- ---- a placement as a value
+
+-- Where an allocation goes: by the head (edition 1), to the lowest clear slot (edition 2), or exactly at an address (W-203).
 pub data Place : Type 0 where
   byHead lowest : Place
+  exactlyAt : ℕ → Place
 
 unfoldable pub placing : ℕ → Place → Placement
 placing m byHead = edition1 m
 placing m lowest = edition2 m
+placing m (exactlyAt a) = exactly m a

@@ -6,7 +6,7 @@ use Prim.Native.Nat.{ℕ, zero, suc, _+_, _*_, _-_, _/_, _%_}
 use lib.ListN.{length}
 use lib.Dec.{eqb, ltb, leb}
 use Rattle.rules.specs.Sizes.{Room}
-use Rattle.rules.specs.Slots.{Place, byHead, lowest}
+use Rattle.rules.specs.Slots.{Place, byHead, lowest, exactlyAt}
 use Rattle.rules.specs.Frames.{Frame, child, pop, dangle, restore, popLast, alloc, allocIn, linear, define, get, takeFrom, free, freeQuietly, forget, drain, Source, constant, nextSample, write, read, readName, newDefer, newAssigned, newIgnore, allocNeed, outputNeed, dropNeed, Line, stores, loads, shows}
 
 -- ---- "lowercase hex"
@@ -184,10 +184,11 @@ titled (l ∷ ls) =
       | none ↦ record { place = byHead; rest = l ∷ ls }
     ]
 
--- "That line counts as a frame and its list line repeats it."
+-- "That line counts as a frame and its list line repeats it." No title is of W-203's placement: no script names it.
 abbrev pub title : Place → List Line
 title byHead = []
 title lowest = shows 0xf0 (2 ∷ []) ∷ []
+title (exactlyAt a) = []
 
 -- where a script's allocations go, and its frames behind the title
 pub record Read : Type 0 where
