@@ -5,18 +5,17 @@ use mathlib.Core.Option.{Option, none, some}
 use mathlib.Core.List.{List, [], _∷_, _++_}
 use Prim.Native.Nat.{ℕ, suc, _+_, _-_, _≤_, _<_}
 use native.Mathlib.Omega.{arith}
-use lib.Dec.{ltb, lit<}
+use lib.Dec.{ltb}
 use lib.ListN.{length, replicate, drop, set, length-append, length-replicate}
 use lib.Seq.{drop-set-lt, drop-append-seam}
 use borrow.Author.Tests.{ltb-true, lt-ltb, le-ltb}
-use Rattle.rules.specs.Notation.{given, refused}
 use Rattle.rules.specs.Sizes.{Room, base}
-use Rattle.rules.specs.Slots.{Placement, Place, byHead, lowest, placing}
-use Rattle.rules.specs.Frames.{State, start, Frame, Line, stores, loads, shows, Step, step, steps, accepted, onward}
+use Rattle.rules.specs.Slots.{Placement, Place, byHead, lowest, exactlyAt, placing}
+use Rattle.rules.specs.Frames.{State, start, Frame, Line, stores, loads, shows, steps, accepted}
 use Rattle.rules.specs.Meaning.{worth, later, obey, high, meaning, listTakes, framesTake, lacking}
 use Rattle.rules.specs.Recordings.{recorded}
 use Rattle.rules.specs.Text.{split, Script, frames, unread, titled, title, readScript, listText, listed, readList}
-use Rattle.rules.specs.Entries.{outcome, translated, ran, stopped, runSampled, runListed, recordedOn}
+use Rattle.rules.specs.Entries.{outcome, translated, ran, runSampled, runListed, recordedOn}
 use Rattle.rules.specs.Demand3.{Fair, Holds, Demand3, Demand3Bytes, RoundTrip, Runs, scriptMeaning, scriptTakes, Lacks, TooFew}
 use Rattle.rules.proofs.Chains.{none-some}
 use Rattle.rules.proofs.Lists.{FitLines, no-lines, title-back}
@@ -27,13 +26,13 @@ use Rattle.rules.proofs.Small.{Small, small-step, small-start}
 use Rattle.rules.proofs.Fits.{Wide, base-wide, fit-on, one-length, fits-step}
 use Rattle.rules.proofs.Scripts.{FitFrames, no-frames, frames-on, read-well}
 use Rattle.rules.proofs.Taking.{enough, too-few}
-use Rattle.rules.proofs.Demand3.{tail, next-frame, no-frame, demand3}
-use Rattle.rules.proofs.Editions.{placing-fair-sound}
+use Rattle.rules.proofs.Demand3.{tail, Goes, ended, went, Ended, accepted-goes, demand3}
+use Rattle.rules.proofs.Editions.{InOrder, sound-in-order, in-order-sound, placing-fair, fair-as}
 
 -- ---- the frame machine
 
 -- where the first line is low, so are the others
-low-on : (size a i : ℕ) (ls : List Line) (P : Type 0) → _≡_ {A = Option ℕ} (elim (ltb a size) [ true ↦ high size (suc i) ls | false ↦ some i ]) none
+pub low-on : (size a i : ℕ) (ls : List Line) (P : Type 0) → _≡_ {A = Option ℕ} (elim (ltb a size) [ true ↦ high size (suc i) ls | false ↦ some i ]) none
     → (a < size → high size (suc i) ls ≡ none → P) → P
 low-on size a i ls P e k = go (ltb a size) refl
   where
@@ -60,10 +59,11 @@ high-at size i j (stores a x ∷ ls) e = low-on size a i ls (high size j (stores
 high-at size i j (loads o a ∷ ls) e = low-on size a i ls (high size j (loads o a ∷ ls) ≡ none) e (λ b q. rw (lt-ltb a size b, high) (high-at size (suc i) (suc j) ls q))
 
 -- the title is no line that the frame machine obeys
-under-title : (room : Room) (p : Place) (place : Placement) (fs : List Frame) (ls : List Line) (size : ℕ) → Holds room place fs ls size → Holds room place fs (title p ++ ls) size
+pub under-title : (room : Room) (p : Place) (place : Placement) (fs : List Frame) (ls : List Line) (size : ℕ) → Holds room place fs ls size → Holds room place fs (title p ++ ls) size
 unfolding obey high listTakes
 under-title room byHead place fs ls size h = h
 under-title room lowest place fs ls size h = record { prints = h .prints; samples = h .samples; inside = high-at size 0 1 ls (h .inside) }
+under-title room (exactlyAt a) place fs ls size h = h
 
 -- the cells before the first line: zeroed below `size`
 zeroed-above : (size : ℕ) (cells : List ℕ) → drop size (replicate size 0 ++ drop size cells) ≡ drop size cells
@@ -78,7 +78,7 @@ pub record Held (room : Room) (script : List ℕ) (ls : List Line) (size : ℕ) 
   pub back : readList room (listText ls size) ≡ listed ls size
 
 module _ (room : Room) (place : Placement) where
-  runs : (fs : List Frame) (ls : List Line) (size : ℕ) (cells list : List ℕ) (n : ℕ) (vs : List ℕ) → Holds room place fs ls size → size ≤ length cells
+  pub runs : (fs : List Frame) (ls : List Line) (size : ℕ) (cells list : List ℕ) (n : ℕ) (vs : List ℕ) → Holds room place fs ls size → size ≤ length cells
       → framesTake fs ≤ n → framesTake fs ≤ length vs → readList room list ≡ listed ls size
       → Runs room size cells (recorded n vs) list (meaning room place start (λ h. 0) vs fs) (n - framesTake fs)
   unfolding recordedOn runListed
@@ -100,45 +100,47 @@ module _ (room : Room) (place : Placement) where
       let f = too-few ls 0 n (omega (arith, holds .samples)) in
       record { line = f .line; is-first = f .is; stops = rw (back, holds .inside, f .is, runListed, runSampled) }
 
--- ---- what accepted frames write
+-- ---- what a run writes
 
-module _ (room : Room) (place : Placement) (fair : Fair room place (SlotsSound (room .segments))) (wide : Wide room) where
-  record Written (fs : List Frame) (ls : List Line) (size : ℕ) : Type 0 where
-    fits : FitLines ls
-    lengths : length ls ≡ length fs
-    within : size ≤ room .size
+-- a placement that will do: fair on slots in order, and so on sound ones
+abbrev pub FairInOrder : Room → Placement → Type 0
+FairInOrder room place = Fair room place (InOrder (room .segments))
 
-  written : {fs : List Frame} → FitFrames fs → (i : ℕ) (s : State) (ls : List Line) (size : ℕ) → i + length fs ≤ room .lines → StateSound room s → Small i s
-      → steps room place i s fs ≡ accepted ls size → Written fs ls size
-  unfolding onward
-  written no-frames i s ls size h ok small e =
-      let end = no-frame room place i s in
-      let el : [] ≡ ls = cc in
-      let es : s .scopes .size ≡ size = cc in
-      record { fits = subst FitLines el no-lines; lengths = ap length (sym el); within = omega (arith, ok .scopes .size .fits) }
-  written (frames-on {f = f} {fs = fs} ff more) i s ls size h ok small e =
-      go (step room place s f) refl (sym (next-frame room place i s f fs) ∙ e) (λ t rest o k x. written more (suc i) t rest size (omega arith) o k x)
-    where
-      go : (a : Step) → step room place s f ≡ a → onward i a (λ t. steps room place (suc i) t fs) ≡ accepted ls size
-          → ((t : State) (rest : List Line) → StateSound room t → Small (suc i) t → steps room place (suc i) t fs ≡ accepted rest size → Written fs rest size)
-          → Written (f ∷ fs) ls size
-      go (refused n) q x ih = absurd (let z : _≡_ {A = ℕ} 0 1 = cc in omega arith)
-      go (given r) q x ih =
-          let next = small-step room place fair (omega (arith, wide .slots, wide .size)) i s (ok .scopes .slots) small f .at r q in
-          let one = fits-step room place fair wide i (omega arith) s ok small f ff .at r q in
-          let tl = tail (r .0) (steps room place (suc i) (r .1) fs) ls size x in
-          let w : Written fs (tl .rest) size = ih (r .1) (tl .rest) (keeps-step room s ok (wide .slots) place fair f .at r q) next (tl .went) in
-          record {
-            fits = subst FitLines (tl .whole) (fit-on one (w .fits));
-            lengths = ap length (sym (tl .whole)) ∙ one-length one (tl .rest) ∙ ap suc (w .lengths);
-            within = w .within;
-          }
+pub record Written (room : Room) (fs : List Frame) (ls : List Line) (size : ℕ) : Type 0 where
+  pub fits : FitLines ls
+  pub lengths : length ls ≡ length fs
+  pub within : size ≤ room .size
 
 module _ (room : Room) (wide : Wide room) where
+  sound-fair : (place : Placement) → FairInOrder room place → Fair room place (SlotsSound (room .segments))
+  sound-fair place f = fair-as (λ s. in-order-sound (room .segments) s (wide .segments)) (sound-in-order (room .segments)) f
+
+  written : {fs : List Frame} {ls : List Line} {s t : State} → FitFrames fs → Goes room (FairInOrder room) s fs ls t → (i : ℕ) → i + length fs ≤ room .lines → StateSound room s → Small i s
+      → Written room fs ls (t .scopes .size)
+  written no-frames ended i h ok small = record { fits = no-lines; lengths = refl; within = omega (arith, ok .scopes .size .fits) }
+  written {s = s} (frames-on {f = f} {fs = fs} ff more) (went place ok-place r q run) i h ok small =
+      let fair = sound-fair place ok-place in
+      let next = small-step room place fair (omega (arith, wide .slots, wide .size)) i s (ok .scopes .slots) small f .at r q in
+      let one = fits-step room place fair wide i (omega arith) s ok small f ff .at r q in
+      let w = written more run (suc i) (omega arith) (keeps-step room s ok (wide .slots) place fair f .at r q) next in
+      record { fits = fit-on one (w .fits); lengths = one-length one _ ∙ ap suc (w .lengths); within = w .within }
+
   pub title-short : (p : Place) → length (title p) ≤ room .lines
   title-short byHead = omega arith
   title-short lowest = wide .one-line
+  title-short (exactlyAt a) = omega arith
 
+  -- the frames of a script that is read, from the start, behind its title
+  pub run-written : (script : List ℕ) (fs : List Frame) (ls : List Line) (size : ℕ) → readScript room script .script ≡ frames fs → Ended room (FairInOrder room) start fs ls size
+      → Written room fs ls size × (length (title (readScript room script .place)) + length fs ≤ room .lines)
+  unfolding readScript
+  run-written script fs ls size q run =
+      let i : ℕ = length (title (readScript room script .place)) in
+      let well = read-well room (titled (split script) .rest) i fs (title-short (readScript room script .place)) q in
+      let w = written (well .fits) (run .goes) i (well .few) (start-sound room (wide .segments) (wide .scopes)) (small-start i) in
+      (subst (Written room fs ls) (run .size-is) w, well .few)
+
+module _ (room : Room) (wide : Wide room) where
   -- ---- demand 3
 
   -- an accepted script's frames, of which demand 3 holds
@@ -151,20 +153,19 @@ module _ (room : Room) (wide : Wide room) where
       go (frames fs) q x =
           let p : Place = readScript room script .place in
           let place : Placement = placing (room .segments) p in
-          let fair : Fair room place (SlotsSound (room .segments)) = placing-fair-sound room (wide .segments) p in
           let i : ℕ = length (title p) in
           let tl = tail (title p) (steps room place i start fs) ls size x in
-          let well = read-well room (titled (split script) .rest) i fs (title-short p) q in
-          let w = written room place fair wide (well .fits) i start (tl .rest) size (well .few) (start-sound room (wide .segments) (wide .scopes)) (small-start i) (tl .went) in
+          let run = accepted-goes room place {Ok = FairInOrder room} (placing-fair room p) fs i start (tl .rest) size (tl .went) in
+          let w = run-written room wide script fs (tl .rest) size q run in
           record {
             script-frames = fs;
             read = q;
             holds =
                 subst (λ (l : List Line). Holds room place fs l size) (tl .whole)
-                (under-title room p place fs (tl .rest) size (demand3 room place (SlotsSound (room .segments)) fair i fs (tl .rest) size (tl .went)));
+                (under-title room p place fs (tl .rest) size (demand3 room place (InOrder (room .segments)) (placing-fair room p) i fs (tl .rest) size (tl .went)));
             back =
                 subst (λ (l : List Line). readList room (listText l size) ≡ listed l size) (tl .whole)
-                (title-back room p (w .fits) size (omega (arith, well .few, w .lengths)) (w .within) (wide .size));
+                (title-back room p (w .0 .fits) size (omega (arith, w .1, w .0 .lengths)) (w .0 .within) (wide .size));
           }
 
   pub round-trip : RoundTrip room

@@ -1,6 +1,6 @@
 -- What holds of whatever an answer gives. A chain of refusals is gone through from the goal: one lemma for each line of a `do`.
 -- Assumes nothing.
-use mathlib.Core.Path.{_≡_, refl, sym, ap, subst}
+use mathlib.Core.Path.{_≡_, refl, ap, subst}
 use mathlib.Core.Bool.{Bool, true, false}
 use mathlib.Core.Option.{Option, none, some}
 use Prim.Native.Nat.{ℕ}
@@ -32,6 +32,15 @@ pub all-if : {B : Type 0} {P : B → Type 0} {b : Bool} {m n : Answer B} → (b 
 unfolding if_then_else_
 all-if {b = true} x y = x refl
 all-if {b = false} x y = y refl
+
+module _ {A : Type 0} {b : Bool} (x y : A) where
+  pub if-true : b ≡ true → (if b then x else y) ≡ x
+  unfolding if_then_else_
+  if-true e = ap (λ (c : Bool). if c then x else y) e
+
+  pub if-false : b ≡ false → (if b then x else y) ≡ y
+  unfolding if_then_else_
+  if-false e = ap (λ (c : Bool). if c then x else y) e
 
 pub none-some {ℓ} : {A : Type 0} {X : Type ℓ} {a : A} → none ≡ some a → X
 none-some e = absurd (let z : _≡_ {A = ℕ} 0 1 = cc in omega arith)

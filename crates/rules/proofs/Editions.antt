@@ -1,19 +1,20 @@
--- Both editions are fair placements: on slots that are in order, and so on those that are sound. Assumes nothing.
-use mathlib.Core.Path.{_≡_, refl, sym, subst, _∙_}
-use mathlib.Core.Bool.{Bool, true, false, not, true≢false}
+-- Every place is a fair placement, both editions and W-203's: on slots that are in order, and so on those that are sound. Assumes nothing.
+use mathlib.Core.Path.{_≡_, refl, sym, ap, subst, _∙_}
+use mathlib.Core.Bool.{Bool, true, false, true≢false}
 use mathlib.Core.Option.{Option, none, some}
-use Prim.Native.Nat.{ℕ, zero, suc, _+_, _*_, _-_, _/_, _%_, max, _≤_, _<_}
+use Prim.Native.Nat.{ℕ, zero, suc, _+_, _*_, _-_, _/_, _%_, _≤_, _<_}
 use native.Mathlib.Omega.{arith}
 use lib.Dec.{eqb, ltb}
 use borrow.Author.Tests.{eqb-true, eqb-false, ltb-false, not-true}
 use Rattle.rules.specs.Notation.{put, pastLast}
 use Rattle.rules.specs.Sizes.{Room}
-use Rattle.rules.specs.Slots.{Slots, Placed, Placement, freshSlots, insert, insertNew, pastGreatest, pushAt, pushes, pushRun, remove, edition1, lowestOfAll, takeAt, insertLowest, edition2, Place, byHead, lowest, placing}
+use Rattle.rules.specs.Slots.{Slots, Placed, Placement, freshSlots, insert, insertNew, pastGreatest, pushAt, pushes, pushRun, remove, edition1, lowestOfAll, takeAt, insertLowest, edition2, vacant, takeRun, exactly, Place, byHead, lowest, exactlyAt, placing}
 use Rattle.rules.specs.Sound.{soundSlots}
+use Rattle.rules.specs.Tells.{Tells}
 use Rattle.rules.specs.Demand3.{Gives, Fair}
 use Rattle.rules.proofs.Chains.{none-some}
 use Rattle.rules.proofs.Tables.{by-eqb, put-same, put-other}
-use Rattle.rules.proofs.Tells.{is-false}
+use Rattle.rules.proofs.Tells.{is-false, tells-and, tells-le, tells-below, tells-not}
 use Rattle.rules.proofs.Sound.{SlotsSound}
 use Rattle.rules.proofs.Tests.{tells-slots}
 use Rattle.rules.proofs.Removing.{remove-segments, remove-head, remove-was}
@@ -216,12 +217,60 @@ module _ (n : ℕ) where
       go true e = rw (eqb-true m 1 e) g
       go false e = run-fair m s ok
 
+  -- ---- exactly at an address
+
+  take-in-order : (a : ℕ) (s : Slots) → a < 128 * n → InOrder n s → InOrder n (takeAt a s)
+  unfolding takeAt
+  take-in-order a s l o =
+      record {
+        segments = omega (arith, o .segments);
+        head = λ pos. omega arith;
+        low = λ b r p. by-eqb a b (λ e. omega arith) (λ ne. omega (arith, o .low b r (put-true (s .occupied) a b true p ne)));
+      }
+
+  takes-in-order : (m a : ℕ) (s : Slots) → a + m ≤ 128 * n → InOrder n s → InOrder n (takeRun a m s)
+  unfolding takeRun
+  takes-in-order zero a s l o = o
+  takes-in-order (suc m) a s l o = takes-in-order m (suc a) (takeAt a s) (omega arith) (take-in-order a s (omega arith) o)
+
+  -- the same slots as m pushes from a on
+  takes-occupied : (m a : ℕ) (s t : Slots) → s .occupied ≡ t .occupied → takeRun a m s .occupied ≡ pushes a m t .occupied
+  unfolding takeRun pushes takeAt pushAt
+  takes-occupied zero a s t e = e
+  takes-occupied (suc m) a s t e = takes-occupied m (suc a) (takeAt a s) (pushAt a t) (ap (λ (f : ℕ → Bool). put f a true) e)
+
+  takes-owed : (m a : ℕ) (s : Slots) → InOrder n s → a + m ≤ 128 * n → ((i : ℕ) → i < m → s .occupied (a + i) ≡ false) → Owed m s (record { address = a; next = takeRun a m s })
+  takes-owed m a s o l clear =
+      let same : takeRun a m s .occupied ≡ pushes a m s .occupied = takes-occupied m a s s refl in (
+        takes-in-order m a s l o,
+        record {
+          clear = clear;
+          taken = λ i h. rw same (pushes-taken m a s i h);
+          kept = λ b p. rw same (pushes-kept m a s b p);
+          only = λ b p q. pushes-only m a s b (ap (λ (f : ℕ → Bool). f b) (sym same) ∙ p) q;
+        },
+        l,
+      )
+
+  pub vacant-tells : (a m : ℕ) (s : Slots) → Tells (vacant n a m s) ((a + m ≤ 128 * n) × ((i : ℕ) → i < m → s .occupied (a + i) ≡ false))
+  unfolding vacant
+  vacant-tells a m s = tells-and (tells-le (a + m) (128 * n)) (tells-below m (λ i _. tells-not (s .occupied (a + i))))
+
+  exactly-given : (a m : ℕ) (s : Slots) → InOrder n s → Given m s (exactly n a m s)
+  unfolding exactly
+  exactly-given a m s o = go (vacant n a m s) refl
+    where
+      go : (x : Bool) → vacant n a m s ≡ x → Given m s (exactly n a m s)
+      go false e = rw (e, exactly) (given-none m s)
+      go true e = let w = vacant-tells a m s .holds e in rw (e, exactly) (given-some m s _ (takes-owed m a s o (w .0) (w .1)))
+
+  -- ---- every place
+
   placing-given : (p : Place) (m : ℕ) (s : Slots) → InOrder n s → Given m s (placing n p m s)
   unfolding placing edition1 edition2
   placing-given byHead m s o = by-one m s (insert n s) o (insert-fair s o)
   placing-given lowest m s o = by-one m s (insertLowest n s) o (lowest-fair s o)
-
--- ---- both editions
+  placing-given (exactlyAt a) m s o = exactly-given a m s o
 
 pub placing-fair : (room : Room) (p : Place) → Fair room (placing (room .segments) p) (InOrder (room .segments))
 unfolding Given

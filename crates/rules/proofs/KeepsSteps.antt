@@ -39,6 +39,20 @@ with-need room t ok n l x w alone = record {
   needing = needs-put (ok .needing) n x w (t .needed) (ok .needing .few) (λ j k _. k) alone;
 }
 
+-- a handle that is not refused by 13 has been handed out
+module _ (s : State) where
+  pub known : (h : ℕ) → unknown s h ≡ false → h < s .handed
+  unfolding unknown
+  known h e = leb-false (s .handed) h e
+
+  pub unspent : (h : ℕ) → spent s h ≡ false → h < s .handed
+  unfolding spent
+  unspent h e = known h (neither (unknown s h) (isFreed (s .handles h .kind)) e .0)
+
+  pub unbarred : (h : ℕ) → barred s h ≡ false → h < s .handed
+  unfolding barred
+  unbarred h e = unspent h (neither (spent s h) _ e .0)
+
 module _ (room : Room) (s : State) (ok : StateSound room s) where
   abbrev c : Scopes
   c = s .scopes
@@ -86,25 +100,13 @@ module _ (room : Room) (s : State) (ok : StateSound room s) where
         needing = needs-alike (s .handles) (put (s .handles) h x) (s .handed) (s .handed) (le-refl _) (λ j _. put-alike (s .handles) h x (λ y. y .address) refl j) (ok .needing);
       }
 
-  known : (h : ℕ) → unknown s h ≡ false → h < s .handed
-  unfolding unknown
-  known h e = leb-false (s .handed) h e
-
-  unspent : (h : ℕ) → spent s h ≡ false → h < s .handed
-  unfolding spent
-  unspent h e = known h (neither (unknown s h) (isFreed (s .handles h .kind)) e .0)
-
-  pub unbarred : (h : ℕ) → barred s h ≡ false → h < s .handed
-  unfolding barred
-  unbarred h e = unspent h (neither (spent s h) _ e .0)
-
   free-as-kept : (k : Kind) (dangles : Bool) (h : ℕ) → h < s .handed → All (StateSound room) (freeAs k dangles h s)
   unfolding freeAs
   free-as-kept k dangles h l = all-if (λ _. back-kept dangles h l) (λ _. all-given (with-handle h (s .handles h ▹ kind≔ freed) refl refl))
 
   free-kept : (dangles : Bool) (h : ℕ) → All (StateSound room) (freeHandle dangles h s)
   unfolding freeHandle
-  free-kept dangles h = all-when 13 _ λ q. free-as-kept (s .handles h .kind) dangles h (unbarred h q)
+  free-kept dangles h = all-when 13 _ λ q. free-as-kept (s .handles h .kind) dangles h (unbarred s h q)
 
   -- ---- needs
 
@@ -230,7 +232,7 @@ module _ (room : Room) (s : State) (ok : StateSound room s) where
     keeps-step (allocIn n) = all-unless 4 λ k e. all-then λ r q. all-given (allot-kept k _ 1 (number-here room c n k e) .at r q)
     keeps-step (linear zero) = all-unless 3 λ _ _. all-given ok
     keeps-step (linear (suc n)) = all-unless 3 λ t e. all-then λ r q. all-given (allot-kept t _ (suc n) (top-here c t e (room .scopes) (ok .scopes .top)) .at r q)
-    keeps-step (define name h) = all-unless 3 λ t e. all-when 13 _ λ q. all-then λ d p. all-given (bind-kept t name h (top-here c t e (room .scopes) (ok .scopes .top)) (unspent h q) .at d p)
+    keeps-step (define name h) = all-unless 3 λ t e. all-when 13 _ λ q. all-then λ d p. all-given (bind-kept t name h (top-here c t e (room .scopes) (ok .scopes .top)) (unspent s h q) .at d p)
     keeps-step (get name) = all-then λ b _. all-given ok
     keeps-step (takeFrom name) = all-then λ r e. all-given (take-kept name .at r e)
     keeps-step (free h) = all-then λ t e. all-given (free-kept true h .at t e)
@@ -241,7 +243,7 @@ module _ (room : Room) (s : State) (ok : StateSound room s) where
     keeps-step (read h) = all-when 13 _ λ _. all-when 14 _ λ _. all-when 15 _ λ _. all-given ok
     keeps-step (readName name) = all-then λ b _. all-when 14 _ λ _. all-when 15 _ λ _. all-given ok
     keeps-step (newDefer n) = all-unless 4 λ k _. all-then λ t e. all-given (add-kept _ tt refl .at t e)
-    keeps-step (newAssigned h) = all-when 13 _ λ q. all-then λ t e. all-given (add-kept _ (known h q, refl) refl .at t e)
+    keeps-step (newAssigned h) = all-when 13 _ λ q. all-then λ t e. all-given (add-kept _ (known s h q, refl) refl .at t e)
     keeps-step newIgnore = all-then λ t e. all-given (add-kept _ tt refl .at t e)
     keeps-step (allocNeed n) = all-when 21 _ λ q. all-then λ r e. all-given (need-kept n (found s n q) (s .needs n .need) refl .at r e)
     keeps-step (outputNeed n) = all-when 21 _ λ _. all-then λ o _. all-given ok

@@ -9,7 +9,7 @@ use lib.Dec.{eqb, ltb}
 use lib.ListN.{length}
 use borrow.Author.Tests.{ne-eqb, le-leb}
 use Rattle.rules.specs.Sizes.{Room}
-use Rattle.rules.specs.Slots.{Place, byHead, lowest}
+use Rattle.rules.specs.Slots.{Place, byHead, lowest, exactlyAt}
 use Rattle.rules.specs.Frames.{Line, shows}
 use Rattle.rules.specs.Text.{digit, hex2, hex4, hexes, split, onto, Row, rowed, lineOf, opcodeOf, operandsOf, lineText, listText, lineTable, sizeTable, listed, sizeAt, listFrom, titleTable, Titled, titled, title, underTitle, readList}
 use Rattle.rules.proofs.Chains.{none-some}
@@ -106,13 +106,19 @@ titled-text : (ls : List Line) (size : ℕ) → titled (split (listText (shows 0
 unfolding listText lineText titled rowed titleTable
 titled-text ls size = rw (split-text 0xf0 (2 ∷ []) (listText ls size), line-of titleTable 0xf0 (2 ∷ []) (omega arith) (fit (omega arith) fit-nil), titled)
 
+-- a list without a title reads back
+untitled-back : (room : Room) {ls : List Line} → FitLines ls → (size : ℕ) → length ls ≤ room .lines → size ≤ room .size → room .size < 65536 → readList room (listText ls size) ≡ listed ls size
+unfolding readList
+untitled-back room f size h s m =
+    ap (λ (t : Titled). underTitle (title (t .place)) (listFrom room (length (title (t .place))) (t .rest))) (untitled f size (omega arith))
+    ∙ ap (underTitle []) (reads-back room f 0 size (omega arith) s m)
+
 -- a list under the title of its edition reads back
 pub title-back : (room : Room) (p : Place) {ls : List Line} → FitLines ls → (size : ℕ) → length (title p) + length ls ≤ room .lines → size ≤ room .size → room .size < 65536
     → readList room (listText (title p ++ ls) size) ≡ listed (title p ++ ls) size
 unfolding readList
-title-back room byHead f size h s m =
-    ap (λ (t : Titled). underTitle (title (t .place)) (listFrom room (length (title (t .place))) (t .rest))) (untitled f size (omega arith))
-    ∙ ap (underTitle []) (reads-back room f 0 size h s m)
+title-back room byHead f size h s m = untitled-back room f size (omega arith) s m
+title-back room (exactlyAt a) f size h s m = untitled-back room f size (omega arith) s m
 title-back room lowest {ls = ls} f size h s m =
     ap (λ (t : Titled). underTitle (title (t .place)) (listFrom room (length (title (t .place))) (t .rest))) (titled-text ls size)
     ∙ ap (underTitle (shows 0xf0 (2 ∷ []) ∷ [])) (reads-back room f 1 size h s m)

@@ -2,37 +2,20 @@
 use mathlib.Core.Path.{_≡_, refl, sym, ap, _∙_}
 use mathlib.Core.List.{List, [], _∷_}
 use Prim.Native.Nat.{ℕ, suc}
-use native.Mathlib.Omega.{arith}
 use lib.ListN.{length}
-use Rattle.rules.specs.Notation.{given, refused}
 use Rattle.rules.specs.Sizes.{Room}
 use Rattle.rules.specs.Slots.{Placement, Place, placing}
-use Rattle.rules.specs.Frames.{State, start, Frame, Line, Step, step, steps, accepted, onward}
+use Rattle.rules.specs.Frames.{State, start, Frame, Line, steps, accepted}
 use Rattle.rules.specs.Meaning.{deed, filled, unused, shown, unlessRefused, meaning}
-use Rattle.rules.specs.Text.{frames, title, readScript}
+use Rattle.rules.specs.Text.{title, readScript}
 use Rattle.rules.specs.Entries.{outcome, translated}
 use Rattle.rules.specs.Demand3.{scriptMeaning}
 use Rattle.rules.specs.Editions.{OneMeaning, OneMeaningBytes}
-use Rattle.rules.proofs.Demand3.{Tail, tail, next-frame}
+use Rattle.rules.proofs.Demand3.{tail, split-first}
 use Rattle.rules.proofs.Blanks.{blank}
 use Rattle.rules.proofs.Said.{names-on, deeds-on}
 
 module _ (room : Room) where
-  module _ (place : Placement) where
-    -- the first frame of an accepted script is given, and the rest is accepted
-    record First (i : ℕ) (s : State) (f : Frame) (fs : List Frame) (ls : List Line) (size : ℕ) : Type 0 where
-      result : List Line × State
-      stepped : step room place s f ≡ given result
-      behind : Tail (result .0) (steps room place (suc i) (result .1) fs) ls size
-
-    first-frame : (i : ℕ) (s : State) (f : Frame) (fs : List Frame) (ls : List Line) (size : ℕ) → steps room place i s (f ∷ fs) ≡ accepted ls size → First i s f fs ls size
-    unfolding onward
-    first-frame i s f fs ls size e = go (step room place s f) refl (sym (next-frame room place i s f fs) ∙ e)
-      where
-        go : (a : Step) → step room place s f ≡ a → onward i a (λ t. steps room place (suc i) t fs) ≡ accepted ls size → First i s f fs ls size
-        go (refused n) q x = absurd (let z : _≡_ {A = ℕ} 0 1 = cc in omega arith)
-        go (given r) q x = record { result = r; stepped = q; behind = tail (r .0) (steps room place (suc i) (r .1) fs) ls size x }
-
   module _ (p q : Placement) where
     -- from two states with the same names
     meant : (fs : List Frame) (i j : ℕ) (s t : State) (ls ms : List Line) (m n : ℕ) → blank (s .scopes) ≡ blank (t .scopes)
@@ -40,13 +23,13 @@ module _ (room : Room) where
     unfolding meaning unlessRefused
     meant [] i j s t ls ms m n same e d boxes vs = refl
     meant (f ∷ fs) i j s t ls ms m n same e d boxes vs =
-        let w = first-frame p i s f fs ls m e in
-        let v = first-frame q j t f fs ms n d in
+        let w = split-first room p i s f fs ls m e in
+        let v = split-first room q j t f fs ms n d in
         let one = deeds-on room p q s t same f (w .result) (v .result) (w .stepped) (v .stepped) in
         let names = names-on room p q s t same f (w .result) (v .result) (w .stepped) (v .stepped) in
         rw (w .stepped, v .stepped, ← one, meaning)
         (ap (shown (deed room s f) boxes)
-        (meant fs (suc i) (suc j) (w .result .1) (v .result .1) (w .behind .rest) (v .behind .rest) m n names (w .behind .went) (v .behind .went) (filled (deed room s f) vs boxes) (unused (deed room s f) vs)))
+        (meant fs (suc i) (suc j) (w .result .1) (v .result .1) (w .tail .rest) (v .tail .rest) m n names (w .tail .went) (v .tail .went) (filled (deed room s f) vs boxes) (unused (deed room s f) vs)))
 
   pub one-meaning : OneMeaning room
   unfolding OneMeaning

@@ -225,7 +225,7 @@ module _ (room : Room) (s : State) (ok : StateSound room s) (own : Owned room s)
   free-owned : (dangles : Bool) (h : ℕ) → All (Owned room) (freeHandle dangles h s)
   unfolding freeHandle
   free-owned dangles h =
-      all-when 13 _ λ q. record { at = λ t e. all-kept (free-as-carries (s .handles h .kind) dangles h (unbarred room s ok h q) .at t e) (not-own h q) }
+      all-when 13 _ λ q. record { at = λ t e. all-kept (free-as-carries (s .handles h .kind) dangles h (unbarred s h q) .at t e) (not-own h q) }
 
   -- ---- needs
 
