@@ -52,6 +52,15 @@ pub mod Bytes
 pub mod Blanks
 pub mod Said
 pub mod Meant
+pub mod Twins
+pub mod Suppliers
+pub mod Verdicts
+pub mod Lockstep
+pub mod Rests
+pub mod SlotRests
+pub mod Locks
+pub mod OnlySeven
+pub mod WhyNot
 pub mod Full
 pub mod FirstWording
 pub mod LiveBefore
@@ -64,3 +73,5 @@ pub mod Recorded
 pub mod SampleCells
 pub mod PartsTell
 pub mod SomeBytes
+pub mod ReadExact
+pub mod OneLine
