@@ -31,6 +31,12 @@ pub or-second : (a b : Bool) → b ≡ true → (a || b) ≡ true
 or-second true b q = refl
 or-second false b q = q
 
+pub tells-no : {P : Type 0} → (P → ⊥) → Tells false P
+tells-no n = record { holds = λ e. clash e refl; shows = λ h. absurd (n h) }
+
+pub tells-yes : {P : Type 0} → P → Tells true P
+tells-yes h = record { holds = λ _. h; shows = λ _. refl }
+
 pub tells-as : {r : Bool} {P Q : Type 0} → Tells r P → (P → Q) → (Q → P) → Tells r Q
 tells-as t f g = record { holds = λ e. f (t .holds e); shows = λ q. t .shows (g q) }
 
