@@ -1,4 +1,4 @@
-// One address: allocated, freed, forgotten. `alloc` and `alloc_in` are edition 1; in those with `_by` the edition is a value.
+// One address: allocated, freed, forgotten. `alloc` and `alloc_in` are edition 1; in those with `_by` the place is a value.
 // `allocated` and `forget` take no state, and are those of crate needs.
 ghost use mathlib.Core.Path.{_≡_};
 ghost use Rattle.rules.specs.Sizes.{base};
@@ -35,7 +35,7 @@ pub fn alloc(s: Scopes) -> AddressOutcome
     alloc_by(s, Place::ByHead)
 }
 
-// The same, in the edition of this place.
+// The same, by this place.
 pub fn alloc_by(s: Scopes, place: Place) -> AddressOutcome
     ensures { λ r. ⌜ AddressCall s (toldState (view s) (rule.allocAddress (placementOf place) (view s))) r ⌝ }
 {
@@ -52,7 +52,7 @@ pub fn alloc_in(s: Scopes, id: ScopeId) -> AddressOutcome
     alloc_in_by(s, id, Place::ByHead)
 }
 
-// The same, in the edition of this place.
+// The same, by this place.
 pub fn alloc_in_by(s: Scopes, id: ScopeId, place: Place) -> AddressOutcome
     ensures { λ r. ⌜ AddressCall s (toldState (view s) (rule.allocAddressIn base (placementOf place) (idOf id) (view s))) r ⌝ }
 {

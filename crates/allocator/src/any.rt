@@ -1,4 +1,4 @@
-// A need: allocated, freed; a refusal leaves it as it was. `allocate` and `allocate_output` are edition 1; in those with `_by` the edition
+// A need: allocated, freed; a refusal leaves it as it was. `allocate` and `allocate_output` are edition 1; in those with `_by` the place
 // is a value. The calls over a need alone take no state, and are those of crate needs.
 ghost use Rattle.slots.specs.Spots.{placementOf};
 ghost use Rattle.scopes.specs.View.{view};
@@ -28,7 +28,7 @@ pub fn allocate(s: Scopes, need: Need) -> SlotOutcome
     allocate_by(s, need, Place::ByHead)
 }
 
-// The same, in the edition of this place.
+// The same, by this place.
 pub fn allocate_by(s: Scopes, need: Need, place: Place) -> SlotOutcome
     ensures { λ r. ⌜ SlotCall s need (allocationBy (placementOf place) (needOf need) (view s)) r ⌝ }
 {
@@ -49,7 +49,7 @@ pub fn allocate_output(s: Scopes, need: Need) -> OutputOutcome
     allocate_output_by(s, need, Place::ByHead)
 }
 
-// The same, in the edition of this place.
+// The same, by this place.
 pub fn allocate_output_by(s: Scopes, need: Need, place: Place) -> OutputOutcome
     ensures { λ r. ⌜ OutputCall s need (outputBy (placementOf place) (needOf need) (view s)) r ⌝ }
 {

@@ -1,4 +1,4 @@
-// A run of addresses: allocated in one piece, freed last address first. `linear` is edition 1; in `linear_by` the edition is a value.
+// A run of addresses: allocated in one piece, freed last address first. `linear` is edition 1; in `linear_by` the place is a value.
 // `forget_run` takes no state, and is that of crate needs.
 ghost use mathlib.Core.Path.{_≡_};
 ghost use Rattle.rules.specs.Sizes.{base};
@@ -33,7 +33,7 @@ pub fn linear(s: Scopes, n: u16) -> RunOutcome
     linear_by(s, n, Place::ByHead)
 }
 
-// The same, in the edition of this place.
+// The same, by this place.
 pub fn linear_by(s: Scopes, n: u16, place: Place) -> RunOutcome
     ensures { λ r. ⌜ RunCall s (toldState (view s) (rule.allocAddresses (placementOf place) n (view s))) r ⌝ }
 {

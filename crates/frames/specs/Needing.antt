@@ -36,7 +36,7 @@ pub record StandsWith (s : Scopes) (handles holders : List ℕ) (handed : ℕ) (
   pub remembers-length : length (t .remembers) ≡ 64
 
 -- The frame f, of opcode o, leads from the state and the tables before it to r and the tables after it, as the rules say where slots go by
--- `place`. After a refusal nothing is said of them: the translation ends.
+-- `place`. After a refusal nothing is said of them: no step follows.
 pub record WorksWith (place : Placement) (f : rules.Frame) (o : ℕ) (s : Scopes) (handles holders : List ℕ) (handed : ℕ) (t : Needing) (r : Reached) (handles′ holders′ : List ℕ) (t′ : Needing) (drained : List ℕ) : Type 0 where
   pub does : rules.step base place (stateWith (view s) handles holders handed t) f
       ≡ stepped o (r .adds) (stateWith (view (r .state)) handles′ holders′ (r .handed) t′) drained

@@ -120,7 +120,7 @@ unfoldable pub nowhere : Placement
 nowhere n slots = none
 
 -- The frame f, of opcode o, leads from the state and the tables before it to r and the tables after it, as the rules say where slots go by
--- `place`. After a refusal nothing is said of them: the translation ends.
+-- `place`. After a refusal nothing is said of them: no step follows.
 pub record Works (place : Placement) (f : rules.Frame) (o : ℕ) (s : Scopes) (handles holders : List ℕ) (handed : ℕ) (r : Reached) (handles′ holders′ drained : List ℕ) : Type 0 where
   pub does : rules.step base place (stateOf (view s) handles holders handed) f
       ≡ stepped o (r .adds) (stateOf (view (r .state)) handles′ holders′ (r .handed)) drained

@@ -9,9 +9,10 @@ use lib.Dec.{eqb, leb}
 use lib.ListN.{length, take}
 use borrow.Author.Tests.{eqb-true}
 use Rattle.rules.specs.Sizes.{Room}
-use Rattle.rules.specs.Slots.{Place, byHead, lowest}
+use Rattle.rules.specs.Slots.{Place, byHead, lowest, exactlyAt}
 use Rattle.rules.specs.Frames.{constant, nextSample, Line, stores, loads, shows}
 use Rattle.rules.specs.Text.{Split, split, lineOf, lineTable, sizeTable, Titled, titled, title, Listed, listed, unlisted, lineBefore, sizeOr, listFrom, underTitle, readList}
+use Rattle.rules.proofs.ReadExact.{not-listed}
 use Rattle.text.specs.Shapes.{pick}
 use Rattle.text.specs.Lines.{lineReading, lined, sizedOr}
 use Rattle.text.specs.Table.{readings}
@@ -57,9 +58,6 @@ pub data Pairs : List Entry → List Line → Type 0 where
   last : {e : Entry} → e ≡ Skip → Pairs (e ∷ []) []
   step : {e : Entry} {l : Line} {es : List Entry} {ls : List Line} → e ≡ ofLine l → Pairs es ls → Pairs (e ∷ es) (l ∷ ls)
 
-not-listed : {P : Type 0} {m j n : ℕ} {ls : List Line} → unlisted m j ≡ listed ls n → P
-not-listed e = absurd (let z : _≡_ {A = ℕ} 0 1 = cc in omega arith)
-
 pair-last : (i k n : ℕ) (ls : List Line) (b : Bool) → elim b [ true ↦ listed [] k | false ↦ unlisted 1 i ] ≡ listed ls n → Pairs (Skip ∷ []) ls
 pair-last i k n ls true h = let a : [] ≡ ls = cc in subst (λ (x : List Line). Pairs (Skip ∷ []) x) a (last refl)
 pair-last i k n ls false h = not-listed h
@@ -100,6 +98,7 @@ module _ (room : Room) where
       → Pairs (map entryOf (map (λ l. lined (some l)) (title p)) ++ es) ls
   pairs-title p (unlisted m j) es n ls h e = not-listed e
   pairs-title byHead (listed m k) es n ls h e = let q : m ≡ ls = cc in subst (λ (x : List Line). Pairs es x) q (h k m refl)
+  pairs-title (exactlyAt a) (listed m k) es n ls h e = let q : m ≡ ls = cc in subst (λ (x : List Line). Pairs es x) q (h k m refl)
   pairs-title lowest (listed m k) es n ls h e =
       let q : shows 0xf0 (2 ∷ []) ∷ m ≡ ls = cc in subst (λ (x : List Line). Pairs (Skip ∷ es) x) q (step refl (h k m refl))
 

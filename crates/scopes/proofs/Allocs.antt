@@ -1,4 +1,4 @@
--- Slots for a scope, by either placement: alloc, alloc in s, and runs. Assumes nothing.
+-- Slots for a scope, by any placement: alloc, alloc in s, and runs. Assumes nothing.
 use mathlib.Core.Path.{_≡_, refl, sym, ap, _∙_}
 use mathlib.Core.Logic.{_≢_, by-cases}
 use mathlib.Core.Bool.{Bool, true, false}

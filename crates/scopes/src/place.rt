@@ -76,7 +76,7 @@ pub fn alloc_in(s: Scopes, id: ScopeId, place: Place) -> Outcome
     with_slots(s, halves, links, owner, o)
 }
 
-// linear: 0 gives an empty run; the placement tells 1 from more.
+// linear: 0 gives an empty run; whether 1 is another case than more is the placement's.
 pub fn alloc_run(s: Scopes, many: u16, place: Place) -> Outcome
     requires { ⌜ Sound s ⌝ }
     ensures { λ r. ⌜ (seen r ≡ told atFirst (view s) (rule.allocRun (placementOf place) many (view s))) × Sound (r .state) ⌝ }

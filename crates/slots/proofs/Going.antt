@@ -11,11 +11,13 @@ use borrow.Author.Tests.{ne-eqb, lt-ltb, le-ltb}
 use Rattle.rules.specs.Notation.{given, put, first, pastLast}
 use Rattle.rules.specs.Sizes.{base}
 use Rattle.rules.specs.Sound.{soundSlots}
-use Rattle.rules.specs.Slots.{Slots, placed, Placement, pastGreatest, pushAt, pushes, pushRun, edition1, lowestOfAll, takeAt, insertLowest, edition2, Place, byHead, lowest, placing}
+use Rattle.rules.specs.Slots.{Slots, placed, Placement, pastGreatest, pushAt, pushes, pushRun, edition1, lowestOfAll, takeAt, insertLowest, edition2, vacant, takeRun, exactly, Place, byHead, lowest, placing}
+use Rattle.rules.specs.Tells.{Tells}
 use Rattle.rules.specs.Demand3.{Gives}
 use Rattle.rules.proofs.Searches.{first-found}
+use Rattle.rules.proofs.Tells.{is-false, clash}
 use Rattle.rules.proofs.Tests.{tells-slots}
-use Rattle.rules.proofs.Editions.{InOrder, sound-in-order, placing-fair}
+use Rattle.rules.proofs.Editions.{InOrder, sound-in-order, vacant-tells, placing-fair}
 use Rattle.slots.specs.Halves.{firstClear, grownTo}
 use Rattle.slots.specs.Spots.{Vacant, filled, takenAt, pushedFrom, after, GoesFrom, Goes}
 use Rattle.slots.specs.Promises.{refusing, placedOr7}
@@ -116,6 +118,45 @@ module _ (s : Slots) (n : ℕ) (r : Spot) where
       one : (o : Option ℕ) → first (λ a. not (s .occupied a)) 0 1024 ≡ o → Goes (placing 8 lowest) 1 s (takenAt (s .segments) (firstClear (s .occupied) 0 1024))
       one none e = rw e (goes-none (rw (e, insertLowest, lowestOfAll)) refl)
       one (some a) e = rw e (goes-some (rw (e, insertLowest, lowestOfAll) (ap (placed a) (one-after s a))) (first-found (λ a. not (s .occupied a)) 0 1024 a e .high))
+
+-- ---- exactly at an address
+
+-- what `taken` says of the last of n slots from a on, with the first one's address
+abbrev pub takenFrom : ℕ → ℕ → ℕ → Spot
+takenFrom l a n = record { address = a; segments = max l ((a + n - 1) / 128 + 1); head = (a + n - 1) / 128 }
+
+takes-after : (n a : ℕ) (s : Slots) → takeRun a (suc n) s ≡ after s (suc n) (takenFrom (s .segments) a (suc n))
+unfolding takeRun takeAt filled
+takes-after zero a s =
+    let e : a ≡ a + 1 - 1 = omega arith in
+    λ u. record { occupied = put (s .occupied) a true; segments = max (s .segments) (e u / 128 + 1); head = e u / 128 }
+takes-after (suc n) a s =
+    let l : max (max (s .segments) (a / 128 + 1)) ((suc a + suc n - 1) / 128 + 1) ≡ max (s .segments) ((a + suc (suc n) - 1) / 128 + 1) = omega arith in
+    let h : (suc a + suc n - 1) / 128 ≡ (a + suc (suc n) - 1) / 128 = omega arith in
+    takes-after n (suc a) (takeAt a s) ∙ (λ u. record { occupied = filled (suc a) (suc n) (put (s .occupied) a true); segments = l u; head = h u })
+
+-- one slot more is clear
+pub clear-on : (f : ℕ → Bool) (a i : ℕ) → ((j : ℕ) → j < i → f (a + j) ≡ false) → f (a + i) ≡ false → (j : ℕ) → j < i + 1 → f (a + j) ≡ false
+clear-on f a i all here j l = by-cases (decLt j i) (all j) (λ n. let e : i ≡ j = omega arith in subst (λ (x : ℕ). f (a + x) ≡ false) e here)
+
+module _ (s : Slots) (n a : ℕ) where
+  tells-vacant : Tells (vacant 8 a n s) (Vacant (s .occupied) a n)
+  tells-vacant = vacant-tells 8 a n s
+
+  pub at-none : (b : Bool) → Tells b (Vacant (s .occupied) a n) → b ≡ false → exactly 8 a n s ≡ none
+  unfolding exactly
+  at-none b t e = rw (is-false (vacant 8 a n s) (λ y. clash (t .shows (tells-vacant .holds y)) e), exactly)
+
+  at-some : Vacant (s .occupied) a n → 0 < n → exactly 8 a n s ≡ placed a (after s n (takenFrom (s .segments) a n))
+  unfolding exactly
+  at-some v pos = rw (tells-vacant .shows v, exactly) (ap (placed a) (go n pos))
+    where
+      go : (m : ℕ) → 0 < m → takeRun a m s ≡ after s m (takenFrom (s .segments) a m)
+      go zero z = absurd (omega arith)
+      go (suc m) z = takes-after m a s
+
+  pub at-there : (r : Spot) → Vacant (s .occupied) a n → 0 < n → r ≡ takenFrom (s .segments) a n → Goes (exactly 8 a) n s r
+  at-there r v pos q = subst (Goes (exactly 8 a) n s) (sym q) (goes-some (at-some v pos) (omega (arith, v .0)))
 
 -- ---- what `from_on` returns
 

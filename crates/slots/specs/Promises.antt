@@ -91,11 +91,11 @@ abbrev pub InsertLowestPromise : Slots → Placing → Type 0
 InsertLowestPromise s r =
     Promised (seenPlacing r) (checked (base .segments) (view s) (placedOr7 (view s) (rule.insertLowest (base .segments) (view s)))) (r .state .halves)
 
--- one slot, where the edition puts it
+-- one slot, where the place puts it
 abbrev pub insertedBy : Place → rule.Slots → Option rule.Placed
 insertedBy place = placementOf place 1
 
--- both at once: insert in the edition of this place
+-- every place at once: one slot, by this place
 abbrev pub InsertByPromise : Place → Slots → Placing → Type 0
 InsertByPromise place s r = Promised (seenPlacing r) (checked (base .segments) (view s) (placedOr7 (view s) (insertedBy place (view s)))) (r .state .halves)
 

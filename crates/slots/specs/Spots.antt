@@ -16,8 +16,9 @@ use Rattle.slots.specs.declared.Spot.{Spot}
 abbrev pub placeOf : Place → rule.Place
 placeOf place.ByHead = rule.byHead
 placeOf place.Lowest = rule.lowest
+placeOf (place.ExactlyAt a) = rule.exactlyAt (a .0)
 
--- where the edition of this place puts the slots of an allocation
+-- where this place puts the slots of an allocation
 abbrev pub placementOf : Place → rule.Placement
 placementOf p = rule.placing (base .segments) (placeOf p)
 

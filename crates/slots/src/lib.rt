@@ -22,10 +22,11 @@ pub struct Slots {
     pub head: usize,
 }
 
-// Where an allocation goes: by the head (edition 1), or to the lowest clear slot of all (edition 2).
+// Where an allocation goes: by the head (edition 1), to the lowest clear slot of all (edition 2), or exactly at an address that a list shows.
 pub enum Place {
     ByHead,
     Lowest,
+    ExactlyAt(SlotAddress),
 }
 
 // The first slot of an allocation, 1,024 where there is none; and L and H once its slots are occupied.

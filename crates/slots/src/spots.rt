@@ -1,11 +1,13 @@
-// Where the slots of an allocation go, by either placement. Nothing changes here.
+// Where the slots of an allocation go, by any placement. Nothing changes here.
 ghost use mathlib.Core.Path.{_≡_};
 ghost use mathlib.Core.Bool.{true};
 ghost use Prim.Native.Nat.{_≤_, _<_};
 ghost use Rattle.rules.specs.Sizes.{base};
+ghost use Rattle.rules.specs.Slots.{exactly};
 ghost use Rattle.rules.specs.Sound.{soundSlots};
-ghost use Rattle.slots.specs.Halves.{slotsOf};
-ghost use Rattle.slots.specs.Spots.{placementOf, takenAt, pushedFrom, GoesFrom, Goes};
+ghost use Rattle.rules.specs.Tells.{Tells};
+ghost use Rattle.slots.specs.Halves.{occ, slotsOf};
+ghost use Rattle.slots.specs.Spots.{placementOf, Vacant, takenAt, pushedFrom, GoesFrom, Goes};
 use crate::Place;
 use crate::Spot;
 use crate::halves as bits;
@@ -61,7 +63,46 @@ fn from_on(halves: &[u64; 16], segments: usize, head: usize, from: usize, many: 
     pushed(segments, head, g, many)
 }
 
-// Where `many` slots go. Both editions walk the same halves, from another segment on: edition 1 from min(H, L), edition 2 from 0.
+// The slots from a on, `many` of them, are below the room and clear.
+fn vacant(halves: &[u64; 16], a: usize, many: usize) -> bool
+    requires { ⌜ (a < 65536) × (many < 65536) ⌝ }
+    ensures { λ r. ⌜ Tells r (Vacant (occ (now (halves .entry))) a many) ⌝ }
+{
+    if 1024 < a + many {
+        return false;
+    }
+    let mut i: usize = 0;
+    while i < many {
+        if bits::occupied(halves, a + i) {
+            return false;
+        }
+        i += 1;
+    }
+    true
+}
+
+// The slots from a on, or none where one of them is occupied or beyond the room. L and H are as after the last one.
+fn exactly_at(halves: &[u64; 16], segments: usize, head: usize, a: usize, many: usize) -> Spot
+    requires { ⌜ (a < 65536) × (0 < many) × (many < 65536) ⌝ }
+    ensures { λ r. ⌜ Goes (exactly (base .segments) a) many (slotsOf (now (halves .entry)) segments head) r ⌝ }
+{
+    if vacant(halves, a, many) {
+        let last = taken(segments, a + many - 1);
+        return Spot {
+            address: a,
+            segments: last.segments,
+            head: last.head,
+        };
+    }
+    Spot {
+        address: 1024,
+        segments: segments,
+        head: head,
+    }
+}
+
+// Where `many` slots go. Both editions walk the same halves, from another segment on: edition 1 from min(H, L), edition 2 from 0;
+// where an address is given, the slots from there on are looked at, and no others.
 pub fn choose(halves: &[u64; 16], segments: usize, head: usize, place: Place, many: usize) -> Spot
     requires { ⌜ (soundSlots (base .segments) (slotsOf (now halves) segments head) ≡ true) × (0 < many) × (many < 65536) ⌝ }
     ensures { λ r. ⌜ Goes (placementOf place) many (slotsOf (now (halves .entry)) segments head) r ⌝ }
@@ -69,5 +110,6 @@ pub fn choose(halves: &[u64; 16], segments: usize, head: usize, place: Place, ma
     match place {
         Place::ByHead => from_on(halves, segments, head, bits::least(head, segments), many),
         Place::Lowest => from_on(halves, segments, head, 0, many),
+        Place::ExactlyAt(a) => exactly_at(halves, segments, head, a.0 as usize, many),
     }
 }

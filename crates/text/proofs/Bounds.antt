@@ -10,7 +10,7 @@ use lib.Dec.{eqb, leb}
 use lib.ListN.{length, length-append}
 use borrow.Author.Tests.{eqb-false, leb-true}
 use Rattle.rules.specs.Sizes.{Room}
-use Rattle.rules.specs.Slots.{Place, byHead, lowest}
+use Rattle.rules.specs.Slots.{Place, byHead, lowest, exactlyAt}
 use Rattle.rules.specs.Frames as rules
 use Rattle.rules.specs.Frames.{Line}
 use Rattle.rules.specs.Text.{Split, split, lineOf, frameTable, lineTable, sizeTable, Script, frames, unread, frameBefore, scriptFrom, titled, title, readScript, Listed, listed, unlisted, lineBefore, sizeOr, listFrom, underTitle, readList}
@@ -81,6 +81,7 @@ not-read e = absurd (let z : _≡_ {A = ℕ} 0 1 = cc in omega arith)
 titles-few : (p : Place) → length (title p) ≤ 1
 titles-few byHead = omega arith
 titles-few lowest = omega arith
+titles-few (exactlyAt a) = omega arith
 
 under-in : (room : Room) (above : List Line) (r : Listed) → ListIn room (length above) r → ListIn room 0 (underTitle above r)
 under-in room above (listed ls n) h = (omega (arith, h .0, length-append above ls), h .1)

@@ -119,7 +119,7 @@ pub fn alloc_in<'a>(
     alloc_at(halves, links, owner, n, i, 1, place)
 }
 
-// linear: 0 gives an empty run; the placement tells 1 from more. 3, 7.
+// linear: 0 gives an empty run; whether 1 is another case than more is the placement's. 3, 7.
 pub fn alloc_run(
     halves: &mut [u64; 16],
     links: &mut [u16; 2178],

@@ -1,4 +1,4 @@
--- Where slots go, by either placement. Assumes nothing.
+-- Where slots go, by any placement. Assumes nothing.
 use mathlib.Core.Path.{sym, subst}
 use native.Mathlib.Omega.{arith}
 use Rattle.rules.specs.Sizes.{base}
@@ -15,6 +15,7 @@ use Rattle.slots.proofs.spots.choose.Tie as tie
 use Rattle.slots.proofs.spots.choose.Reads as reads
 use Rattle.slots.proofs.spots.choose.Lts as lts
 use Rattle.slots.proofs.halves.least.Reads as least-reads
+use Rattle.slots.proofs.spots.exactly_at.Reads as exactly-at-reads
 use Rattle.slots.proofs.spots.from_on.Reads as from-on-reads
 
 abbrev slots : tie.Start → rule.Slots
@@ -41,6 +42,15 @@ enum-told-2 c = search needs
 from-on-requires-2 : tie.Need-from-on-requires-2
 from-on-requires-2 c κs = search needs
 
+enum-known-place : tie.Need-enum-known-place
+enum-known-place c = search needs
+
+cast-exactly-at : tie.Need-cast-exactly-at
+cast-exactly-at c = search needs
+
+exactly-at-requires : tie.Need-exactly-at-requires
+exactly-at-requires c κs = search needs
+
 returns : tie.Need-returns
 unfolding base
 returns c = let l = c .before in let w = l .before .before .before in subst (there w (c .from-on .result)) (sym (l .before .enum-told .given .1)) (goes-by-head (slots w) _ _ (w .pre .0) _ (l .least .ensures) (c .from-on .ensures))
@@ -48,6 +58,10 @@ returns c = let l = c .before in let w = l .before .before .before in subst (the
 returns-2 : tie.Need-returns-2
 unfolding base
 returns-2 c = let w = c .before .before .before in subst (there w (c .from-on2 .result)) (sym (c .before .enum-told2 .given .1)) (goes-lowest (slots w) _ _ (c .from-on2 .ensures))
+
+returns-3 : tie.Need-returns-3
+unfolding base rule.placing
+returns-3 c = let p = c .before .before .before in let w = p .before .before in subst (there w (c .exactly-at .result)) (sym (p .place .given .1)) (c .exactly-at .ensures)
 
 pub choose-spec : {M : Type 1} → statement M
 choose-spec =
@@ -58,5 +72,9 @@ choose-spec =
     from-on-requires
     enum-told-2
     from-on-requires-2
+    enum-known-place
+    cast-exactly-at
+    exactly-at-requires
     returns
-    returns-2)
+    returns-2
+    returns-3)

@@ -1,4 +1,4 @@
--- Slots for scope k, by either placement. Assumes nothing.
+-- Slots for scope k, by any placement. Assumes nothing.
 use mathlib.Core.Path.{sym}
 use Prim.Native.Nat.{_+_, _≤_, _<_}
 use native.Mathlib.Omega.{arith}

@@ -1,4 +1,4 @@
--- A run of slots for the top, by either placement. Assumes nothing.
+-- A run of slots for the top, by any placement. Assumes nothing.
 use mathlib.Core.Path.{_∙_}
 use borrow.Author.Needs.{needs}
 use native.Mathlib.Omega.{arith}
