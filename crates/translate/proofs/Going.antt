@@ -24,7 +24,6 @@ use Rattle.rules.proofs.Reached.{start-sound}
 use Rattle.rules.proofs.Small.{Small, small-start, small-step}
 use Rattle.rules.proofs.Fits.{base-wide}
 use Rattle.rules.proofs.Editions.{placing-fair-sound}
-use Rattle.rules.proofs.Demand3.{next-frame, no-frame}
 use Rattle.rules.proofs.Lengths.{line-length}
 use Rattle.rules.proofs.Pages.{owing, pays, linesLength}
 use Rattle.scopes.specs.View.{view}
@@ -47,10 +46,11 @@ use Rattle.handles.specs.NeedTable.{rememberedAt, Needing, table, stateWith}
 use Rattle.frames.specs.Steps.{stepped, Few, Reached}
 use Rattle.frames.specs.Needing.{StandsWith, WorksWith}
 use Rattle.frames.proofs.Beside.{stands-sound, sound-stands}
-use Rattle.translate.specs.Whole.{frameIn, linesOf, linesText, onwardOf, Read, Begun, Ends, listed, refused as told}
+use Rattle.translate.specs.Whole.{frameIn, linesOf, linesText, onwardOf, stepsAt, framesOf, Read, Begun, walked, Ends, listed, refused as told}
 use Rattle.frames.specs.declared.steps.Adds.{Adds}
 use Rattle.frames.specs.declared.steps.Adds.the-variants.{Nothing, One, Store, Load, Drained, Refused}
 use Rattle.translate.specs.declared.whole.Onward.the-variants.{Go, Stop}
+use Rattle.translate.specs.declared.whole.Ended.{Ended}
 use Rattle.translate.specs.declared.whole.Ended.the-variants as ended
 use Rattle.translate.proofs.Written.{lines-length, lines-on, list-on, Put}
 use Rattle.translate.proofs.Titled.{titles-length}
@@ -113,7 +113,8 @@ by pl = placing (base .segments) pl
 pub fair : (pl : Place) → Fair base (by pl) (SlotsSound (base .segments))
 fair pl = placing-fair-sound base (base-wide .segments) pl
 
-pub record Going (pl : Place) (script page₀ : List ℕ) (s : Scopes) (handles holders drained : List ℕ) (handed : ℕ) (nd : Needing) (p i w : ℕ) (page : List ℕ) : Type 0 where
+-- `pl` says where each line's slots go, `o` is what the whole script comes to
+pub record Going (pl : ℕ → Place) (o : Outcome) (script page₀ : List ℕ) (s : Scopes) (handles holders drained : List ℕ) (handed : ℕ) (nd : Needing) (p i w : ℕ) (page : List ℕ) : Type 0 where
   pub within : p ≤ length script
   pub stands : StandsWith s handles holders handed nd
   pub small : Small i (stateWith (view s) handles holders handed nd)
@@ -121,7 +122,7 @@ pub record Going (pl : Place) (script page₀ : List ℕ) (s : Scopes) (handles 
   pub reads : scriptFrom base i (split (drop p script)) ≡ frames left
   pub early : i + length left ≤ 2048
   pub done : List Line
-  pub comes : translated base script ≡ before done (steps base (by pl) i (stateWith (view s) handles holders handed nd) left)
+  pub comes : o ≡ before done (stepsAt pl i (stateWith (view s) handles holders handed nd) left)
   pub at : w ≡ length (linesText done)
   pub written : page ≡ over page₀ 0 (linesText done)
   pub owed : w + 4 * owing base (view s) ≤ 11 * i + 4 * handed
@@ -158,14 +159,8 @@ read-from script n t =
     ap (λ (x : Titled). scriptFrom base (length (title (x .place))) (x .rest)) (t .is)
     ∙ ap (λ (i : ℕ). scriptFrom base i (split (drop (7 * n) script))) (titles-length n (t .most))
 
-read-whole : (script : List ℕ) (fs : List Frame) (n : ℕ) → Titles script n → readScript base script .script ≡ frames fs
-    → translated base script ≡ before (title (placeBy n)) (steps base (by (placeBy n)) n start fs)
-unfolding translated outcome readScript
-read-whole script fs n t e =
-    let q : readScript base script .place ≡ placeBy n = ap (λ (x : Titled). x .place) (t .is) in
-    ap (outcome base (readScript base script .place)) e
-    ∙ (λ u. before (title (q u)) (steps base (by (q u)) (length (title (q u))) start fs))
-    ∙ ap (λ (i : ℕ). before (title (placeBy n)) (steps base (by (placeBy n)) i start fs)) (titles-length n (t .most))
+framed-read : (script : List ℕ) (fs : List Frame) → readScript base script .script ≡ frames fs → framesOf (readScript base script .script) ≡ fs
+framed-read script fs e = ap framesOf e
 
 few-frames : (n : ℕ) (fs : List Frame) (r : Script) → ScriptIn base n r → r ≡ frames fs → n + length fs ≤ 2048
 unfolding base
@@ -182,8 +177,12 @@ title-bytes zero l = let e : length (linesText []) ≡ 0 = refl in omega (arith,
 title-bytes (suc zero) l = omega (arith, lines-length (shows 0xf0 (2 ∷ []) ∷ []), line-length (shows 0xf0 (2 ∷ [])))
 title-bytes (suc (suc n)) l = absurd (omega arith)
 
-module _ (script page : List ℕ) (n : ℕ) (pl : Place) (w : ℕ) (b : Begun script page n pl w) where
-  going-start : (s : Scopes) → Read script → view s ≡ rule.freshScopes → Whole s → Going (placeBy n) script page s (replicate 2048 0) (replicate 1024 0) (replicate 1024 0) 0 none-yet (7 * n) n w page
+module _ (pl : ℕ → Place) (script page : List ℕ) (n w : ℕ) (b : Begun script page n w) where
+  abbrev whole : Outcome
+  whole = walked pl n script
+
+  going-start : (s : Scopes) → Read script → view s ≡ rule.freshScopes → Whole s → Going pl whole script page s (replicate 2048 0) (replicate 1024 0) (replicate 1024 0) 0 none-yet (7 * n) n w page
+  unfolding walked
   going-start s r v h =
       let e = starts (view s) 2048 1024 v in
       let o : owing base (view s) ≡ 0 = ap (λ (t : State). owing base (t .scopes)) e ∙ owes-none in
@@ -199,7 +198,7 @@ module _ (script page : List ℕ) (n : ℕ) (pl : Place) (w : ℕ) (b : Begun sc
         reads = f;
         early = few-frames n (r .all) (scriptFrom base n (split (drop (7 * n) script))) (script-in base (split (drop (7 * n) script)) n (in-room n (t .most))) f;
         done = title (placeBy n);
-        comes = read-whole script (r .all) n t (r .reads) ∙ ap (λ (x : State). before (title (placeBy n)) (steps base (by (placeBy n)) n x (r .all))) (sym e);
+        comes = ap (λ (x : List Frame). before (title (placeBy n)) (stepsAt pl n start x)) (framed-read script (r .all) (r .reads)) ∙ ap (λ (x : State). before (title (placeBy n)) (stepsAt pl n x (r .all))) (sym e);
         at = b .at;
         written = b .written;
         owed = omega (arith, o, b .at, title-bytes n (t .most));
@@ -207,18 +206,34 @@ module _ (script page : List ℕ) (n : ℕ) (pl : Place) (w : ℕ) (b : Begun sc
         page-length = refl;
       }
 
-  -- the same state, made of its parts; the place as the code has it
+  -- the same state, made of its parts
   pub going-fresh : (s : Scopes) → Read script → view s ≡ rule.freshScopes → Whole s → (m : Numbers) → m ≡ numbersOf s
-      → Going pl script page (made (s .halves) (s .links) (s .owner) (s .live) (s .dangled) (s .parent) (s .number) (s .bindings) m) (replicate 2048 0) (replicate 1024 0) (replicate 1024 0) 0 none-yet (7 * n) n w page
+      → Going pl whole script page (made (s .halves) (s .links) (s .owner) (s .live) (s .dangled) (s .parent) (s .number) (s .bindings) m) (replicate 2048 0) (replicate 1024 0) (replicate 1024 0) 0 none-yet (7 * n) n w page
   going-fresh s r v h m e =
-      subst (λ (x : Place). Going x script page (made (s .halves) (s .links) (s .owner) (s .live) (s .dangled) (s .parent) (s .number) (s .bindings) m) (replicate 2048 0) (replicate 1024 0) (replicate 1024 0) 0 none-yet (7 * n) n w page) (sym (b .place))
-      (subst (λ (x : Numbers). Going (placeBy n) script page (made (s .halves) (s .links) (s .owner) (s .live) (s .dangled) (s .parent) (s .number) (s .bindings) x) (replicate 2048 0) (replicate 1024 0) (replicate 1024 0) 0 none-yet (7 * n) n w page)
-      (sym e) (going-start s r v h))
+      subst (λ (x : Numbers). Going pl whole script page (made (s .halves) (s .links) (s .owner) (s .live) (s .dangled) (s .parent) (s .number) (s .bindings) x) (replicate 2048 0) (replicate 1024 0) (replicate 1024 0) 0 none-yet (7 * n) n w page)
+      (sym e) (going-start s r v h)
+
+-- ---- frame by frame
+
+module _ (pl : ℕ → Place) (i : ℕ) (s : State) where
+  next-at : (f : Frame) (fs : List Frame) → stepsAt pl i s (f ∷ fs) ≡ onward i (step base (by (pl i)) s f) (λ t. stepsAt pl (suc i) t fs)
+  unfolding stepsAt
+  next-at f fs = refl
+
+  none-at : stepsAt pl i s [] ≡ accepted [] (s .scopes .size)
+  unfolding stepsAt
+  none-at = refl
+
+-- by one place everywhere it is as the rules' `steps`
+pub steps-everywhere : (p : Place) (fs : List Frame) (i : ℕ) (s : State) → stepsAt (λ _. p) i s fs ≡ steps base (by p) i s fs
+unfolding stepsAt steps
+steps-everywhere p [] i s = refl
+steps-everywhere p (f ∷ fs) i s = ap (onward i (step base (by p) s f)) (fun-ext (λ t. steps-everywhere p fs (suc i) t))
 
 -- ---- one frame
 
-module _ (pl : Place) (script page₀ : List ℕ) (s : Scopes) (handles holders drained : List ℕ) (handed : ℕ) (nd : Needing) (p i w : ℕ) (page : List ℕ)
-    (g : Going pl script page₀ s handles holders drained handed nd p i w page) where
+module _ (pl : ℕ → Place) (o : Outcome) (script page₀ : List ℕ) (s : Scopes) (handles holders drained : List ℕ) (handed : ℕ) (nd : Needing) (p i w : ℕ) (page : List ℕ)
+    (g : Going pl o script page₀ s handles holders drained handed nd p i w page) where
   abbrev here : State
   here = stateWith (view s) handles holders handed nd
 
@@ -227,47 +242,47 @@ module _ (pl : Place) (script page₀ : List ℕ) (s : Scopes) (handles holders 
 
   module _ (t : Taken) (k : Took frameReading script p t) (f : code.Frame) (ef : f ≡ frameIn (t .reading))
       (r : Reached) (handles′ holders′ drained′ : List ℕ) (nd′ : Needing)
-      (works : (x : Frame) → frameOf f ≡ some x → WorksWith (by pl) x (f .opcode) s handles holders handed nd r handles′ holders′ nd′ drained′) where
+      (at : Place) (same : at ≡ pl i) (works : (x : Frame) → frameOf f ≡ some x → WorksWith (by at) x (f .opcode) s handles holders handed nd r handles′ holders′ nd′ drained′) where
     taken : Taking base i (frameReading (k .line)) (split (drop (t .next) script)) (g .left)
     taken = taking base i (k .line) (split (drop (t .next) script)) (g .left) (sym (ap (scriptFrom base i) (k .here)) ∙ g .reads)
 
     is-frame : frameOf f ≡ some (taken .frame)
     is-frame = ap frameOf ef ∙ ap (λ (x : Reading). frameOf (frameIn x)) (k .as-read ∙ taken .as-read) ∙ frame-code (taken .frame)
 
-    work : WorksWith (by pl) (taken .frame) (f .opcode) s handles holders handed nd r handles′ holders′ nd′ drained′
-    work = works (taken .frame) is-frame
+    work : WorksWith (by (pl i)) (taken .frame) (f .opcode) s handles holders handed nd r handles′ holders′ nd′ drained′
+    work = subst (λ (x : Place). WorksWith (by x) (taken .frame) (f .opcode) s handles holders handed nd r handles′ holders′ nd′ drained′) same (works (taken .frame) is-frame)
 
     abbrev there : State
     there = stateWith (view (r .state)) handles′ holders′ (r .handed) nd′
 
-    comes-on : translated base script ≡ before (g .done) (onward i (step base (by pl) here (taken .frame)) (λ x. steps base (by pl) (suc i) x (taken .more)))
-    comes-on = g .comes ∙ ap (before (g .done)) (ap (steps base (by pl) i here) (taken .is) ∙ next-frame base (by pl) i here (taken .frame) (taken .more))
+    comes-on : o ≡ before (g .done) (onward i (step base (by (pl i)) here (taken .frame)) (λ x. stepsAt pl (suc i) x (taken .more)))
+    comes-on = g .comes ∙ ap (before (g .done)) (ap (stepsAt pl i here) (taken .is) ∙ next-at pl i here (taken .frame) (taken .more))
 
-    pub going-stop : (n : ℕ) → onwardOf (r .adds) ≡ Stop n → Ends (translated base script) (ended.Refused n i) page
+    pub going-stop : (n : ℕ) → onwardOf (r .adds) ≡ Stop n → Ends (o) (ended.Refused n i) page
     unfolding onward
     going-stop n e =
-        let q : step base (by pl) here (taken .frame) ≡ refused n = work .does ∙ stops-by (f .opcode) (r .adds) there drained′ n e in
-        let o : translated base script ≡ refusedAt n i = comes-on ∙ ap (λ (x : Step). before (g .done) (onward i x (λ y. steps base (by pl) (suc i) y (taken .more)))) q in
+        let q : step base (by (pl i)) here (taken .frame) ≡ refused n = work .does ∙ stops-by (f .opcode) (r .adds) there drained′ n e in
+        let o : o ≡ refusedAt n i = comes-on ∙ ap (λ (x : Step). before (g .done) (onward i x (λ y. stepsAt pl (suc i) y (taken .more)))) q in
         subst (λ (x : Outcome). Ends x (ended.Refused n i) page) (sym o) (told (omega (arith, g .early)))
 
     module _ (dl : length drained′ ≡ 1024) (e : onwardOf (r .adds) ≡ Go) where
       abbrev lines : List Line
       lines = linesOf (f .opcode) (r .adds) drained′
 
-      gives : step base (by pl) here (taken .frame) ≡ given (lines, there)
+      gives : step base (by (pl i)) here (taken .frame) ≡ given (lines, there)
       gives = work .does ∙ goes-on (f .opcode) (r .adds) there drained′ e
 
       pub going-few : Few (r .adds)
       going-few = work .few
 
       sound : StateSound base there
-      sound = keeps-step base here here-sound (base-wide .slots) (by pl) (fair pl) (taken .frame) .at (lines, there) gives
+      sound = keeps-step base here here-sound (base-wide .slots) (by (pl i)) (fair (pl i)) (taken .frame) .at (lines, there) gives
 
       enough : suc i + length (taken .more) ≤ 2048
       enough = omega (arith, g .early, ap length (taken .is))
 
       paid : w + length (linesText lines) + 4 * owing base (view (r .state)) ≤ 11 * suc i + 4 * r .handed
-      paid = omega (arith, g .owed, pays base (by pl) here here-sound (taken .frame) .at (lines, there) gives .covers, lines-length lines)
+      paid = omega (arith, g .owed, pays base (by (pl i)) here here-sound (taken .frame) .at (lines, there) gives .covers, lines-length lines)
 
       handed-few : r .handed ≤ 2048
       unfolding base
@@ -277,10 +292,10 @@ module _ (pl : Place) (script page₀ : List ℕ) (s : Scopes) (handles holders 
       going-room h = omega (arith, paid, handed-few, enough, g .page-length)
 
       small-on : Small (suc i) there
-      small-on = small-step base (by pl) (fair pl) (omega (arith, base-wide .slots, base-wide .size)) i here (here-sound .scopes .slots) (g .small) (taken .frame) .at (lines, there) gives
+      small-on = small-step base (by (pl i)) (fair (pl i)) (omega (arith, base-wide .slots, base-wide .size)) i here (here-sound .scopes .slots) (g .small) (taken .frame) .at (lines, there) gives
 
       going-suc : (w′ : ℕ) (page′ : List ℕ) → length page′ ≡ length page → Put (f .opcode) (r .adds) drained′ page w w′ page′
-          → Going pl script page₀ (r .state) handles′ holders′ drained′ (r .handed) nd′ (t .next) (suc i) w′ page′
+          → Going pl o script page₀ (r .state) handles′ holders′ drained′ (r .handed) nd′ (t .next) (suc i) w′ page′
       unfolding onward
       going-suc w′ page′ l q = record {
         within = k .within;
@@ -290,7 +305,7 @@ module _ (pl : Place) (script page₀ : List ℕ) (s : Scopes) (handles holders 
         reads = taken .on;
         early = enough;
         done = g .done ++ lines;
-        comes = comes-on ∙ ap (λ (x : Step). before (g .done) (onward i x (λ y. steps base (by pl) (suc i) y (taken .more)))) gives ∙ before-before (g .done) lines (steps base (by pl) (suc i) there (taken .more));
+        comes = comes-on ∙ ap (λ (x : Step). before (g .done) (onward i x (λ y. stepsAt pl (suc i) y (taken .more)))) gives ∙ before-before (g .done) lines (stepsAt pl (suc i) there (taken .more));
         at = q .0 ∙ ap (λ (m : ℕ). m + length (linesText lines)) (g .at) ∙ sym (ap length (lines-on (g .done) lines) ∙ length-append (linesText (g .done)) (linesText lines));
         written = next page₀ page page′ 0 w (linesText (g .done)) (linesText lines) (omega arith) (omega (arith, g .at)) (g .written) (q .1) ∙ ap (over page₀ 0) (sym (lines-on (g .done) lines));
         owed = omega (arith, paid, q .0);
@@ -299,9 +314,9 @@ module _ (pl : Place) (script page₀ : List ℕ) (s : Scopes) (handles holders 
       }
 
       pub going-on : (w′ : ℕ) (page′ : List ℕ) → length page′ ≡ length page → Put (f .opcode) (r .adds) drained′ page w w′ page′
-          → Going pl script page₀ (r .state) handles′ holders′ drained′ (r .handed) nd′ (t .next) (i + 1) w′ page′
+          → Going pl o script page₀ (r .state) handles′ holders′ drained′ (r .handed) nd′ (t .next) (i + 1) w′ page′
       going-on w′ page′ l q =
-          subst (λ (m : ℕ). Going pl script page₀ (r .state) handles′ holders′ drained′ (r .handed) nd′ (t .next) m w′ page′) (sym (add-one i)) (going-suc w′ page′ l q)
+          subst (λ (m : ℕ). Going pl o script page₀ (r .state) handles′ holders′ drained′ (r .handed) nd′ (t .next) m w′ page′) (sym (add-one i)) (going-suc w′ page′ l q)
 
   -- ---- after the last frame
 
@@ -317,16 +332,32 @@ module _ (pl : Place) (script page₀ : List ℕ) (s : Scopes) (handles holders 
     unfolding scriptFrom
     no-more = let q : scriptFrom base i [] ≡ frames (g .left) = sym (ap (scriptFrom base i) (split-end script p over-all)) ∙ g .reads in cc
 
-    comes-last : translated base script ≡ accepted (g .done ++ []) (s .size)
-    comes-last = g .comes ∙ ap (before (g .done)) (ap (steps base (by pl) i here) no-more ∙ no-frame base (by pl) i here)
+    comes-last : o ≡ accepted (g .done ++ []) (s .size)
+    comes-last = g .comes ∙ ap (before (g .done)) (ap (stepsAt pl i here) no-more ∙ none-at pl i here)
 
     pub going-end : length page₀ ≡ 32768 → (v : ℕ) (page′ : List ℕ) → v ≡ w + 7 → length page′ ≡ length page → page′ ≡ over page w (lineText (shows 0x90 (s .size ∷ [])))
-        → Ends (translated base script) (ended.Listed v) page′
+        → Ends (o) (ended.Listed v (s .size)) page′
     unfolding over
     going-end h v page′ ev l q =
         let last : List ℕ = lineText (shows 0x90 (s .size ∷ [])) in
         let text : List ℕ = listText (g .done ++ []) (s .size) in
         let o : page′ ≡ over page₀ 0 text = next page₀ page page′ 0 w (linesText (g .done)) last (omega arith) (omega (arith, g .at)) (g .written) q ∙ ap (over page₀ 0) (sym (list-on (g .done) (s .size))) in
         let n : v ≡ length text = omega (arith, g .at, ap length (list-on (g .done) (s .size)), length-append (linesText (g .done)) last, line-length (shows 0x90 (s .size ∷ []))) in
-        subst (λ (x : Outcome). Ends x (ended.Listed v) page′) (sym comes-last)
+        subst (λ (x : Outcome). Ends x (ended.Listed v (s .size)) page′) (sym comes-last)
         (listed n (omega (arith, going-last h)) (ap (take v) o ∙ take-at text (drop (0 + length text) page₀) v (sym n)))
+
+-- ---- by the script's edition
+
+-- the frames behind the title, whose line stands before theirs: what the rules translate the script to
+pub walked-edition : (script : List ℕ) (n : ℕ) → Titles script n → Read script → walked (λ _. placeBy n) n script ≡ translated base script
+unfolding walked translated outcome readScript
+walked-edition script n t r =
+    let q : readScript base script .place ≡ placeBy n = ap (λ (x : Titled). x .place) (t .is) in
+    (λ u. before (title (placeBy n)) (steps-everywhere (placeBy n) (framed-read script (r .all) (r .reads) u) n start u))
+    ∙ sym (ap (outcome base (readScript base script .place)) (r .reads)
+    ∙ (λ u. before (title (q u)) (steps base (by (q u)) (length (title (q u))) start (r .all)))
+    ∙ ap (λ (i : ℕ). before (title (placeBy n)) (steps base (by (placeBy n)) i start (r .all))) (titles-length n (t .most)))
+
+pub by-edition : (script page : List ℕ) (n : ℕ) (p : Place) (r : Ended) → p ≡ placeBy n → Titles script n → Read script → Ends (walked (λ _. p) n script) r page → Ends (translated base script) r page
+by-edition script page n p r e t read h =
+    subst (λ (o : Outcome). Ends o r page) (ap (λ (x : Place). walked (λ _. x) n script) e ∙ walked-edition script n t read) h

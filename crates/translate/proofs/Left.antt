@@ -51,32 +51,32 @@ module _ (script list page : List ℕ) (e : Ended) (h : Ends (translated base sc
       go (refused {n = m} {i = j} b) q = let y : m ≡ n = cc in let z : j ≡ i = cc in record { answered = rw (y, z) a; list-left = refl }
       go (listed a b c) q = absurd (let z : _≡_ {A = ℕ} 0 1 = cc in omega arith)
 
-  pub left-short : (n r : ℕ) → e ≡ ended.Listed n → length list < n → r ≡ refusalAnswer 17 0 → Leaves (translateEntry base script list) r list
+  pub left-short : (n k r : ℕ) → e ≡ ended.Listed n k → length list < n → r ≡ refusalAnswer 17 0 → Leaves (translateEntry base script list) r list
   unfolding translateEntry listLeft if_then_else_
-  left-short n r q l a = go h q
+  left-short n k r q l a = go h q
     where
-      go : {o : Outcome} {x : Ended} → Ends o x page → x ≡ ended.Listed n → Leaves (listLeft o list) r list
+      go : {o : Outcome} {x : Ended} → Ends o x page → x ≡ ended.Listed n k → Leaves (listLeft o list) r list
       go (refused b) q = absurd (let z : _≡_ {A = ℕ} 0 1 = cc in omega arith)
       go (listed {ls = ls} {size = size} {n = m} x y z) q =
-          let k : m ≡ n = cc in
+          let same : m ≡ n = cc in
           rw (lt-leb (length (listText ls size)) (length list) (omega arith), if_then_else_) (record { answered = a; list-left = refl })
 
-  pub page-room : (n : ℕ) → e ≡ ended.Listed n → n ≤ length page
-  page-room n q = go h q
+  pub page-room : (n k : ℕ) → e ≡ ended.Listed n k → n ≤ length page
+  page-room n k q = go h q
     where
-      go : {o : Outcome} {x : Ended} → Ends o x page → x ≡ ended.Listed n → n ≤ length page
+      go : {o : Outcome} {x : Ended} → Ends o x page → x ≡ ended.Listed n k → n ≤ length page
       go (refused b) q = absurd (let z : _≡_ {A = ℕ} 0 1 = cc in omega arith)
-      go (listed {n = m} x y z) q = let k : m ≡ n = cc in omega arith
+      go (listed {n = m} x y z) q = let same : m ≡ n = cc in omega arith
 
-  pub left-list : (n : ℕ) (list′ : List ℕ) → e ≡ ended.Listed n → n ≤ length list → list′ ≡ take n page ++ drop n list → Leaves (translateEntry base script list) n list′
+  pub left-list : (n k : ℕ) (list′ : List ℕ) → e ≡ ended.Listed n k → n ≤ length list → list′ ≡ take n page ++ drop n list → Leaves (translateEntry base script list) n list′
   unfolding translateEntry listLeft if_then_else_
-  left-list n list′ q l a = go h q
+  left-list n k list′ q l a = go h q
     where
-      go : {o : Outcome} {x : Ended} → Ends o x page → x ≡ ended.Listed n → Leaves (listLeft o list) n list′
+      go : {o : Outcome} {x : Ended} → Ends o x page → x ≡ ended.Listed n k → Leaves (listLeft o list) n list′
       go (refused b) q = absurd (let z : _≡_ {A = ℕ} 0 1 = cc in omega arith)
       go (listed {ls = ls} {size = size} {n = m} x y z) q =
-          let k : m ≡ n = cc in
-          let t : take n page ≡ listText ls size = sym (ap (λ (j : ℕ). take j page) k) ∙ z in
+          let same : m ≡ n = cc in
+          let t : take n page ≡ listText ls size = sym (ap (λ (j : ℕ). take j page) same) ∙ z in
           let e : n ≡ length (listText ls size) = omega arith in
           rw (le-leb (length (listText ls size)) (length list) (omega arith), if_then_else_)
           (record { answered = e; list-left = a ∙ ap (λ (b : List ℕ). b ++ drop n list) t ∙ ap (λ (j : ℕ). listText ls size ++ drop j list) e })

@@ -10,7 +10,7 @@ use lib.ListN.{length, length-append}
 use borrow.Author.Tests.{leb-true}
 use Rattle.rules.specs.Notation.{if_then_else_}
 use Rattle.rules.specs.Sizes.{base}
-use Rattle.rules.specs.Slots.{Place, byHead, lowest}
+use Rattle.rules.specs.Slots.{Place, byHead, lowest, exactlyAt}
 use Rattle.rules.specs.Frames.{start, Frame, Line, shows, Outcome, accepted, refusedAt, before, steps}
 use Rattle.rules.specs.Text.{Script, frames, unread, title, readScript, lineText, listText}
 use Rattle.rules.specs.Entries.{outcome, translated, Translation, listLeft, translateEntry}
@@ -25,7 +25,7 @@ pub use Rattle.text.proofs.Halves.{count, number}
 use Rattle.text.proofs.Halves.{Halves as Both, by-count, by-number}
 use Rattle.translate.proofs.Going.{by, fair, owes-none}
 
--- ---- in the room of 01, by either edition
+-- ---- in the room of 01, by any place
 
 pub data Comes : Outcome → Type 0 where
   to-list : {ls : List Line} {size : ℕ} → length (listText ls size) ≤ 30727 → Comes (accepted ls size)
@@ -34,6 +34,7 @@ pub data Comes : Outcome → Type 0 where
 title-adds : (p : Place) (ls : List Line) (size : ℕ) → length (listText (title p ++ ls) size) ≤ length (listText ls size) + 7 * length (title p)
 unfolding listText
 title-adds byHead ls size = omega arith
+title-adds (exactlyAt a) ls size = omega arith
 title-adds lowest ls size = omega (arith, length-append (lineText (shows 0xf0 (2 ∷ []))) (listText ls size), line-length (shows 0xf0 (2 ∷ [])))
 
 pub comes : (script : List ℕ) → Comes (translated base script)

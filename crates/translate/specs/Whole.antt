@@ -1,15 +1,17 @@
 -- What the loop over the frames writes on its page, and what `translate` leaves. Assumes nothing.
 use mathlib.Core.Path.{_≡_}
 use mathlib.Core.List.{List, [], _∷_, _++_}
-use Prim.Native.Nat.{ℕ, _+_, _≤_}
-use lib.ListN.{length, take}
+use Prim.Native.Nat.{ℕ, suc, _+_, _/_, _%_, _≤_}
+use lib.ListN.{length, getD, take}
+use lib.Dec.{ltb}
 use Rattle.rules.specs.Sizes.{base}
 use Rattle.rules.specs.Frames as rules
-use Rattle.rules.specs.Frames.{Line, stores, loads, shows, Outcome, accepted, refusedAt}
-use Rattle.rules.specs.Slots.{Place}
-use Rattle.rules.specs.Text.{lineText, listText, frames, title, readScript}
+use Rattle.rules.specs.Frames.{State, start, Line, stores, loads, shows, step, Outcome, accepted, refusedAt, before, onward}
+use Rattle.rules.specs.Slots.{Place, exactlyAt, placing}
+use Rattle.rules.specs.Text.{lineText, listText, Script, frames, unread, title, readScript}
 use Rattle.rules.specs.Entries.{Translation}
-use Rattle.text.specs.Shapes.{frame}
+use Rattle.slots.specs.Spots.{placeOf}
+use Rattle.text.specs.Shapes.{pick, frame}
 use Rattle.text.specs.Titles.{placeBy, Titles}
 use Rattle.text.specs.Writing.{over}
 use Rattle.text.specs.declared.lines.Frame.{Frame}
@@ -20,6 +22,8 @@ use Rattle.frames.specs.declared.steps.Adds.{Adds}
 use Rattle.frames.specs.declared.steps.Adds.the-variants.{Nothing, One, Store, Load, Drained, Refused}
 use Rattle.translate.specs.declared.whole.Onward.{Onward}
 use Rattle.translate.specs.declared.whole.Onward.the-variants as onward
+use Rattle.translate.specs.declared.whole.Guide.{Guide}
+use Rattle.translate.specs.declared.whole.Guide.the-variants as guide
 use Rattle.translate.specs.declared.whole.Ended.{Ended}
 use Rattle.translate.specs.declared.whole.Ended.the-variants as ended
 
@@ -64,14 +68,38 @@ pub record Read (script : List ℕ) : Type 0 where
   pub all : List rules.Frame
   pub reads : readScript base script .script ≡ frames all
 
--- the script has n title lines, slots go where they say, and they stand on the first w bytes of the page
-pub record Begun (script page : List ℕ) (n : ℕ) (p : Place) (w : ℕ) : Type 0 where
+-- the script has n title lines, and they stand on the first w bytes of the page
+pub record Begun (script page : List ℕ) (n w : ℕ) : Type 0 where
   pub titles : Titles script n
-  pub place : p ≡ placeBy n
   pub at : w ≡ length (linesText (title (placeBy n)))
   pub written : page ≡ over page 0 (linesText (title (placeBy n)))
 
+-- ---- where slots go, line by line
+
+-- the table has as many lines as the guide says
+abbrev pub HasLines : Guide → List ℕ → Type 0
+HasLines (guide.Everywhere p) shown = Unit {0}
+HasLines (guide.Shown lines) shown = lines ≤ length shown
+
+-- the first number on line i of the table, where the list has such a line
+abbrev pub guideAt : Guide → List ℕ → ℕ → Place
+guideAt (guide.Everywhere p) shown i = placeOf p
+guideAt (guide.Shown lines) shown i = exactlyAt (pick (ltb i lines) (getD shown i 0 / 0x10000 % 0x10000) 0xffff)
+
+-- the frames from line i on, each line's slots going by the line
+unfoldable pub stepsAt : (ℕ → Place) → ℕ → State → List rules.Frame → Outcome
+stepsAt by i s [] = accepted [] (s .scopes .size)
+stepsAt by i s (f ∷ fs) = onward i (step base (placing (base .segments) (by i)) s f) (λ t. stepsAt by (suc i) t fs)
+
+abbrev pub framesOf : Script → List rules.Frame
+framesOf (frames fs) = fs
+framesOf (unread n i) = []
+
+-- a script that is read and has n title lines: its title, and its frames
+unfoldable pub walked : (ℕ → Place) → ℕ → List ℕ → Outcome
+walked by n script = before (title (placeBy n)) (stepsAt by n start (framesOf (readScript base script .script)))
+
 -- the list stands at the start of the page, or a refusal is told
 pub data Ends : Outcome → Ended → List ℕ → Type 0 where
-  listed : {ls : List Line} {size n : ℕ} {page : List ℕ} → n ≡ length (listText ls size) → n ≤ length page → take n page ≡ listText ls size → Ends (accepted ls size) (ended.Listed n) page
+  listed : {ls : List Line} {size n : ℕ} {page : List ℕ} → n ≡ length (listText ls size) → n ≤ length page → take n page ≡ listText ls size → Ends (accepted ls size) (ended.Listed n size) page
   refused : {n i : ℕ} {page : List ℕ} → i ≤ 2048 → Ends (refusedAt n i) (ended.Refused n i) page

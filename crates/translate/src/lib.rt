@@ -34,7 +34,7 @@ fn translate_read(script: &[u8], list: &mut [u8]) -> u64
     let mut page = [0u8; 32768];
     match whole_steps(script, &mut page) {
         Ended::Refused(m, i) => refuse(m, i),
-        Ended::Listed(n) => {
+        Ended::Listed(n, _) => {
             if list.len() < n {
                 return refuse(17, 0);
             }

@@ -1,20 +1,21 @@
 // The frames of a script, one after another, over tables of their own; the list is written on a page.
 ghost use mathlib.Core.Path.{_≡_};
-ghost use Prim.Native.Nat.{_+_, _≤_};
+ghost use Prim.Native.Nat.{ℕ, _+_, _≤_};
 ghost use lib.ListN.{length};
 ghost use Rattle.rules.specs.Sizes.{base};
 ghost use Rattle.rules.specs.Frames.{stores};
 ghost use Rattle.rules.specs.Text.{lineText, title};
 ghost use Rattle.rules.specs.Entries.{translated};
 ghost use Rattle.slots.specs.Spots.{placeOf};
-ghost use Rattle.text.specs.Titles.{placeBy};
+ghost use Rattle.text.specs.Titles.{placeBy, Titles};
 ghost use Rattle.text.specs.Writing.{over};
 ghost use Rattle.frames.specs.Steps.{Few, sourceOf};
-ghost use Rattle.translate.specs.Whole.{frameIn, linesOf, linesText, onwardOf, Read, Begun, Ends};
+ghost use Rattle.translate.specs.Whole.{frameIn, linesOf, linesText, onwardOf, guideAt, HasLines, Read, Begun, walked, Ends};
 use dispatch::step;
 use frames::steps::Adds;
 use frames::steps::Source;
 use slots::Place;
+use slots::SlotAddress;
 use text::lines::Frame;
 use text::lines::Reading;
 use text::lines::frame_at;
@@ -29,10 +30,16 @@ enum Onward {
     Stop(u8),
 }
 
-// How many bytes of the page the list takes; or the number and the line of a refusal.
+// How many bytes of the page the list takes, and its size; or the number and the line of a refusal.
 pub enum Ended {
-    Listed(usize),
+    Listed(usize, usize),
     Refused(u8, usize),
+}
+
+// Where slots go: at every line by one place; or line by line where a list shows them, of which a table has so many lines.
+pub enum Guide {
+    Everywhere(Place),
+    Shown(usize),
 }
 
 fn frame_in(x: Reading) -> Frame
@@ -111,11 +118,35 @@ fn put_title(page: &mut [u8], titles: usize) -> usize
     put_line(page, 0, 0xf0, 1, 2, 0)
 }
 
+// Where the slots of line i go: its first number is the address that a list shows; past the list's lines there is no slot.
+fn place_at(guide: Guide, shown: &[u64], i: usize) -> Place
+    requires { ⌜ HasLines guide (now shown) ⌝ }
+    ensures { λ r. ⌜ placeOf r ≡ guideAt guide (now (shown .entry)) i ⌝ }
+{
+    match guide {
+        Guide::Everywhere(place) => place,
+        Guide::Shown(lines) => {
+            if i < lines {
+                let a = shown[i] / 0x1_0000 % 0x1_0000;
+                return Place::ExactlyAt(SlotAddress(a as u16));
+            }
+            Place::ExactlyAt(SlotAddress(0xffff))
+        }
+    }
+}
+
 // The script is read, and its title stands on the page: every frame behind it, then the size line. The state is opened once into local
 // arrays, which are lent to the steps.
-fn steps_behind(script: &[u8], page: &mut [u8], titles: usize, place: Place, begun: usize) -> Ended
-    requires { ⌜ Read (now script) × (length (now page) ≡ 32768) × Begun (now script) (now page) titles (placeOf place) begun ⌝ }
-    ensures { λ r. ⌜ Ends (translated base (now (script .entry))) r (now (page .exit)) ⌝ }
+fn steps_behind(
+    script: &[u8],
+    shown: &[u64],
+    page: &mut [u8],
+    titles: usize,
+    guide: Guide,
+    begun: usize,
+) -> Ended
+    requires { ⌜ Read (now script) × HasLines guide (now shown) × (length (now page) ≡ 32768) × Begun (now script) (now page) titles begun ⌝ }
+    ensures { λ r. ⌜ Ends (walked (guideAt guide (now (shown .entry))) titles (now (script .entry))) r (now (page .exit)) ⌝ }
 {
     let mut handles = [0u64; 2048];
     let mut holders = [0u16; 1024];
@@ -141,6 +172,7 @@ fn steps_behind(script: &[u8], page: &mut [u8], titles: usize, place: Place, beg
         let t = frame_at(script, p);
         let x = t.reading;
         let f = frame_in(x);
+        let place = place_at(guide, shown, i);
         let r = step(
             &mut halves,
             &mut links,
@@ -175,16 +207,28 @@ fn steps_behind(script: &[u8], page: &mut [u8], titles: usize, place: Place, beg
             }
         }
     }
-    let size = n.size as u16;
-    Ended::Listed(put_size(page, w, size))
+    let size = n.size;
+    Ended::Listed(put_size(page, w, size as u16), size)
 }
 
-// The script is read: its title, and what stands behind it.
+// The script is read: its title, and what stands behind it, by its edition.
 pub fn steps(script: &[u8], page: &mut [u8]) -> Ended
     requires { ⌜ Read (now script) × (length (now page) ≡ 32768) ⌝ }
     ensures { λ r. ⌜ Ends (translated base (now (script .entry))) r (now (page .exit)) ⌝ }
 {
+    let none = [0u64; 1];
     let titles = title_lines(script);
     let begun = put_title(page, titles);
-    steps_behind(script, page, titles, place_by(titles), begun)
+    let guide = Guide::Everywhere(place_by(titles));
+    steps_behind(script, &none, page, titles, guide, begun)
+}
+
+// The same, but that slots go where a list shows them: the table has its lines.
+pub fn steps_shown(script: &[u8], shown: &[u64], lines: usize, page: &mut [u8]) -> Ended
+    requires { ⌜ Read (now script) × (lines ≤ length (now shown)) × (length (now page) ≡ 32768) ⌝ }
+    ensures { λ r. ⌜ ((n : ℕ) × Titles (now (script .entry)) n × Ends (walked (guideAt (Guide.Shown lines) (now (shown .entry))) n (now (script .entry))) r (now (page .exit))) ⌝ }
+{
+    let titles = title_lines(script);
+    let begun = put_title(page, titles);
+    steps_behind(script, shown, page, titles, Guide::Shown(lines), begun)
 }

@@ -30,7 +30,7 @@ returns : tie.Need-returns
 returns c =
     let s = c .before .before .before .before .before .before in
     let a = s .before .before .before .before in
-    left-short (a .args .script .now) (a .args .list .now) (s .steps .last .1 .0) (s .steps .result) (s .steps .ensures) _ _ (c .before .before .before .n .given .1) (c .before .if1 .taken) (c .refuse2 .ensures)
+    left-short (a .args .script .now) (a .args .list .now) (s .steps .last .1 .0) (s .steps .result) (s .steps .ensures) _ _ _ (c .before .before .before .n .given .1) (c .before .if1 .taken) (c .refuse2 .ensures)
 
 slice-aggregate-copy : tie.Need-slice-aggregate-copy
 slice-aggregate-copy c = search needs
@@ -38,7 +38,7 @@ slice-aggregate-copy c = search needs
 copy-requires : tie.Need-copy-requires
 copy-requires c κs =
     let s = c .before .before .before .before .before .before .before in
-    let a = s .before .before .before .before in (page-room (a .args .script .now) (a .args .list .now) (s .steps .last .1 .0) (s .steps .result) (s .steps .ensures) _ (c .before .before .before .before .n .given .1), c .before .before .if1 .left)
+    let a = s .before .before .before .before in (page-room (a .args .script .now) (a .args .list .now) (s .steps .last .1 .0) (s .steps .result) (s .steps .ensures) _ _ (c .before .before .before .before .n .given .1), c .before .before .if1 .left)
 
 returns-2 : tie.Need-returns-2
 returns-2 c =
@@ -53,7 +53,7 @@ returns-3 : tie.Need-returns-3
 returns-3 c =
     let s = c .before .before .before .before .before .before .before .before .before .before in
     let a = s .before .before .before .before in
-    left-list (a .args .script .now) (a .args .list .now) (s .steps .last .1 .0) (s .steps .result) (s .steps .ensures) _ _ (c .before .before .before .before .before .before .before .n .given .1) (c .before .before .before .before .before .if1 .left) (c .before .before .copy .ensures)
+    left-list (a .args .script .now) (a .args .list .now) (s .steps .last .1 .0) (s .steps .result) (s .steps .ensures) _ _ _ (c .before .before .before .before .before .before .before .n .given .1) (c .before .before .before .before .before .if1 .left) (c .before .before .copy .ensures)
 
 pub translate-read-spec : {M : Type 1} → statement M
 translate-read-spec =

@@ -5,20 +5,20 @@ use native.Mathlib.Omega.{arith}
 use lib.ListN.{length}
 use borrow.Author.Needs.{needs}
 use Rattle.rules.specs.Sizes.{base}
-use Rattle.slots.specs.Spots.{placeOf}
 use Rattle.scopes.specs.Lent.{made}
 use Rattle.handles.specs.NeedTable.{table}
 use Rattle.frames.specs.Steps.{Reached}
+use Rattle.translate.specs.Whole.{guideAt, walked}
 use Rattle.translate.proofs.Going.{Going, going-fresh, going-stop, going-few, going-room, going-on, going-size, going-last, going-end}
 use Rattle.translate.proofs.whole.steps_behind.Statement.{statement}
 use Rattle.translate.proofs.whole.steps_behind.Tie as tie
 
 abbrev Inv-loop : tie.InvT-loop
-Inv-loop script page₀ titles place begun handles₀ holders₀ drained₀ needs₀ remembers₀ halves₀ links₀ owner₀ live₀ dangled₀ parent₀ number₀ bindings₀ n₀ handed₀ needed₀ p₀ i₀ w₀ page handles holders drained needs remembers halves links owner live dangled parent number bindings n handed needed p i w =
-    Going (placeOf place) script page₀ (made halves links owner live dangled parent number bindings n) handles holders drained handed (table needs remembers needed) p i w page
+Inv-loop script shown page₀ titles guide begun handles₀ holders₀ drained₀ needs₀ remembers₀ halves₀ links₀ owner₀ live₀ dangled₀ parent₀ number₀ bindings₀ n₀ handed₀ needed₀ p₀ i₀ w₀ page handles holders drained needs remembers halves links owner live dangled parent number bindings n handed needed p i w =
+    Going (guideAt guide shown) (walked (guideAt guide shown) titles script) script page₀ (made halves links owner live dangled parent number bindings n) handles holders drained handed (table needs remembers needed) p i w page
 
 abbrev μ-loop : tie.MeasureT-loop
-μ-loop script page₀ titles place begun handles₀ holders₀ drained₀ needs₀ remembers₀ halves₀ links₀ owner₀ live₀ dangled₀ parent₀ number₀ bindings₀ n₀ handed₀ needed₀ p₀ i₀ w₀ page handles holders drained needs remembers halves links owner live dangled parent number bindings n handed needed p i w =
+μ-loop script shown page₀ titles guide begun handles₀ holders₀ drained₀ needs₀ remembers₀ halves₀ links₀ owner₀ live₀ dangled₀ parent₀ number₀ bindings₀ n₀ handed₀ needed₀ p₀ i₀ w₀ page handles holders drained needs remembers halves links owner live dangled parent number bindings n handed needed p i w =
     length script - p
 
 -- where the step leads
@@ -26,6 +26,9 @@ abbrev reached : tie.After-step Inv-loop μ-loop → Reached
 reached c = record { state = made (c .step .last .0) (c .step .last .1 .0) (c .step .last .1 .1 .0) (c .step .last .1 .1 .1 .0) (c .step .last .1 .1 .1 .1 .0) (c .step .last .1 .1 .1 .1 .1 .0) (c .step .last .1 .1 .1 .1 .1 .1 .0) (c .step .last .1 .1 .1 .1 .1 .1 .1 .0) (c .step .result .numbers); handed = c .step .result .handed; adds = c .step .result .adds }
 
 -- facts of the types that lie far back where the loop begins
+owner-length : (c : tie.After-owner Inv-loop μ-loop) → length (c .before .before .before .fresh .result .owner) ≡ 1024
+owner-length c = search needs
+
 live-length : (c : tie.After-live Inv-loop μ-loop) → length (c .before .before .before .before .fresh .result .live) ≡ 64
 live-length c = search needs
 
@@ -48,14 +51,14 @@ numbers-of-requires : tie.Need-numbers-of-requires Inv-loop μ-loop
 numbers-of-requires c κs = tt
 
 mul-p : tie.Need-mul-p Inv-loop μ-loop
-mul-p c = let a = c .before .before .before .before .before .before .before .before .before .before .before .before in omega (arith, a .pre .2 .titles .most)
+mul-p c = let a = c .before .before .before .before .before .before .before .before .before .before .before .before .before in omega (arith, a .pre .3 .titles .most)
 
 loop-holds : tie.Need-loop-holds Inv-loop μ-loop
 loop-holds c =
     let f = c .before .before .before .before .before .before .before .before .before in
-    let a = c .before .before .before .before .before .before .before .before .before .before .before .before in
-    going-fresh (a .args .script .now) (a .args .page .now) (a .args .titles) (placeOf (a .args .place)) (a .args .begun) (a .pre .2) (f .fresh .result) (a .pre .0) (f .fresh .ensures .0)
-    (record { sound = f .fresh .ensures .1; sized = record { halves = search needs; links = search needs; owner = search needs; live = live-length (c .before .before .before .before .before); dangled = dangled-length (c .before .before .before .before); parent = parent-length (c .before .before .before); number = number-length (c .before .before); bindings = bindings-length (c .before) } })
+    let a = c .before .before .before .before .before .before .before .before .before .before .before .before .before in
+    going-fresh (guideAt (a .args .guide) (a .args .shown .now)) (a .args .script .now) (a .args .page .now) (a .args .titles) (a .args .begun) (a .pre .3) (f .fresh .result) (a .pre .0) (f .fresh .ensures .0)
+    (record { sound = f .fresh .ensures .1; sized = record { halves = search needs; links = search needs; owner = owner-length (c .before .before .before .before .before .before); live = live-length (c .before .before .before .before .before); dangled = dangled-length (c .before .before .before .before); parent = parent-length (c .before .before .before); number = number-length (c .before .before); bindings = bindings-length (c .before) } })
     (c .numbers-of .result) (c .numbers-of .ensures)
 
 frame-at-requires : tie.Need-frame-at-requires Inv-loop μ-loop
@@ -64,8 +67,11 @@ frame-at-requires c κs = c .loop-test .taken
 frame-in-requires : tie.Need-frame-in-requires Inv-loop μ-loop
 frame-in-requires c κs = tt
 
+place-at-requires : tie.Need-place-at-requires Inv-loop μ-loop
+place-at-requires c κs = let a = c .before .before .before .before .before .before .before .before .before .before .before .before .before .before .before .before .before in a .pre .1
+
 step-requires : tie.Need-step-requires Inv-loop μ-loop
-step-requires c κs = let l = c .before .before .before .before .before .before .before .before .before .before .before .before .before .before .before .before in (l .loop .inv .stands, l .loop .inv .drained-length)
+step-requires c κs = let l = c .before .before .before .before .before .before .before .before .before .before .before .before .before .before .before .before .before in (l .loop .inv .stands, l .loop .inv .drained-length)
 
 onward-of-requires : tie.Need-onward-of-requires Inv-loop μ-loop
 onward-of-requires c κs = tt
@@ -74,52 +80,81 @@ enum-known-m : tie.Need-enum-known-m Inv-loop μ-loop
 enum-known-m c = search needs
 
 same-length : tie.Need-same-length Inv-loop μ-loop
-same-length c = c .before .before .before .before .before .before .before .before .before .before .before .before .before .before .before .before .before .before .before .before .before .loop .inv .page-length
+same-length c = let l = c .before .before .before .before .before .before .before .before .before .before .before .before .before .before .before .before .before .before .before .before .before .before in l .loop .inv .page-length
 
 returns : tie.Need-returns Inv-loop μ-loop
 unfolding base
 returns c =
-    going-stop _ _ _ _ _ _ _ _ _ _ _ _ _ (c .before .before .before .before .before .before .before .before .before .before .before .before .before .before .before .before .before .before .before .before .before .loop .inv) (c .before .before .before .before .before .before .before .before .before .before .before .before .before .before .before .before .before .before .before .frame-at .result) (c .before .before .before .before .before .before .before .before .before .before .before .before .before .before .before .before .before .before .before .frame-at .ensures) (c .before .before .before .before .before .before .before .before .before .before .before .before .before .before .before .before .before .before .frame-in .result) (c .before .before .before .before .before .before .before .before .before .before .before .before .before .before .before .before .before .before .frame-in .ensures) (reached (c .before .before .before .before)) _ _ _ _ (c .before .before .before .before .step .ensures .0) _ (sym (c .before .before .before .onward-of .ensures) ∙ c .before .m .given .1)
+    let fa = c .before .before .before .before .before .before .before .before .before .before .before .before .before .before .before .before .before .before .before .before in
+    let fi = c .before .before .before .before .before .before .before .before .before .before .before .before .before .before .before .before .before .before .before in
+    let pa = c .before .before .before .before .before .before .before .before .before .before .before .before .before .before .before .before .before .before in
+    let st = c .before .before .before .before in
+    let l = c .before .before .before .before .before .before .before .before .before .before .before .before .before .before .before .before .before .before .before .before .before .before in
+    going-stop _ _ _ _ _ _ _ _ _ _ _ _ _ _ (l .loop .inv) (fa .frame-at .result) (fa .frame-at .ensures) (fi .frame-in .result) (fi .frame-in .ensures) (reached st) _ _ _ _ _ (pa .place-at .ensures) (st .step .ensures .0) _ (sym (c .before .before .before .onward-of .ensures) ∙ c .before .m .given .1)
 
 enum-told : tie.Need-enum-told Inv-loop μ-loop
 enum-told c = search needs
 
 slice-aggregate-put-adds : tie.Need-slice-aggregate-put-adds Inv-loop μ-loop
-slice-aggregate-put-adds c = sym (c .before .before .before .before .before .step .ensures .1)
+slice-aggregate-put-adds c = let st = c .before .before .before .before .before in sym (st .step .ensures .1)
 
 put-adds-requires : tie.Need-put-adds-requires Inv-loop μ-loop
 put-adds-requires c κs =
-    let go = sym (c .before .before .before .before .onward-of .ensures) ∙ c .before .before .enum-told .given .1 in (
-      going-few _ _ _ _ _ _ _ _ _ _ _ _ _ (c .before .before .before .before .before .before .before .before .before .before .before .before .before .before .before .before .before .before .before .before .before .before .loop .inv) (c .before .before .before .before .before .before .before .before .before .before .before .before .before .before .before .before .before .before .before .before .frame-at .result) (c .before .before .before .before .before .before .before .before .before .before .before .before .before .before .before .before .before .before .before .before .frame-at .ensures) (c .before .before .before .before .before .before .before .before .before .before .before .before .before .before .before .before .before .before .before .frame-in .result) (c .before .before .before .before .before .before .before .before .before .before .before .before .before .before .before .before .before .before .before .frame-in .ensures) (reached (c .before .before .before .before .before)) _ _ _ _ (c .before .before .before .before .before .step .ensures .0) (c .before .before .before .before .before .step .ensures .1) go,
-      c .before .before .before .before .before .step .ensures .1,
-      going-room _ _ _ _ _ _ _ _ _ _ _ _ _ (c .before .before .before .before .before .before .before .before .before .before .before .before .before .before .before .before .before .before .before .before .before .before .loop .inv) (c .before .before .before .before .before .before .before .before .before .before .before .before .before .before .before .before .before .before .before .before .frame-at .result) (c .before .before .before .before .before .before .before .before .before .before .before .before .before .before .before .before .before .before .before .before .frame-at .ensures) (c .before .before .before .before .before .before .before .before .before .before .before .before .before .before .before .before .before .before .before .frame-in .result) (c .before .before .before .before .before .before .before .before .before .before .before .before .before .before .before .before .before .before .before .frame-in .ensures) (reached (c .before .before .before .before .before)) _ _ _ _ (c .before .before .before .before .before .step .ensures .0) (c .before .before .before .before .before .step .ensures .1) go (c .before .before .before .before .before .before .before .before .before .before .before .before .before .before .before .before .before .before .before .before .before .before .before .before .before .before .before .before .before .before .before .before .before .before .before .pre .1),
+    let fa = c .before .before .before .before .before .before .before .before .before .before .before .before .before .before .before .before .before .before .before .before .before in
+    let fi = c .before .before .before .before .before .before .before .before .before .before .before .before .before .before .before .before .before .before .before .before in
+    let pa = c .before .before .before .before .before .before .before .before .before .before .before .before .before .before .before .before .before .before .before in
+    let st = c .before .before .before .before .before in
+    let on = c .before .before .before .before in
+    let et = c .before .before in
+    let l = c .before .before .before .before .before .before .before .before .before .before .before .before .before .before .before .before .before .before .before .before .before .before .before in
+    let a = c .before .before .before .before .before .before .before .before .before .before .before .before .before .before .before .before .before .before .before .before .before .before .before .before .before .before .before .before .before .before .before .before .before .before .before .before .before in
+    let go = sym (on .onward-of .ensures) ∙ et .enum-told .given .1 in (
+      going-few _ _ _ _ _ _ _ _ _ _ _ _ _ _ (l .loop .inv) (fa .frame-at .result) (fa .frame-at .ensures) (fi .frame-in .result) (fi .frame-in .ensures) (reached st) _ _ _ _ _ (pa .place-at .ensures) (st .step .ensures .0) (st .step .ensures .1) go,
+      st .step .ensures .1,
+      going-room _ _ _ _ _ _ _ _ _ _ _ _ _ _ (l .loop .inv) (fa .frame-at .result) (fa .frame-at .ensures) (fi .frame-in .result) (fi .frame-in .ensures) (reached st) _ _ _ _ _ (pa .place-at .ensures) (st .step .ensures .0) (st .step .ensures .1) go (a .pre .2),
     )
 
 add-i : tie.Need-add-i Inv-loop μ-loop
-add-i c = omega (arith, c .before .before .before .before .before .before .before .before .before .before .before .before .before .before .before .before .before .before .before .before .before .before .before .before .before .before .loop .inv .early)
+add-i c = let l = c .before .before .before .before .before .before .before .before .before .before .before .before .before .before .before .before .before .before .before .before .before .before .before .before .before .before .before in omega (arith, l .loop .inv .early)
 
 loop-less : tie.Need-loop-less Inv-loop μ-loop
-loop-less c = let fa = c .before .before .before .before .before .before .before .before .before .before .before .before .before .before .before .before .before .before .before .before .before .before .before .before in omega (arith, fa .frame-at .ensures .forward, fa .frame-at .ensures .within, fa .before .loop-test .taken)
+loop-less c = let fa = c .before .before .before .before .before .before .before .before .before .before .before .before .before .before .before .before .before .before .before .before .before .before .before .before .before in omega (arith, fa .frame-at .ensures .forward, fa .frame-at .ensures .within, fa .before .loop-test .taken)
 
 loop-again : tie.Need-loop-again Inv-loop μ-loop
 loop-again c =
     let v = c .before .before .before in
-    going-on _ _ _ _ _ _ _ _ _ _ _ _ _ (c .before .before .before .before .before .before .before .before .before .before .before .before .before .before .before .before .before .before .before .before .before .before .before .before .before .before .loop .inv) (c .before .before .before .before .before .before .before .before .before .before .before .before .before .before .before .before .before .before .before .before .before .before .before .before .frame-at .result) (c .before .before .before .before .before .before .before .before .before .before .before .before .before .before .before .before .before .before .before .before .before .before .before .before .frame-at .ensures) (c .before .before .before .before .before .before .before .before .before .before .before .before .before .before .before .before .before .before .before .before .before .before .before .frame-in .result) (c .before .before .before .before .before .before .before .before .before .before .before .before .before .before .before .before .before .before .before .before .before .before .before .frame-in .ensures) (reached (c .before .before .before .before .before .before .before .before .before)) _ _ _ _ (c .before .before .before .before .before .before .before .before .before .step .ensures .0) (c .before .before .before .before .before .before .before .before .before .step .ensures .1) (sym (c .before .before .before .before .before .before .before .before .onward-of .ensures) ∙ c .before .before .before .before .before .before .enum-told .given .1) _ _ (v .put-adds .kept .0) (v .put-adds .ensures)
+    let fa = c .before .before .before .before .before .before .before .before .before .before .before .before .before .before .before .before .before .before .before .before .before .before .before .before .before in
+    let fi = c .before .before .before .before .before .before .before .before .before .before .before .before .before .before .before .before .before .before .before .before .before .before .before .before in
+    let pa = c .before .before .before .before .before .before .before .before .before .before .before .before .before .before .before .before .before .before .before .before .before .before .before in
+    let st = c .before .before .before .before .before .before .before .before .before in
+    let on = c .before .before .before .before .before .before .before .before in
+    let et = c .before .before .before .before .before .before in
+    let l = c .before .before .before .before .before .before .before .before .before .before .before .before .before .before .before .before .before .before .before .before .before .before .before .before .before .before .before in
+    going-on _ _ _ _ _ _ _ _ _ _ _ _ _ _ (l .loop .inv) (fa .frame-at .result) (fa .frame-at .ensures) (fi .frame-in .result) (fi .frame-in .ensures) (reached st) _ _ _ _ _ (pa .place-at .ensures) (st .step .ensures .0) (st .step .ensures .1) (sym (on .onward-of .ensures) ∙ et .enum-told .given .1) _ _ (v .put-adds .kept .0) (v .put-adds .ensures)
 
-cast-size : tie.Need-cast-size Inv-loop μ-loop
-cast-size c = omega (arith, going-size _ _ _ _ _ _ _ _ _ _ _ _ _ (c .before .before .loop .inv))
+cast-put-size : tie.Need-cast-put-size Inv-loop μ-loop
+cast-put-size c = let l = c .before .before in omega (arith, going-size _ _ _ _ _ _ _ _ _ _ _ _ _ _ (l .loop .inv))
 
 put-size-requires : tie.Need-put-size-requires Inv-loop μ-loop
-put-size-requires c κs = going-last _ _ _ _ _ _ _ _ _ _ _ _ _ (c .before .before .before .loop .inv) (c .before .before .before .before .before .before .before .before .before .before .before .before .before .before .before .before .pre .1)
+put-size-requires c κs =
+    let l = c .before .before in
+    let a = c .before .before .before .before .before .before .before .before .before .before .before .before .before .before .before .before in
+    going-last _ _ _ _ _ _ _ _ _ _ _ _ _ _ (l .loop .inv) (a .pre .2)
 
 same-length-2 : tie.Need-same-length-2 Inv-loop μ-loop
-same-length-2 c = c .before .before .put-size .kept .0 ∙ c .before .before .before .before .before .before .loop .inv .page-length
+same-length-2 c =
+    let v = c .before .before in
+    let l = c .before .before .before .before .before in
+    v .put-size .kept .0 ∙ l .loop .inv .page-length
 
 returns-2 : tie.Need-returns-2 Inv-loop μ-loop
 unfolding base
 returns-2 c =
     let v = c .before .before in
-    going-end _ _ _ _ _ _ _ _ _ _ _ _ _ (c .before .before .before .before .before .before .loop .inv) (c .before .before .before .before .before .loop-test .left) (c .before .before .before .before .before .before .before .before .before .before .before .before .before .before .before .before .before .before .before .pre .1) _ _ (v .put-size .ensures .0) (v .put-size .kept .0) (v .put-size .ensures .1)
+    let t = c .before .before .before .before in
+    let l = c .before .before .before .before .before in
+    let a = c .before .before .before .before .before .before .before .before .before .before .before .before .before .before .before .before .before .before .before in
+    going-end _ _ _ _ _ _ _ _ _ _ _ _ _ _ (l .loop .inv) (t .loop-test .left) (a .pre .2) _ _ (v .put-size .ensures .0) (v .put-size .kept .0) (v .put-size .ensures .1)
 
 pub steps-behind-spec : {M : Type 1} → statement M
 steps-behind-spec =
@@ -133,6 +168,7 @@ steps-behind-spec =
     loop-holds
     frame-at-requires
     frame-in-requires
+    place-at-requires
     step-requires
     onward-of-requires
     enum-known-m
@@ -144,7 +180,7 @@ steps-behind-spec =
     add-i
     loop-less
     loop-again
-    cast-size
+    cast-put-size
     put-size-requires
     same-length-2
     returns-2)
