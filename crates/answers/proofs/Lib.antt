@@ -2,3 +2,4 @@ pub mod Printed
 pub mod Answers
 pub mod Beside
 pub mod Told
+pub mod Checked

@@ -1,4 +1,4 @@
-// What each of the two programs prints for its input, left at the start of a text buffer; the bytes past it stay.
+// What each of the programs prints for its input, left at the start of a text buffer; the bytes past it stay.
 use machine::lent::load;
 use machine::recorded::run_recorded;
 use text::writing::put_line;
@@ -10,11 +10,13 @@ ghost use Rattle.rules.specs.Sizes.{base};
 ghost use Rattle.rules.specs.Entries.{eeText, translatorPrints, runnerPrints, recordedPrints};
 ghost use Rattle.answers.specs.Prints.{Prints, Halved, Shown, Behind, HalvedBeside, stoppedText};
 
+pub mod verdict; // the checking program
+
 // The longest input that is read.
-const MOST: usize = 32768;
+pub const MOST: usize = 32768;
 
 // Longer input: 17, whatever it holds.
-fn longer(out: &mut [u8; 32768]) -> usize
+pub fn longer(out: &mut [u8; 32768]) -> usize
     ensures { λ r. ⌜ Prints (eeText 17 0) (now (out .entry)) r (now (out .exit)) ⌝ }
 {
     put_refusal(out, 0, 17, 0)

@@ -1,4 +1,4 @@
--- Which of the rules' two texts a program prints. Assumes nothing.
+-- Which of the rules' texts a program of one input prints. Assumes nothing.
 use mathlib.Core.List.{List}
 use Prim.Native.Nat.{ℕ}
 use Rattle.rules.specs.Sizes.{base}

@@ -1,4 +1,4 @@
-// The two programs of document 01, but for their `main`: each reads a text and prints what `answers` has it print.
+// The programs, but for their `main`: each reads a text, or two, and prints what `answers` has it print.
 use answers::ran;
 use answers::translated;
 use input::Input;
@@ -7,6 +7,7 @@ ghost use Rattle.answers.specs.Prints.{Prints};
 ghost use Rattle.programs.specs.Printed.{printedBy};
 
 pub mod beside; // the running program with a recording
+pub mod checking; // the checking program
 
 pub enum Program {
     Translator,
