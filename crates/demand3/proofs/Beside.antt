@@ -9,12 +9,13 @@ use lib.ListN.{length, drop}
 use borrow.Author.Tests.{le-leb}
 use Rattle.rules.specs.Notation.{if_then_else_}
 use Rattle.rules.specs.Sizes.{base}
-use Rattle.rules.specs.Frames.{Line, accepted}
+use Rattle.rules.specs.Frames.{Line}
 use Rattle.rules.specs.Meaning.{Ran, listTakes}
 use Rattle.rules.specs.Text.{listText, listed, readList}
 use Rattle.rules.specs.Recordings.{Recording, recorded, malformed, recording, Reader, readerOf, isState, ended}
-use Rattle.rules.specs.Entries.{translated, overFront, loadsText, cellsOf, oddByte, bytesOf, RunOutcome, ran, runListed, recordedOn, readEntry, RecordedRunning, recordedLeft, recordedEntry, bytes4}
+use Rattle.rules.specs.Entries.{overFront, loadsText, cellsOf, oddByte, bytesOf, RunOutcome, ran, runListed, recordedOn, readEntry, RecordedRunning, recordedLeft, recordedEntry, bytes4}
 use Rattle.rules.specs.Cuts.{Told, PartsTell}
+use Rattle.rules.proofs.Bytes.{Held}
 use Rattle.rules.proofs.PartsTell.{parts-tell}
 use Rattle.rules.proofs.RunTold.{runs-as-told}
 use Rattle.recordings.proofs.ReadOn.{Read, read-none, read-on}
@@ -25,7 +26,7 @@ use Rattle.demand3.proofs.Ran.{reads, as-many, worked, ran-on, loaded, 
 
 -- ---- what a run that went through leaves
 
-module _ (script : List ℕ) (ls : List Line) (size : ℕ) (ok : translated base script ≡ accepted ls size)
+module _ (script : List ℕ) (ls : List Line) (size : ℕ) (ok : Held base script ls size)
     (n : ℕ) (vs : List ℕ) (many : takes script ≤ n) (enough : takes script ≤ length vs) (cells : List ℕ) (f : size ≤ length (cellsOf cells)) where
   abbrev x : Ran
   x = worked script ls size ok n vs many enough (cellsOf cells) f
@@ -72,7 +73,7 @@ as-many-lines r vs ws n e h = go (eqb (r .column) 0) e
 
 -- ---- with the recording
 
-module _ (script : List ℕ) (ls : List Line) (size : ℕ) (ok : translated base script ≡ accepted ls size) where
+module _ (script : List ℕ) (ls : List Line) (size : ℕ) (ok : Held base script ls size) where
   room-for : (memory : List ℕ) → 2 * takes script ≤ length memory → (ms : List Line) (k : ℕ) → readList base (listText ls size) ≡ listed ms k → listTakes ms ≤ length (cellsOf memory)
   room-for memory h ms k e =
       let b = reads script ls size ok in

@@ -16,6 +16,7 @@ use Rattle.rules.specs.Text.{listText}
 use Rattle.rules.specs.Entries.{translated, listLeft, translateEntry, overFront, loadsText, cellsOf, oddByte, bytesOf, ran, Running, runLeft, ranOn, runEntry}
 use Rattle.translate.specs.Whole as translate
 use Rattle.translate.proofs.Numbers.{Comes, to-list, to-stop, comes}
+use Rattle.rules.proofs.Bytes.{Held, held-base}
 use Rattle.rules.proofs.SampleCells.{cells-length}
 use Rattle.demand3.specs.Promises.{TranslatePromise, RunPromise, Accepts, means, takes, PrintsMeaning, Above, Shows, Demand3Code}
 use Rattle.demand3.proofs.Reported.{text-reports, reports-one}
@@ -68,7 +69,7 @@ left-ran x n cells out h =
     rw (le-leb (length (loadsText (x .loaded))) (length out) (omega arith), if_then_else_)
     (ap (λ (k : ℕ). record { answer = k; cells = bytesOf (x .cells) ++ oddByte cells; out = overFront (loadsText (x .loaded)) out }) l)
 
-module _ (script : List ℕ) (ls : List Line) (size : ℕ) (ok : translated base script ≡ accepted ls size) where
+module _ (script : List ℕ) (ls : List Line) (size : ℕ) (ok : Held base script ls size) where
   larger : takes script ≡ 0 → (cells out : List ℕ) → 2 * size ≤ length cells → 7 * length (means script []) ≤ length out
       → (a : ℕ) (cells′ out′ : List ℕ) → RunPromise (listText ls size) cells out a cells′ out′ → PrintsMeaning script [] out a out′ × Above size cells cells′
   unfolding runEntry ranOn
@@ -82,7 +83,7 @@ module _ (script : List ℕ) (ls : List Line) (size : ℕ) (ok : translated base
         above-by script ls size ok 0 [] q q cells f cells′ (run .cells-left ∙ ap (λ (l : Running). l .cells) e),
       )
 
-  shows : Shows script (listText ls size)
+  pub shows : Shows script (listText ls size)
   shows =
       record {
         size = size;
@@ -100,4 +101,4 @@ pub demand3-code : Demand3Code
 unfolding Demand3Code
 demand3-code script list r list′ h k =
     let l = listed-by script list r list′ h k in
-    subst (Shows script) (sym (l .is)) (shows script (l .lines) (l .size) (l .ok))
+    subst (Shows script) (sym (l .is)) (shows script (l .lines) (l .size) (held-base script (l .lines) (l .size) (l .ok)))

@@ -4,3 +4,4 @@ pub mod Ran
 pub mod Beside
 pub mod Demand3
 pub mod Together
+pub mod Agreed

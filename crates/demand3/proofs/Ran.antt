@@ -1,4 +1,5 @@
--- A run of the list of an accepted script: with samples enough it comes to 17 or to the script's meaning, otherwise to 23. Assumes nothing.
+-- A run of a list of which demand 3 holds, as of that of an accepted script: with samples enough it comes to 17 or to the script's meaning,
+-- otherwise to 23. Assumes nothing.
 use mathlib.Core.Path.{_≡_, refl, sym, ap, _∙_}
 use mathlib.Core.Option.{Option, none, some}
 use mathlib.Core.List.{List, [], _++_}
@@ -7,26 +8,28 @@ use native.Mathlib.Omega.{arith}
 use lib.ListN.{length, replicate, drop}
 use borrow.Author.Tests.{le-ltb, lt-ltb}
 use Rattle.rules.specs.Sizes.{base}
-use Rattle.rules.specs.Frames.{Line, accepted}
+use Rattle.rules.specs.Slots.{placing}
+use Rattle.rules.specs.Frames.{Line}
 use Rattle.rules.specs.Meaning.{Ran, obey, high, listTakes, lacking}
-use Rattle.rules.specs.Text.{listText, listed, readList}
+use Rattle.rules.specs.Text.{readScript, listText, listed, readList}
 use Rattle.rules.specs.Recordings.{recorded}
-use Rattle.rules.specs.Entries.{translated, ran, stopped, runSampled, runListed, recordedOn}
-use Rattle.rules.specs.Demand3.{Demand3Bytes, Runs}
-use Rattle.rules.proofs.Bytes.{held-base, bytes-base, takes-base}
+use Rattle.rules.specs.Entries.{ran, stopped, runSampled, runListed, recordedOn}
+use Rattle.rules.specs.Demand3.{Runs, scriptMeaning, scriptTakes}
+use Rattle.rules.proofs.Bytes.{Held, runs as run-of}
 use Rattle.rules.proofs.Taking.{enough}
 use Rattle.demand3.specs.Promises.{means, takes}
 
-module _ (script : List ℕ) (ls : List Line) (size : ℕ) (ok : translated base script ≡ accepted ls size) where
+module _ (script : List ℕ) (ls : List Line) (size : ℕ) (ok : Held base script ls size) where
   pub reads : readList base (listText ls size) ≡ listed ls size
-  reads = held-base script ls size ok .back
+  reads = ok .back
 
   -- no 20 in it
   pub below : high size 0 ls ≡ none
-  below = held-base script ls size ok .holds .inside
+  below = ok .holds .inside
 
   pub as-many : listTakes ls ≡ takes script
-  as-many = takes-base script ls size ok
+  unfolding scriptTakes
+  as-many = rw (ok .read, scriptTakes) (ok .holds .samples)
 
   pub lacks : (cells : List ℕ) (n i : ℕ) (vs : List ℕ) → lacking 0 n ls ≡ some i → recordedOn base cells (recorded n vs) (listText ls size) ≡ stopped 23 i
   unfolding recordedOn runListed
@@ -54,8 +57,10 @@ module _ (script : List ℕ) (ls : List Line) (size : ℕ) (ok : translated base
           (ap (λ (k : ℕ). ran worked (n - k)) as-many)
 
       runs : Runs base size cells (recorded n vs) (listText ls size) (means script vs) (n - takes script)
-      unfolding Demand3Bytes
-      runs = bytes-base script ls size ok cells h n vs many kept
+      unfolding scriptMeaning scriptTakes
+      runs =
+          rw (ok .read, scriptMeaning, scriptTakes)
+          (run-of base (placing (base .segments) (readScript base script .place)) (ok .script-frames) ls size cells (listText ls size) n vs (ok .holds) h (rw (ok .read, scriptTakes) at many) (rw (ok .read, scriptTakes) at kept) (ok .back))
 
       pub loaded : worked .loaded ≡ means script vs
       loaded = let x = ran-on in let y = runs .runs in cc

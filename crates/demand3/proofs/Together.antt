@@ -18,6 +18,7 @@ use Rattle.translate.specs.Whole as translate
 use Rattle.text.proofs.Halves.{by-number}
 use Rattle.translate.proofs.Numbers.{Comes, to-list, to-stop, Halves, count, number, translate-halves}
 use Rattle.machine.specs.Machine.{Leaves, Bytes, refusal}
+use Rattle.rules.proofs.Bytes.{Held, held-base}
 use Rattle.rules.proofs.SampleCells.{cells-length}
 use Rattle.machine.proofs.Answer as machine
 use Rattle.demand3.specs.Promises.{TranslatePromise, RunPromise, Accepts, means, takes, PrintsMeaning}
@@ -34,7 +35,7 @@ left-short : (x : Ran) (n : ℕ) (cells out : List ℕ) → length out < 7 * len
 unfolding runLeft if_then_else_
 left-short x n cells out h = rw (lt-leb (length (loadsText (x .loaded))) (length out) (omega (arith, text-length (x .loaded))), if_then_else_)
 
-module _ (script : List ℕ) (ls : List Line) (size : ℕ) (ok : translated base script ≡ accepted ls size) (cells out : List ℕ) (bytes : Bytes cells) where
+module _ (script : List ℕ) (ls : List Line) (size : ℕ) (ok : Held base script ls size) (cells out : List ℕ) (bytes : Bytes cells) where
   -- with cells enough: 17 for out, or the work
   roomy : (x : Ran) (n : ℕ) → x .loaded ≡ means script [] → bytesOf (x .cells) ++ oddByte cells ≡ overFront (frameAfter ls size) cells
       → runLeft (ran x n) cells out ≡ (if leb (7 * length (means script [])) (length out) then worked ls size (means script []) cells out else refusal 17 0 cells out)
@@ -91,7 +92,7 @@ module _ (script page : List ℕ) (r : ℕ) (page′ : List ℕ) (said : Transla
       let l = listed-by script page r page′ said k in
       subst (λ (x : Running). Leaves x a cells′ out′)
       (ap (λ (t : List ℕ). runEntry base t cells out) (l .is)
-      ∙ run-is script (l .lines) (l .size) (l .ok) cells out bytes
+      ∙ run-is script (l .lines) (l .size) (held-base script (l .lines) (l .size) (l .ok)) cells out bytes
       ∙ ap (λ (o : Outcome). togetherOn o (means script []) cells out) (sym (l .ok)))
       run
 
@@ -136,4 +137,4 @@ together-answer script cells out bytes = go (translated base script) refl (come 
   where
     go : (o : Outcome) → translated base script ≡ o → Comes o → machine.HalvesOf cells out 23 2048 (togetherOn o (means script []) cells out)
     go _ e (to-stop n i a b c) = by-number _ _ _ _ _ n i (omega arith) a (omega arith) c (refl, refl)
-    go _ e (to-list {ls = ls} {size = size} a) = subst (machine.HalvesOf cells out 23 2048) (run-is script ls size e cells out bytes) (machine.run-halves 23 (omega arith) base (omega arith) (omega arith) (listText ls size) cells out)
+    go _ e (to-list {ls = ls} {size = size} a) = subst (machine.HalvesOf cells out 23 2048) (run-is script ls size (held-base script ls size e) cells out bytes) (machine.run-halves 23 (omega arith) base (omega arith) (omega arith) (listText ls size) cells out)

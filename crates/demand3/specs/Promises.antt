@@ -1,6 +1,6 @@
 -- Demand 3 over the code: "Any accepted script, translated and run on a zeroed frame of exactly the reported size, prints what the script means ..; no
 -- load or store falls outside the frame", stated over the promises of translate and run as their contracts have them; and with a recording
--- (W-205), over those of read_recording and run_recorded. Assumes nothing.
+-- (W-205), over those of read_recording and run_recorded; and of a list from elsewhere (W-203), over that of agrees. Assumes nothing.
 use mathlib.Core.Path.{_≡_}
 use mathlib.Core.Option.{none}
 use mathlib.Core.List.{List, [], _∷_, _++_}
@@ -13,6 +13,7 @@ use Rattle.rules.specs.Text.{lineText, listed, readList}
 use Rattle.rules.specs.Recordings.{recording, recorded}
 use Rattle.rules.specs.Entries.{overFront, loadsText, translateEntry, cellsOf, oddByte, runEntry, readEntry, recordedEntry, bytes4}
 use Rattle.rules.specs.Demand3.{scriptMeaning, scriptTakes}
+use Rattle.rules.specs.Suppliers.{verdict, verdictAnswer}
 use Rattle.translate.specs.Whole as translate
 use Rattle.machine.specs.Machine as machine
 use Rattle.machine.specs.Recorded.{LeavesAll}
@@ -79,7 +80,7 @@ pub record Above (size : ℕ) (cells cells′ : List ℕ) : Type 0 where
 
 -- ---- the statement
 
--- of the list that translate left for the script: whatever run's promise admits
+-- of a list for the script, be it translate's or one that agrees answers by 1: whatever run's promise admits
 pub record Shows (script list : List ℕ) : Type 0 where
   pub size : ℕ
   pub reported : Reports list size
@@ -101,3 +102,13 @@ pub record Shows (script list : List ℕ) : Type 0 where
 -- for every script that translate accepts, whatever its promise admits: the list is as many bytes as the answer counts
 unfoldable pub Demand3Code : Type 0
 Demand3Code = (script list : List ℕ) (r : ℕ) (list′ : List ℕ) → TranslatePromise script list r list′ → Accepts r → Shows script (take r list′)
+
+-- ---- W-203: "What it says yes to prints, when run, what the script means."
+
+-- agrees may answer r
+abbrev pub AgreesPromise : List ℕ → List ℕ → ℕ → Type 0
+AgreesPromise script list r = r ≡ verdictAnswer (verdict base script list)
+
+-- of every list that is answered by 1, as of one that translate left
+unfoldable pub AgreedCode : Type 0
+AgreedCode = (script list : List ℕ) (r : ℕ) → AgreesPromise script list r → r ≡ 1 → Shows script list
