@@ -1,4 +1,4 @@
-// The entries in which the edition is a value: by the head (edition 1), or the lowest clear slot of all (edition 2).
+// The entries in which the place is a value: by the head (edition 1), the lowest clear slot of all (edition 2), or exactly at an address.
 use crate::call;
 use crate::show;
 use allocator::addresses;
@@ -9,12 +9,14 @@ use needs::Need;
 use scopes::ScopeId;
 use scopes::Scopes;
 use slots::Place;
+use slots::SlotAddress;
 
 fn called(words: &[u8], place: Place) {
     show::text(words);
     match place {
         Place::ByHead => show::text(b", by head:"),
         Place::Lowest => show::text(b", lowest:"),
+        Place::ExactlyAt(_) => show::text(b", exactly:"),
     }
 }
 
@@ -104,11 +106,20 @@ fn full() {
     t = alloc_in(t, call::id(1, 1), Place::Lowest);
 }
 
-pub fn both() {
+// Slot 2 is held, and so is 131, the second of a run from 130 on; there is no slot 1,024.
+fn no_room(s: Scopes) {
+    let mut t = alloc(s, Place::ExactlyAt(SlotAddress(2)));
+    t = linear(s, 2, Place::ExactlyAt(SlotAddress(130)));
+    t = alloc(s, Place::ExactlyAt(SlotAddress(1024)));
+}
+
+pub fn all() {
     let s = gaps();
     each(s, Place::ByHead);
     each(s, Place::Lowest);
+    each(s, Place::ExactlyAt(SlotAddress(0)));
     by_turns(s);
+    no_room(s);
     full();
 }
 

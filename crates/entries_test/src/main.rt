@@ -113,7 +113,7 @@ fn main() {
     s = closed(s);
     needing::alone();
     needing::with_state(scopes::fresh());
-    editions::both();
+    editions::all();
     s = turned_away(unsound());
     turned_away_too(s);
     editions::turned_away(unsound());
