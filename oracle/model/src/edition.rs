@@ -1,10 +1,10 @@
-//! W-211 of document 02: the two editions, and the line that names the second.
+//! W-211 of document 02: the two editions, and the line that names the second; and the placement of W-203, which no line names.
 
 use crate::fault::{Fault, Plant};
 use crate::list::write_line;
 use crate::{Frame, Line};
 
-/// How an insert chooses its slot.
+/// Where an allocation goes: how an insert chooses its slot, and of the last one also where a run begins.
 #[derive(Clone, Copy, Debug, Default, PartialEq, Eq)]
 pub enum Placement {
     /// edition 1, of document 01: the head's segment comes first
@@ -12,6 +12,8 @@ pub enum Placement {
     ByHead,
     /// edition 2: "the lowest clear slot of all, whatever was removed last"
     Lowest,
+    /// where a list from elsewhere shows it (W-203), a run from there on
+    Exactly(usize),
 }
 
 const TITLE: u8 = 0xf0;

@@ -2,7 +2,7 @@
 
 /// Each is a mistake that a reader of 01 or 02 may make; the first four are 01's "tempting and wrong". `ClearLeavesHead` is 01's own
 /// first wording of `remove`, which W-202 amends: no script shows it, only bare slots do. From `NeedHandleFreed` on they are of needs,
-/// from `SampleUnwritten` on of samples and recordings, from `TightFromHead` on of edition 2. That edition 1 is placed tightly is
+/// from `SampleUnwritten` on of samples and recordings, from `TightFromHead` on of edition 2, from `SizeUnseen` on of lists from elsewhere. That edition 1 is placed tightly is
 /// `SearchFromZero`. `TightKeepsHead` is shown by no script either: no insert of edition 2 looks at the head.
 #[derive(Clone, Copy, Debug, PartialEq, Eq)]
 pub enum Fault {
@@ -84,13 +84,45 @@ pub enum Fault {
     TitleLeftOut,
     /// the frame machine doesn't know the title
     TitleUnread,
+    /// a list's size isn't looked at
+    SizeUnseen,
+    /// .. or has to be just what is needed
+    SizeExact,
+    /// the value of a 10 isn't compared
+    ValueUnseen,
+    /// the list may go on behind the script's last frame
+    LinesTooMany,
+    /// .. or end before it
+    LinesTooFew,
+    /// the title may stand on one text only
+    TitleOnOne,
+    /// what our rules refuse is looked at all the same
+    RefusedPasses,
+    /// .. or answered with its number, in the place of no
+    RefusalGiven,
+    /// a slot is given while another allocation holds it
+    GivenWhileHeld,
+    /// of a run only the first slot is looked at
+    RunByFirst,
+    /// a drain line is ours, not one of the list's own addresses
+    DrainOfOurs,
+    /// the addresses of a drain may stand in any order
+    DrainUnordered,
+    /// a name shows the address that it has in our list
+    NameOfOurs,
+    /// a read may show any address
+    ReadUnseen,
+    /// a need shows any address in the place of `ffff`
+    NoneUnseen,
+    /// a refusal of the list comes before one of the script
+    ListFirst,
 }
 
 /// At most one fault.
 pub type Plant = Option<Fault>;
 
 /// All faults by the name that `--plant` takes.
-pub const FAULTS: [(&str, Fault); 48] = [
+pub const FAULTS: [(&str, Fault); 64] = [
     ("search-from-zero", Fault::SearchFromZero),
     ("run-in-gap", Fault::RunInGap),
     ("low-half", Fault::LowHalf),
@@ -139,6 +171,22 @@ pub const FAULTS: [(&str, Fault); 48] = [
     ("title-unnumbered", Fault::TitleUnnumbered),
     ("title-left-out", Fault::TitleLeftOut),
     ("title-unread", Fault::TitleUnread),
+    ("size-unseen", Fault::SizeUnseen),
+    ("size-exact", Fault::SizeExact),
+    ("value-unseen", Fault::ValueUnseen),
+    ("lines-too-many", Fault::LinesTooMany),
+    ("lines-too-few", Fault::LinesTooFew),
+    ("title-on-one", Fault::TitleOnOne),
+    ("refused-passes", Fault::RefusedPasses),
+    ("refusal-given", Fault::RefusalGiven),
+    ("given-while-held", Fault::GivenWhileHeld),
+    ("run-by-first", Fault::RunByFirst),
+    ("drain-of-ours", Fault::DrainOfOurs),
+    ("drain-unordered", Fault::DrainUnordered),
+    ("name-of-ours", Fault::NameOfOurs),
+    ("read-unseen", Fault::ReadUnseen),
+    ("none-unseen", Fault::NoneUnseen),
+    ("list-first", Fault::ListFirst),
 ];
 
 impl Fault {

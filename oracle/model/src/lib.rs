@@ -11,9 +11,10 @@ mod recording;
 mod scopes;
 mod session;
 mod slots;
+mod supplier;
 mod text;
 
-pub use edition::{Placement, Script};
+pub use edition::{is_titled, title, Placement, Script};
 pub use fault::{Fault, Plant, FAULTS};
 pub use frame::{Frame, Source};
 pub use list::{print_refusal, write_list, Line};
@@ -26,6 +27,7 @@ pub use session::{
     play, play_script, translate, translate_with, translator, translator_with, NeedNumber, Session,
 };
 pub use slots::{Slots, SEGMENT, SEGMENTS, SLOTS};
+pub use supplier::{agrees, agrees_with, checker, verdict, verdict_with, Flaw, Verdict, Why};
 pub use text::read_script;
 
 /// "Scripts: 2,048 frames, 2,048 handles."

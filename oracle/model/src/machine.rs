@@ -36,7 +36,7 @@ pub fn read_list(text: &[u8]) -> Result<(Vec<Line>, usize), Refusal> {
     read_list_with(text, None)
 }
 
-fn read_list_with(text: &[u8], plant: Plant) -> Result<(Vec<Line>, usize), Refusal> {
+pub(crate) fn read_list_with(text: &[u8], plant: Plant) -> Result<(Vec<Line>, usize), Refusal> {
     let raw = split(text);
     let mut lines = Vec::new();
     for (i, line) in raw.iter().enumerate() {

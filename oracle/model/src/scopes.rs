@@ -150,8 +150,23 @@ impl Scopes {
         Ok(address)
     }
 
+    /// The n ≥ 2 slots of a run, owner top; 7
+    pub fn run(&mut self, owner: Id, n: usize) -> Result<Vec<usize>, u8> {
+        match self.slots.placement() {
+            Placement::Exactly(first) => self.run_at(owner, first, n),
+            _ => self.push(owner, n),
+        }
+    }
+
+    fn run_at(&mut self, owner: Id, first: usize, n: usize) -> Result<Vec<usize>, u8> {
+        self.slots.take_run(first, n).ok_or(7)?;
+        let run: Vec<usize> = (first..first + n).collect();
+        run.iter().for_each(|address| self.gain(owner, *address));
+        Ok(run)
+    }
+
     /// "n ≥ 2 pushes n times, owner top, refused (7) exactly if g + n > 1,024"
-    pub fn push(&mut self, owner: Id, n: usize) -> Result<Vec<usize>, u8> {
+    fn push(&mut self, owner: Id, n: usize) -> Result<Vec<usize>, u8> {
         if self.slots.past_greatest() + n > SLOTS {
             return Err(7);
         }

@@ -63,6 +63,12 @@ impl Session {
         self.handles.len()
     }
 
+    /// The handle that holds a slot.
+    pub fn holder(&self, address: usize) -> Option<usize> {
+        let holds = |h: &Handle| h.held && h.address == address;
+        self.handles.iter().position(holds)
+    }
+
     /// Is the handle's slot held?
     pub fn holds(&self, handle: usize) -> bool {
         self.handles.get(handle).is_some_and(|h| h.held)
@@ -169,7 +175,7 @@ impl Session {
             return self.alloc();
         }
         self.room_for(n)?;
-        let run = self.scopes.push(top, n)?;
+        let run = self.scopes.run(top, n)?;
         for address in &run {
             self.hand_out(*address, top, Kind::Dangling);
         }

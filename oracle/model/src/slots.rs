@@ -1,4 +1,4 @@
-//! Document 01, "Slots"; `remove` as W-202 of document 02 amends it, and `insert` of edition 2 by W-211.
+//! Document 01, "Slots"; `remove` as W-202 of document 02 amends it, `insert` of edition 2 by W-211, and W-203's slots where a list shows them.
 
 use crate::edition::Placement;
 use crate::fault::{Fault, Plant};
@@ -32,6 +32,15 @@ impl Slots {
         }
     }
 
+    /// Where the allocations from here on go.
+    pub fn place(&mut self, placement: Placement) {
+        self.placement = placement;
+    }
+
+    pub fn placement(&self) -> Placement {
+        self.placement
+    }
+
     /// L.
     pub fn length(&self) -> usize {
         self.length
@@ -61,18 +70,27 @@ impl Slots {
         match self.placement {
             Placement::ByHead => self.insert_by_head(),
             Placement::Lowest => self.insert_lowest(),
+            Placement::Exactly(address) => self.take_run(address, 1),
         }
     }
 
-    /// W-211: "insert gives the lowest clear slot of all, whatever was removed last, L grows to take in its segment, and H becomes it".
-    /// No later answer depends on this L and H: no insert looks at them, and a slot past L is clear, which `remove` says no to anyway.
-    fn insert_lowest(&mut self) -> Option<usize> {
-        let first = match self.plant {
-            Some(Fault::TightFromHead) => SEGMENT * self.head.min(self.length),
-            Some(Fault::TightFromOne) => 1,
-            _ => 0,
+    /// W-203: "each run is consecutive, no slot is given while another allocation holds it": the n slots from an address on, of which the first
+    /// is answered.
+    pub fn take_run(&mut self, first: usize, n: usize) -> Option<usize> {
+        let looked_at = match self.plant {
+            Some(Fault::GivenWhileHeld) => 0,
+            Some(Fault::RunByFirst) => 1,
+            _ => n,
         };
-        let address = (first..SLOTS).find(|a| !self.occupied[*a])?;
+        if first + n > SLOTS || (first..first + looked_at).any(|a| self.occupied[a]) {
+            return None;
+        }
+        (first..first + n).for_each(|a| self.take_at(a));
+        Some(first)
+    }
+
+    /// "L grows to take in its segment, and H becomes it"
+    fn take_at(&mut self, address: usize) {
         let segment = address / SEGMENT;
         self.occupied[address] = true;
         if self.plant != Some(Fault::TightKeepsLength) {
@@ -81,6 +99,18 @@ impl Slots {
         if self.plant != Some(Fault::TightKeepsHead) {
             self.head = segment;
         }
+    }
+
+    /// W-211: "insert gives the lowest clear slot of all, whatever was removed last".
+    /// No later answer depends on this L and H: no insert looks at them, and a slot past L is clear, which `remove` says no to anyway.
+    fn insert_lowest(&mut self) -> Option<usize> {
+        let first = match self.plant {
+            Some(Fault::TightFromHead) => SEGMENT * self.head.min(self.length),
+            Some(Fault::TightFromOne) => 1,
+            _ => 0,
+        };
+        let address = (first..SLOTS).find(|a| !self.occupied[*a])?;
+        self.take_at(address);
         Some(address)
     }
 

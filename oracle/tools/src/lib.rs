@@ -1,5 +1,6 @@
 //! The comparison of ours with the original: who is asked, what is asked, and how answers are judged.
 
+pub mod agreement;
 pub mod args;
 pub mod bare;
 pub mod bare_calls;
@@ -18,8 +19,10 @@ pub mod linked_checks;
 #[cfg(feature = "linked")]
 pub mod linked_slots;
 pub mod lists;
+pub mod meaning;
 pub mod ours;
 pub mod phases;
+pub mod placements;
 pub mod profile;
 pub mod random;
 pub mod recorded;
@@ -28,5 +31,6 @@ pub mod records;
 pub mod rng;
 pub mod sessions;
 pub mod shrink;
+pub mod suppliers;
 pub mod tally;
 pub mod tight;

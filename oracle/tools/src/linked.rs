@@ -1,5 +1,6 @@
 //! The proved functions themselves, linked: a call a text, with no process between.
 
+use crate::agreement::Checker;
 use crate::ours::Ours;
 use crate::recorded::Recorder;
 use mboxalind::Answer;
@@ -14,6 +15,11 @@ const ROOM: usize = BUFFER;
 fn refusal(number: u8, line: u32) -> Vec<u8> {
     let line = line as usize;
     print_refusal(Refusal { number, line })
+}
+
+/// As the exported function answers it.
+fn answered(refusal: mboxalind::Refusal) -> u64 {
+    (u64::from(refusal.number) << 32) + u64::from(refusal.line)
 }
 
 /// What a program over the function would print; a word instead where lent memory was touched beyond the answer.
@@ -110,11 +116,41 @@ impl Recorder for Recorded {
         let Lent { cells, out, left } = lent;
         match mboxalind::run_recorded(list, state, samples, cells, out, left) {
             Answer::Written(bytes) => bytes as u64,
-            Answer::Refused(r) => (u64::from(r.number) << 32) + u64::from(r.line),
+            Answer::Refused(r) => answered(r),
         }
     }
 
     fn name(&self) -> String {
         "read_recording and run_recorded, linked".into()
+    }
+}
+
+/// `agrees`, and the functions of recordings to run lists.
+pub struct Agrees;
+
+impl Checker for Agrees {
+    fn agrees(&mut self, script: &[u8], list: &[u8]) -> u64 {
+        match mboxalind::agrees(script, list) {
+            Ok(yes) => u64::from(yes),
+            Err(unread) => answered(unread.refusal),
+        }
+    }
+
+    fn prints(&mut self, list: &[u8], recording: &[u8]) -> Vec<u8> {
+        let (mut cells, mut out) = ([LENT; 2 * SLOTS], vec![LENT; ROOM]);
+        let mut fed = mboxalind::Recording::default();
+        fed.feed(recording);
+        match fed.run(list, &mut cells, &mut out) {
+            Ok(ran) => {
+                out.truncate(ran.bytes);
+                out.extend_from_slice(format!("a1{:08x}\n", ran.left).as_bytes());
+                out
+            }
+            Err(r) => refusal(r.number, r.line),
+        }
+    }
+
+    fn name(&self) -> String {
+        "agrees, linked".into()
     }
 }

@@ -15,6 +15,9 @@ fn number(call: &Call, placement: Placement) -> u16 {
     match (call, placement) {
         (Call::Insert, Placement::ByHead) => 65535,
         (Call::Insert, Placement::Lowest) => 65533,
+        (Call::Insert, Placement::Exactly(_)) => {
+            panic!("no call of bare slots is given an address")
+        }
         (Call::Push, _) => 65534,
         (Call::Remove(a), _) => (*a).min(65532) as u16,
     }

@@ -67,24 +67,24 @@ impl Program {
     }
 }
 
-/// The run program with a recording: `PROGRAM LIST RECORDING`, two files in a folder for this process alone.
-pub struct RecordedProgram {
+/// A program that takes two files, in a folder for this process alone: `PROGRAM LIST RECORDING`, `PROGRAM SCRIPT LIST`.
+pub struct PairProgram {
     words: Vec<String>,
     folder: PathBuf,
 }
 
-impl RecordedProgram {
+impl PairProgram {
     pub fn new(command: &str) -> Self {
-        let folder = std::env::temp_dir().join(format!("recordings-{}", std::process::id()));
-        std::fs::create_dir_all(&folder).expect("a folder for a list and a recording");
-        RecordedProgram {
+        let folder = std::env::temp_dir().join(format!("texts-{}", std::process::id()));
+        std::fs::create_dir_all(&folder).expect("a folder for two texts");
+        PairProgram {
             words: Program::new(command).words,
             folder,
         }
     }
 
-    /// What is printed for a list and a recording.
-    pub fn answer(&self, list: &[u8], recording: &[u8]) -> Vec<u8> {
+    /// What is printed for two texts.
+    pub fn answer(&self, first: &[u8], second: &[u8]) -> Vec<u8> {
         let file = |name: &str, bytes: &[u8]| {
             let path = self.folder.join(name);
             std::fs::write(&path, bytes).expect("a file is written");
@@ -92,14 +92,14 @@ impl RecordedProgram {
         };
         let output = Command::new(&self.words[0])
             .args(&self.words[1..])
-            .args([file("list", list), file("recording", recording)])
+            .args([file("first", first), file("second", second)])
             .stdin(Stdio::null())
             .output();
         output.expect("the program ends").stdout
     }
 }
 
-impl Drop for RecordedProgram {
+impl Drop for PairProgram {
     fn drop(&mut self) {
         let _ = std::fs::remove_dir_all(&self.folder);
     }

@@ -77,8 +77,8 @@ fn by_profile(rng: &mut Rng, profiles: &'static [Profile], placement: Placement)
     let profile = &profiles[rng.below(profiles.len())];
     // the title takes a frame's place
     let frames = match placement {
-        Placement::ByHead => length(rng),
         Placement::Lowest => length(rng).min(LINES - 1),
+        _ => length(rng),
     };
     let inside = !rng.once_in(10);
     let mut maker = Maker {

@@ -1,7 +1,7 @@
 //! Recordings and the runs beside them, ours against the model: the state and the kept samples after all parts, then the answer and all that was
 //! lent. The original has neither.
 
-use crate::ours::RecordedProgram;
+use crate::ours::PairProgram;
 use crate::recordings::{self, Case};
 use crate::rng::Rng;
 use crate::shrink::shrink_lines;
@@ -208,7 +208,7 @@ pub fn by_chance(
 }
 
 /// The same lists and recordings, whole, to the run program. The first that it takes otherwise than the model, and what it printed.
-pub fn by_program(program: &RecordedProgram, count: u64, seed: u64) -> Option<(Case, Vec<u8>)> {
+pub fn by_program(program: &PairProgram, count: u64, seed: u64) -> Option<(Case, Vec<u8>)> {
     let mut rng = Rng::new(seed);
     let mut cases = (0..count).map(|_| recordings::case(&mut rng));
     cases.find_map(|case| {

@@ -1,35 +1,10 @@
 //! W-205, demand 3 by chance: a script that is accepted, translated and run beside a recording with samples enough, loads what it means "with
 //! those samples in order, each used once", if each allocation had a box of its own. W-211: so it does in either edition.
 
-use model::{Frame, Script, Session, Source};
+use model::Script;
+use oracle::meaning::meaning;
 use oracle::random;
 use oracle::rng::Rng;
-
-/// What the script prints by its boxes, and how many samples it takes; none where it is refused.
-fn meaning(script: &Script, samples: &[u16]) -> Option<(String, usize)> {
-    let mut session = Session::new(script.placement, None);
-    let (mut boxes, mut taken) = (vec![0; model::HANDLES], 0);
-    let mut printed = String::new();
-    for frame in &script.frames {
-        let read = match frame {
-            Frame::Read(handle) => Some(usize::from(*handle)),
-            Frame::ReadName(name) => session.scopes.get(*name).ok().map(|b| b.handle),
-            _ => None,
-        };
-        session.step(*frame).ok()?;
-        if let Frame::Write { handle, source } = frame {
-            boxes[usize::from(*handle)] = match source {
-                Source::Constant(value) => *value,
-                Source::NextSample => samples[taken],
-            };
-            taken += usize::from(*source == Source::NextSample);
-        }
-        if let Some(handle) = read {
-            printed += &format!("a0{:04x}\n", boxes[handle]);
-        }
-    }
-    Some((printed, taken))
-}
 
 /// What a host prints that translates the script and runs its list beside the recording.
 fn printed(script: &[u8], recording: &[u8]) -> Vec<u8> {

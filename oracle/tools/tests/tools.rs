@@ -207,6 +207,7 @@ fn faults_of_edition_2_are_found() {
     let of_edition_2 = FAULTS
         .iter()
         .skip_while(|(_, f)| *f != Fault::TightFromHead)
+        .take_while(|(_, f)| *f != Fault::SizeUnseen)
         .filter(|(_, f)| *f != Fault::TitleBesideLimit);
     for (name, fault) in of_edition_2 {
         let mut comparison = Comparison::new(Box::new(Model(Some(*fault))), BOTH);

@@ -1,4 +1,5 @@
-//! The model as the two programs: `answer translate` and `answer run`, each from its input to its output; `answer run LIST RECORDING`.
+//! The model as our programs: `answer translate` and `answer run`, each from its input to its output; `answer run LIST RECORDING` and
+//! `answer check SCRIPT LIST`.
 
 use oracle::args::Args;
 use std::io::{Read, Write};
@@ -8,6 +9,9 @@ fn main() {
     let printed = match (Args::new().first(), file(2), file(3)) {
         (Some("run"), Some(list), Some(recording)) => {
             model::recorded_runner(&list.expect("a list"), &recording.expect("a recording"))
+        }
+        (Some("check"), Some(script), Some(list)) => {
+            model::checker(&script.expect("a script"), &list.expect("a list"))
         }
         (Some("run"), ..) => model::runner(&input()),
         _ => model::translator(&input()),

@@ -1,12 +1,13 @@
 //! Ours against the original and the model, at scale. See oracle/README.md for the options.
 
 use model::{Fault, Frame, Placement, Plant};
+use oracle::agreement::{self, Checker};
 use oracle::args::Args;
 use oracle::bare::{model_rows, Player};
 use oracle::comparison::{Comparison, Found};
-use oracle::judge::{Against, ORIGINAL_FAULTS};
+use oracle::judge::{Against, OriginalFault, ORIGINAL_FAULTS};
 use oracle::known::known;
-use oracle::ours::{Model, Ours, Program, RecordedProgram};
+use oracle::ours::{Model, Ours, PairProgram, Program};
 use oracle::recorded::{self, Modelled, Recorder};
 use oracle::{editions, every, phases, random};
 use std::process::ExitCode;
@@ -17,6 +18,7 @@ struct Plan {
     against: Against,
     program: Option<String>,
     runner: Option<String>,
+    checker: Option<String>,
     linked: bool,
     every: usize,
     wide: usize,
@@ -32,17 +34,24 @@ struct Plan {
     bare_every: usize,
     lists: u64,
     recordings: u64,
+    suppliers: u64,
+    suppliers_every: usize,
     seed: u64,
 }
 
 /// A fault of the model, or of what the original answered.
-fn plan(args: &Args) -> Plan {
+fn planted(args: &Args) -> (Plant, Option<OriginalFault>) {
     let name = args.value("--plant");
     let plant = name.and_then(Fault::named);
     let original = ORIGINAL_FAULTS.iter().find(|(n, _)| Some(*n) == name);
     if let (Some(name), None, None) = (name, plant, original) {
         panic!("no fault is called {name}");
     }
+    (plant, original.map(|(_, fault)| *fault))
+}
+
+fn plan(args: &Args) -> Plan {
+    let (plant, original) = planted(args);
     let program = args.value("--program").map(String::from);
     // A process a script takes its time: fewer of them.
     let (every, random, few) = match program {
@@ -55,10 +64,11 @@ fn plan(args: &Args) -> Plan {
         against: Against {
             original: whom != "model",
             model: whom != "original",
-            plant: original.map(|(_, fault)| *fault),
+            plant: original,
         },
         program,
         runner: args.value("--runner").map(String::from),
+        checker: args.value("--checker").map(String::from),
         linked: args.flag("--linked"),
         every: args.number("--every", every) as usize,
         wide: args.number("--wide", every - 1) as usize,
@@ -74,6 +84,8 @@ fn plan(args: &Args) -> Plan {
         bare_every: args.number("--bare-every", 2) as usize,
         lists: args.number("--lists", few),
         recordings: args.number("--recordings", few),
+        suppliers: args.number("--suppliers", few),
+        suppliers_every: args.number("--suppliers-every", every - 2) as usize,
         seed: args.number("--seed", 1),
     }
 }
@@ -327,7 +339,7 @@ fn recorded_program(plan: &Plan) -> usize {
     let Some(command) = &plan.runner else {
         return 0;
     };
-    let program = RecordedProgram::new(command);
+    let program = PairProgram::new(command);
     let differs = recorded::by_program(&program, plan.recordings, plan.seed);
     println!("{} lists with recordings to {command}", plan.recordings);
     if let Some((case, printed)) = &differs {
@@ -339,10 +351,70 @@ fn recorded_program(plan: &Plan) -> usize {
     differs.into_iter().count()
 }
 
+/// The linked function that says yes or no.
+#[cfg(feature = "linked")]
+fn linked_checker() -> Box<dyn Checker> {
+    Box::new(oracle::linked::Agrees)
+}
+
+#[cfg(not(feature = "linked"))]
+fn linked_checker() -> Box<dyn Checker> {
+    panic!("--linked needs the archive: cargo run --release --features linked")
+}
+
+/// Lists from elsewhere: the linked function, or the model, by itself or with a fault.
+fn suppliers(plan: &Plan) -> usize {
+    let mut ours: Box<dyn Checker> = match plan.linked {
+        true => linked_checker(),
+        false => Box::new(agreement::Modelled(plan.plant)),
+    };
+    let longest = plan.suppliers_every;
+    let found = [
+        (
+            format!("every script of up to {longest} frames with every short list"),
+            agreement::every(ours.as_mut(), longest),
+        ),
+        (
+            "by chance".into(),
+            agreement::by_chance(ours.as_mut(), plan.suppliers, plan.seed),
+        ),
+    ];
+    let mut differences = 0;
+    for (which, (outcomes, differs)) in found {
+        println!(
+            "lists from elsewhere, by {}, {which}\n{outcomes}",
+            ours.name()
+        );
+        if let Some((case, why)) = &differs {
+            println!("DIFFERENCE: {case}\n  {why}");
+            differences += 1;
+        }
+    }
+    differences
+}
+
+/// The checking program with a script and a list.
+fn checking_program(plan: &Plan) -> usize {
+    let Some(command) = &plan.checker else {
+        return 0;
+    };
+    let program = PairProgram::new(command);
+    let differs = agreement::by_program(&program, plan.suppliers, plan.seed);
+    println!("{} scripts with lists to {command}", plan.suppliers);
+    if let Some((case, printed)) = &differs {
+        let expected = model::checker(&case.script, &case.list);
+        println!("DIFFERENCE: {case}");
+        println!("  the model prints {}", shown(&expected));
+        println!("  ours prints {}", shown(printed));
+    }
+    differs.into_iter().count()
+}
+
 fn main() -> ExitCode {
     let plan = plan(&Args::new());
     let differences = scripts(&plan) + both_editions(&plan) + bare(&plan) + lists(&plan);
     let differences = differences + recordings(&plan) + recorded_program(&plan);
+    let differences = differences + suppliers(&plan) + checking_program(&plan);
     match differences {
         0 => {
             println!("no difference that isn't known");

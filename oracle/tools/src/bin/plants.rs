@@ -1,6 +1,7 @@
 //! Plants each fault in turn, in the model or in the original's answers, and says who finds it. Fails if one isn't found.
 
 use model::{Fault, Placement, FAULTS};
+use oracle::agreement;
 use oracle::bare;
 use oracle::comparison::Comparison;
 use oracle::every::{alphabet, needs_alphabet, samples_alphabet, wide_alphabet};
@@ -74,6 +75,16 @@ fn bare_slots(fault: Fault) -> Option<String> {
     differs.map(|(_, call)| format!("edition 2, call {call}"))
 }
 
+/// Scripts and lists from elsewhere by chance.
+fn suppliers(fault: Fault) -> Option<String> {
+    let mut ours = agreement::Modelled(Some(fault));
+    let (case, why) = agreement::by_chance(&mut ours, 3000, SEED).1?;
+    Some(match case.script.len() + case.list.len() > 300 {
+        true => format!("a script of {} bytes; {why}", case.script.len()),
+        false => format!("{case}; {why}"),
+    })
+}
+
 fn model_fault(name: &str, fault: Fault) -> bool {
     let by_original = found(Some(fault), whom(true));
     let by_model = found(Some(fault), whom(false));
@@ -83,7 +94,7 @@ fn model_fault(name: &str, fault: Fault) -> bool {
     let by_bare = bare_slots(fault);
     println!("  bare slots: {}", said(&by_bare));
     let by_recording = recorded::by_chance(&mut Modelled(Some(fault)), 3000, SEED).1;
-    let case = by_recording.as_ref().map(|(case, why)| {
+    let case = by_recording.map(|(case, why)| {
         let case = match case.list.len() > 300 {
             true => format!("a list of {} bytes", case.list.len()),
             false => case.to_string(),
@@ -91,7 +102,10 @@ fn model_fault(name: &str, fault: Fault) -> bool {
         format!("{case}; {why}")
     });
     println!("  recordings: {}", said(&case));
-    by_original.is_some() || by_model.is_some() || by_bare.is_some() || by_recording.is_some()
+    let by_supplier = suppliers(fault);
+    println!("  lists from elsewhere: {}", said(&by_supplier));
+    let finders = [&by_original, &by_model, &by_bare, &case, &by_supplier];
+    finders.iter().any(|found| found.is_some())
 }
 
 fn main() -> ExitCode {

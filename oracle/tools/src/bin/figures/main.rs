@@ -4,6 +4,7 @@ mod editions;
 mod recordings;
 mod runs;
 mod shown;
+mod suppliers;
 
 use model::Frame;
 use oracle::args::Args;
@@ -129,6 +130,7 @@ fn main() {
     translation();
     editions::print();
     runs::print();
+    suppliers::print();
     recordings::print();
     check();
     println!("\nLoad of the machine when it ended: {}.", setting::load());
