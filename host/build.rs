@@ -55,7 +55,7 @@ fn read(path: &Path) -> Vec<u8> {
 }
 
 fn main() {
-    println!("cargo::rustc-check-cfg=cfg(translate)");
+    println!("cargo::rustc-check-cfg=cfg(translate, agrees)");
     println!("cargo::rerun-if-env-changed=MBOXALIND_ARCHIVE");
     let path = archive();
     println!("cargo::rerun-if-changed={}", path.display());
@@ -76,11 +76,13 @@ fn main() {
             stop(&format!("{} has no function {name}", path.display()));
         }
     }
-    match names.contains(&"translate") {
-        true => println!("cargo::rustc-cfg=translate"),
-        false => println!(
-            "cargo::warning=the archive has no function translate: the host is built without it"
-        ),
+    for name in ["translate", "agrees"] {
+        match names.contains(&name) {
+            true => println!("cargo::rustc-cfg={name}"),
+            false => println!(
+                "cargo::warning=the archive has no function {name}: the host is built without it"
+            ),
+        }
     }
     let folder = path.parent().expect("a file is in a folder");
     println!("cargo::rustc-link-search=native={}", folder.display());

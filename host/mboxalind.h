@@ -1,4 +1,4 @@
-/* The proved translate, run, read_recording and run_recorded, for a host in C: link target/staticlib/libmboxalind.a (x86-64 Linux). */
+/* The proved translate, run, read_recording, run_recorded and agrees, for a host in C: link target/staticlib/libmboxalind.a (x86-64 Linux). */
 #ifndef MBOXALIND_H
 #define MBOXALIND_H
 
@@ -9,7 +9,7 @@
 extern "C" {
 #endif
 
-/* The answer of all but read_recording: the number of bytes written; or, on a refusal, its number in the high 32 bits and its line, from
+/* The answer of all but read_recording: the number of bytes written (of agrees 1 for yes, 0 for no); or, on a refusal, its number in the high 32 bits and its line, from
  * 0, in the low 32. A refusal leaves all lent memory as it was. Each pointer may be read, and if it isn't const written, over the length
  * that follows it; what is lent must not overlap. */
 
@@ -31,10 +31,15 @@ uint64_t read_recording(uint64_t state, uint8_t *samples, size_t samples_len, co
 uint64_t run_recorded(const uint8_t *list, size_t list_len, uint64_t state, const uint8_t *samples, size_t samples_len, uint8_t *cells,
                       size_t cells_len, uint8_t *out, size_t out_len, uint8_t *left, size_t left_len);
 
+/* Whether a list from elsewhere agrees with a script: 1 or 0. Yes says that its lines are those of the script but for addresses, drain counts and
+ * size, and that run on cells as many as its size it prints what the script means. A script that our rules refuse gets a no. Refused are texts
+ * that can't be read, by 1 or 2, the script before the list: with the list `900000`, LF, a refusal is the script's. Nothing is written. */
+uint64_t agrees(const uint8_t *script, size_t script_len, const uint8_t *list, size_t list_len);
+
 /* 0 if it was no refusal. */
 static inline unsigned mboxalind_number(uint64_t answer) { return (unsigned)(answer >> 32); }
 
-/* The line of a refusal, or the number of bytes written. */
+/* The line of a refusal, the number of bytes written, or yes and no. */
 static inline uint32_t mboxalind_low(uint64_t answer) { return (uint32_t)answer; }
 
 #ifdef __cplusplus

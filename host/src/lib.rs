@@ -1,12 +1,15 @@
-//! The proved `translate`, `run`, `read_recording` and `run_recorded` for a Rust host: byte slices in, an [`Answer`] out.
+//! The proved `translate`, `run`, `read_recording`, `run_recorded` and `agrees` for a Rust host: byte slices in, an [`Answer`] out; `agrees`
+//! says yes or no.
 //!
 //! Each takes the memory that it writes to from the caller, and asks for nothing else: no allocation, no file, no global state.
-//! [`Recording`] keeps what the last two need of a recording from one part to the next.
+//! [`Recording`] keeps what `read_recording` and `run_recorded` need of a recording from one part to the next.
 
 mod recording;
+mod unread;
 mod words;
 
 pub use recording::{Ran, Recording, MOST_SAMPLES};
+pub use unread::{Text, Unread};
 pub use words::words;
 
 use std::fmt;
@@ -78,6 +81,10 @@ extern "C" {
     #[link_name = "translate"]
     fn translate_lent(script: *const u8, script_len: usize, list: *mut u8, list_len: usize) -> u64;
 
+    #[cfg(agrees)]
+    #[link_name = "agrees"]
+    fn agrees_lent(script: *const u8, script_len: usize, list: *const u8, list_len: usize) -> u64;
+
     #[link_name = "run"]
     fn run_lent(
         list: *const u8,
@@ -122,6 +129,19 @@ pub fn translate(script: &[u8], list: &mut [u8]) -> Answer {
     let answer =
         unsafe { translate_lent(script.as_ptr(), script.len(), list.as_mut_ptr(), list.len()) };
     Answer::new(answer)
+}
+
+/// Whether a list from elsewhere agrees with a script (W-203): its lines are those of the script but for addresses, drain counts and size, and its
+/// addresses are fair. A list that gets a yes prints, when it is run, what the script means; a script that our rules refuse gets a no. What can't
+/// be read is refused, by 1 or 2. Both texts may be of any length, and nothing is written.
+#[cfg(agrees)]
+pub fn agrees(script: &[u8], list: &[u8]) -> Result<bool, Unread> {
+    unread::told(script, list, |script, list| {
+        // SAFETY: both are slices, so they may be read over their lengths. The function is proved to stay within them, and writes nothing.
+        let answer =
+            unsafe { agrees_lent(script.as_ptr(), script.len(), list.as_ptr(), list.len()) };
+        Answer::new(answer).written().map(|yes| yes == 1)
+    })
 }
 
 /// Runs a list over lent cells, two bytes each, high first, and writes what its loads show into `out`, 7 bytes a load. Cells
