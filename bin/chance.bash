@@ -91,10 +91,51 @@ try_titles() {
     echo "ee01$(hex $later)" >"$room/count"
     holds "$room/count" "$room/script" translator
     holds "$room/count" "$room/list" runner
+    holds "$room/count" /dev/null checker "$room/script" "$room/list"
 }
 
-# Texts made by chance: a value that is written and read; samples that are taken and read in turn; scripts and lists with titles; a stored answer
-# that is spoilt.
+# The checker has to say WORD of the script and a list with these lines.
+says() { # WORD LINE..
+    echo "$1" >"$room/count"
+    printf '%s\n' "${@:2}" >"$room/list"
+    holds "$room/count" /dev/null checker "$room/script" "$room/list"
+}
+
+# Two slots placed by chance agree; both in one, another value, the other's address and a size that is too small don't.
+try_checker() { # VALUE
+    local one two other
+    one=$(hex $((RANDOM % 500)))
+    two=$(hex $((RANDOM % 500 + 500)))
+    other=$(hex $(((16#$1 + RANDOM + 1) % 65536)))
+    printf '%s\n' 06 06 "100001$1" 110001 >"$room/script"
+    says yes "06$one" "06$two" "10$two$1" "11$two" 900400
+    says no "06$two" "06$two" "10$two$1" "11$two" 900400
+    says no "06$one" "06$two" "10$two$other" "11$two" 900400
+    says no "06$one" "06$two" "10$two$1" "11$one" 900400
+    says no "06$one" "06$two" "10$two$1" "11$two" "90$two"
+}
+
+# The command has to end with STATUS for the script and a list with these lines, and say WORDS on standard error.
+told() { # STATUS WORDS LINE..
+    local status=0
+    printf '%s\n' "${@:3}" >"$room/list"
+    "$here/bin/mboxalind" check "$room/script" "$room/list" >"$room/said" 2>&1 || status=$?
+    [ $status = "$1" ] && grep -qF -- "$2" "$room/said" || failed "check has to end with $1 and say '$2', and ended with $status"
+}
+
+# Two slots placed by chance; both in one, of which the command names the holder; a list that can't be read.
+try_words() {
+    local one two
+    one=$(hex $((RANDOM % 500)))
+    two=$(hex $((RANDOM % 500 + 500)))
+    printf '%s\n' 06 06 >"$room/script"
+    told 0 yes "06$one" "06$two" 900400
+    told 1 "slot $((16#$two)) is held by handle 0, which line 0 gave: 06$two" "06$two" "06$two" 900400
+    told 2 "the list can't be read" "06$one" 06 900400
+}
+
+# Texts made by chance: a value that is written and read; samples that are taken and read in turn; scripts and lists with titles; lists that agree
+# with a script or don't; a stored answer that is spoilt.
 try() {
     local value record taken records=452
     value=$(by_chance)
@@ -102,6 +143,7 @@ try() {
     taken=$((RANDOM % 30 + 1))
     build translator
     build runner
+    build checker
     build replay
     printf '%s\n' 06 "100000$value" 110000 >"$room/script"
     printf '%s\n' 060000 "100000$value" 110000 900001 >"$room/list"
@@ -111,8 +153,10 @@ try() {
     try_recorded $taken $((RANDOM % 300))
     try_tight "$value"
     try_titles
+    try_checker "$value"
+    try_words
     spoilt $record >"$room/spoilt"
     printf '%d replayed, 1 differ\nthe first that differs is record %d\n' $records $record >"$room/count"
     holds "$room/count" /dev/null replay "$room/spoilt"
-    echo "translator and runner know the value $value and $taken samples, replay finds the spoilt record $record"
+    echo "translator and runner know the value $value and $taken samples, checker says yes and no, check says why, replay finds the spoilt record $record"
 }
