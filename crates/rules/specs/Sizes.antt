@@ -1,5 +1,5 @@
 -- Document 01, "Sizes". Assumes nothing.
-use Prim.Native.Nat.{ℕ}
+use Prim.Native.Nat.{ℕ, _+_, _*_}
 
 -- The room: every rule takes these numbers from here.
 pub record Room : Type 0 where
@@ -20,7 +20,53 @@ pub record Room : Type 0 where
   -- bytes that a program reads
   pub text : ℕ
 
--- "1,024 slots, addresses 0..1023, in 8 segments of 128. 64 live scopes, root included. 256 live bindings over all scopes. Scripts:
--- 2,048 frames, 2,048 handles. Text buffers: 32,768 bytes"; W-201: "Needs .. at most 64 in a script."
+-- The sizes by name. Each is a constant of the same name in the code, src/lib.rt: a size is changed in these two places.
+-- "1,024 slots, addresses 0..1023, in 8 segments of 128."
+abbrev pub SEGMENTS : ℕ
+SEGMENTS = 8
+
+abbrev pub SLOTS : ℕ
+SLOTS = 128 * SEGMENTS
+
+-- 64-bit numbers that hold a bit for each slot
+abbrev pub HALVES : ℕ
+HALVES = 2 * SEGMENTS
+
+-- "64 live scopes, root included."
+abbrev pub SCOPES : ℕ
+SCOPES = 64
+
+-- lists of addresses: what each scope owns, and behind these, at SCOPES, the dangling list
+abbrev pub LISTS : ℕ
+LISTS = SCOPES + 1
+
+-- link cells of one direction: each address, then the end of each list
+abbrev pub CELLS : ℕ
+CELLS = SLOTS + LISTS
+
+-- link cells of both directions
+abbrev pub LINKS : ℕ
+LINKS = 2 * CELLS
+
+-- "256 live bindings over all scopes."
+abbrev pub BINDINGS : ℕ
+BINDINGS = 256
+
+-- "Scripts: 2,048 frames, 2,048 handles."
+abbrev pub LINES : ℕ
+LINES = 2048
+
+abbrev pub HANDLES : ℕ
+HANDLES = 2048
+
+-- W-201: "Needs .. at most 64 in a script."
+abbrev pub NEEDS : ℕ
+NEEDS = 64
+
+-- "Text buffers: 32,768 bytes"
+abbrev pub TEXT : ℕ
+TEXT = 32768
+
+-- the room of 01
 unfoldable pub base : Room
-base = record { segments = 8; scopes = 64; bindings = 256; handles = 2048; needs = 64; lines = 2048; size = 1024; text = 32768 }
+base = record { segments = SEGMENTS; scopes = SCOPES; bindings = BINDINGS; handles = HANDLES; needs = NEEDS; lines = LINES; size = SLOTS; text = TEXT }
