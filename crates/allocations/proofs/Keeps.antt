@@ -4,6 +4,7 @@ use mathlib.Core.Bool.{Bool}
 use mathlib.Core.Option.{Option, none, some}
 use Prim.Native.Nat.{ℕ, _≤_}
 use native.Mathlib.Omega.{arith}
+use Rattle.rules.specs.Sizes.{SCOPES, SLOTS}
 use Rattle.rules.specs.Notation.{refused, _>>=_, refuse_when_, refuse_unless_, put}
 use Rattle.rules.specs.Scopes.{Scope, Scopes, Found, found, topScope, setScope}
 use Rattle.rules.specs.Needs as rule
@@ -71,9 +72,9 @@ back-goes dangles a c (rule.scope id) = go
 
 module _ (s : state.Scopes) (sound : Sound s) where
   -- 12: no scope owns what is no slot
-  pub no-slot : (dangles : Bool) (a : ℕ) → 1024 ≤ a → rule.giveBack dangles a (view s) ≡ refused 12
+  pub no-slot : (dangles : Bool) (a : ℕ) → SLOTS ≤ a → rule.giveBack dangles a (view s) ≡ refused 12
   unfolding rule.giveBack _>>=_ refuse_unless_ refuse_when_
   no-slot dangles a h =
-      by-eqb (s .top) 64
+      by-eqb (s .top) SCOPES
       (λ e. rw (no-top s e))
       (λ n. let t : Topped s = topped s sound n in rw (t .is, far (s .links) (s .owner) a (s .top) (sound .ringed) h (omega (arith, t .small))))

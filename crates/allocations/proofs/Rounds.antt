@@ -7,6 +7,7 @@ use native.Mathlib.Omega.{arith}
 use Rattle.rules.specs.Notation.{Answer, given, refused, _>>=_}
 use Rattle.rules.specs.Scopes.{Scopes}
 use Rattle.rules.specs.Needs as rule
+use Rattle.rules.specs.Sizes.{WORD}
 use Rattle.scopes.specs.View as state
 use Rattle.scopes.specs.View.{view, toldOnly}
 use Rattle.scopes.specs.Sound.{Sound}
@@ -83,7 +84,7 @@ module _ (dangles : Bool) (k : rule.Kind) (a n : ℕ) (c : Scopes) where
 -- ---- of a sound state
 
 -- the last address goes first, and is no slot
-pub far-refused : (s : declared.Scopes) → Sound s → (dangles : Bool) (a n : ℕ) → a < 65536 → 65536 < a + n → refused 12 ≡ backEach dangles (downFrom a n) (view s)
+pub far-refused : (s : declared.Scopes) → Sound s → (dangles : Bool) (a n : ℕ) → a < WORD → WORD < a + n → refused 12 ≡ backEach dangles (downFrom a n) (view s)
 unfolding _>>=_
 far-refused s sound dangles a n l h =
     sym

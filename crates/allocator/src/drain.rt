@@ -3,8 +3,10 @@ ghost use mathlib.Core.Path.{_≡_};
 ghost use mathlib.Core.List.{_++_};
 ghost use Prim.Native.Nat.{_≤_};
 ghost use lib.ListN.{length, take, drop};
+ghost use Rattle.rules.specs.Sizes.{SLOTS};
 ghost use Rattle.scopes.specs.View.{view};
 ghost use Rattle.allocator.specs.Drained.{DrainCall, drained};
+use rules::SLOTS;
 use scopes::Scopes;
 
 pub enum DrainAnswer {
@@ -18,8 +20,8 @@ pub struct DrainOutcome {
 }
 
 // The first n numbers of the page go over the front of `out`.
-fn copy(page: &[u16; 1024], n: usize, out: &mut [u16])
-    requires { ⌜ (length (now page) ≡ 1024) × (n ≤ 1024) × (n ≤ length (now out)) ⌝ }
+fn copy(page: &[u16; SLOTS], n: usize, out: &mut [u16])
+    requires { ⌜ (length (now page) ≡ SLOTS) × (n ≤ SLOTS) × (n ≤ length (now out)) ⌝ }
     ensures { λ _. ⌜ now (out .exit) ≡ take n (now (page .entry)) ++ drop n (now (out .entry)) ⌝ }
 {
     let mut i: usize = 0;
@@ -39,7 +41,7 @@ pub fn drain(s: Scopes, out: &mut [u16]) -> DrainOutcome
             answer: DrainAnswer::Refused(29),
         };
     }
-    let mut page = [0u16; 1024];
+    let mut page = [0u16; SLOTS];
     let d = scopes::drain::drain(s, &mut page);
     let n = d.count;
     if out.len() < n {

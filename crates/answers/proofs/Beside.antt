@@ -8,11 +8,11 @@ use lib.Dec.{eqb, leb}
 use lib.ListN.{length, getD, take, drop, replicate, length-append, drop-of-length-le}
 use borrow.Author.Tests.{le-leb, lt-ltb, le-ltb, ne-eqb}
 use Rattle.rules.specs.Notation.{if_then_else_}
-use Rattle.rules.specs.Sizes.{base}
+use Rattle.rules.specs.Sizes.{base, SLOTS, TEXT, LINES}
 use Rattle.rules.specs.Frames.{shows}
 use Rattle.rules.specs.Text.{hex2, hex4, hexes, lineText}
 use Rattle.rules.specs.Recordings.{Recording, malformed, readerOf, isState, ended}
-use Rattle.rules.specs.Entries.{RunOutcome, ran, stopped, recordedOn, loadsText, cellsOf, refusalAnswer, overFront, eeText, malformedText, leftText, bytes4, RecordedRunning, recordedLeft, recordedEntry, recordedText, unlessLonger, recordedPrints}
+use Rattle.rules.specs.Entries.{RunOutcome, ran, stopped, recordedOn, loadsText, cellsOf, refusalAnswer, overFront, eeText, malformedText, leftText, bytes4, RecordedRunning, recordedLeft, recordedEntry, recordedText, unlessLonger, recordedPrints, REFUSAL}
 use Rattle.text.specs.Writing.{over}
 use Rattle.text.proofs.Over.{over-over}
 use Rattle.machine.specs.Recorded.{LeavesAll}
@@ -61,18 +61,18 @@ pub data SaysBeside (text out : List ℕ) (answer : ℕ) (out′ left′ : List 
   refusal : (n i : ℕ) → answer ≡ refusalAnswer n i → 1 ≤ n → n < 256 → i ≤ 4294967295 → ((n ≡ 24 → ⊥) → i ≤ 65535) → stoppedText n i ≡ text → out′ ≡ out → SaysBeside text out answer out′ left′
 
 module _ (text out : List ℕ) (answer : ℕ) (out′ left′ : List ℕ) where
-  pub says-room : SaysBeside text out answer out′ left′ → answer < 4294967296 → (answer + 11 ≤ 32768) × (4 ≤ length left′)
+  pub says-room : SaysBeside text out answer out′ left′ → answer < REFUSAL → (answer + 11 ≤ TEXT) × (4 ≤ length left′)
   says-room (written loads n e h q k t) l = (omega arith, omega (arith, ap length k))
   says-room (refusal n i e a b c d t q) l = absurd (omega arith)
 
-  pub halved-beside : SaysBeside text out answer out′ left′ → 4294967296 ≤ answer → HalvedBeside answer
+  pub halved-beside : SaysBeside text out answer out′ left′ → REFUSAL ≤ answer → HalvedBeside answer
   halved-beside (written loads n e h q k t) l = absurd (omega arith)
   halved-beside (refusal n i e a b c d t q) l =
-      let x : answer / 4294967296 ≡ n = omega arith in
-      let y : answer % 4294967296 ≡ i = omega arith in
+      let x : answer / REFUSAL ≡ n = omega arith in
+      let y : answer % REFUSAL ≡ i = omega arith in
       record { number = omega arith; line = λ ne. subst (λ (j : ℕ). j ≤ 65535) (sym y) (d (λ z. ne (x ∙ z))) }
 
-  pub printed-behind : (m : ℕ) (out″ : List ℕ) → 32768 ≤ length out → SaysBeside text out answer out′ left′ → answer < 4294967296 → Behind left′ out′ answer m out″ → Prints text out m out″
+  pub printed-behind : (m : ℕ) (out″ : List ℕ) → TEXT ≤ length out → SaysBeside text out answer out′ left′ → answer < REFUSAL → Behind left′ out′ answer m out″ → Prints text out m out″
   printed-behind m out″ wide (refusal n i e a b c d t q) l p = absurd (omega arith)
   printed-behind m out″ wide (written loads n e h q k t) l p =
       let v : number4 left′ ≡ n = ap number4 k ∙ number-back n in
@@ -81,12 +81,12 @@ module _ (text out : List ℕ) (answer : ℕ) (out′ left′ : List ℕ) where
       p .bytes ∙ (λ s. over (front s) (e s) (leftText (v s))) ∙ over-over out 0 loads (length loads) (leftText n) (omega arith) (omega arith) in
       prints-as t (record { count = p .count ∙ omega (arith, length-append loads (leftText n), left-length n); bytes = all ∙ sym (at-front (loads ++ leftText n) out) })
 
-  pub printed-stopped : (m : ℕ) (out″ : List ℕ) → SaysBeside text out answer out′ left′ → 4294967296 ≤ answer → Prints (stoppedText (answer / 4294967296) (answer % 4294967296)) out′ m out″ → Prints text out m out″
+  pub printed-stopped : (m : ℕ) (out″ : List ℕ) → SaysBeside text out answer out′ left′ → REFUSAL ≤ answer → Prints (stoppedText (answer / REFUSAL) (answer % REFUSAL)) out′ m out″ → Prints text out m out″
   printed-stopped m out″ (written loads n e h q k t) l p = absurd (omega arith)
   printed-stopped m out″ (refusal n i e a b c d t q) l p =
-      let x : answer / 4294967296 ≡ n = omega arith in
-      let y : answer % 4294967296 ≡ i = omega arith in
-      let z : stoppedText (answer / 4294967296) (answer % 4294967296) ≡ text = (λ s. stoppedText (x s) (y s)) ∙ t in
+      let x : answer / REFUSAL ≡ n = omega arith in
+      let y : answer % REFUSAL ≡ i = omega arith in
+      let z : stoppedText (answer / REFUSAL) (answer % REFUSAL) ≡ text = (λ s. stoppedText (x s) (y s)) ∙ t in
       subst (λ (o : List ℕ). Prints text o m out″) q (prints-as z p)
 
 -- ---- run_recorded
@@ -94,7 +94,7 @@ module _ (text out : List ℕ) (answer : ℕ) (out′ left′ : List ℕ) where
 drop-all : (left : List ℕ) → length left ≡ 4 → drop 4 left ≡ []
 drop-all left e = drop-of-length-le left {i = 4} (omega arith)
 
-outcome-says : (j : ℕ) → j ≤ 4294967295 → (o : RunOutcome) → ComesWith 2048 j o → (cells out left : List ℕ) → 32768 ≤ length out → length left ≡ 4 → (a : ℕ) (cells′ out′ left′ : List ℕ)
+outcome-says : (j : ℕ) → j ≤ 4294967295 → (o : RunOutcome) → ComesWith LINES j o → (cells out left : List ℕ) → TEXT ≤ length out → length left ≡ 4 → (a : ℕ) (cells′ out′ left′ : List ℕ)
     → LeavesAll (recordedLeft o cells out left) a cells′ out′ left′ → SaysBeside (recordedText o) out a out′ left′
 unfolding recordedLeft recordedText if_then_else_
 outcome-says j f _ (as-whole (to-stop n i p q c)) cells out left h k a cells′ out′ left′ l = refusal n i (l .answered) p (omega arith) (omega arith) (λ ne. omega arith) refl (l .out-left)
@@ -106,18 +106,18 @@ outcome-says j f _ (as-whole (to-end {r = x} {left = n} m)) cells out left h k a
     written (loadsText (x .loaded)) n (rw (e, g, if_then_else_) at (l .answered)) (omega arith) (rw (e, g, if_then_else_) at (l .out-left)) ((rw (e, g, if_then_else_) at (l .left-left)) ∙ d) refl
 
 module _ (list : List ℕ) (state : ℕ) (samples : List ℕ) where
-  pub beside-longer : 32768 < length list → eeText 17 0 ≡ recordedPrints base list state samples
+  pub beside-longer : TEXT < length list → eeText 17 0 ≡ recordedPrints base list state samples
   unfolding recordedPrints unlessLonger if_then_else_ base
   beside-longer h = sym (rw (lt-ltb _ _ h, if_then_else_))
 
-  module _ (h : length list ≤ 32768) (out : List ℕ) (wide : 32768 ≤ length out) (cells : List ℕ) (zeros : cells ≡ replicate 2048 0) (left : List ℕ) (four : length left ≡ 4) where
+  module _ (h : length list ≤ TEXT) (out : List ℕ) (wide : TEXT ≤ length out) (cells : List ℕ) (zeros : cells ≡ replicate (2 * SLOTS) 0) (left : List ℕ) (four : length left ≡ 4) where
     abbrev r : Recording
     r = ended (readerOf state) (cellsOf samples)
 
     printed-as : (if (isState state) then recordedText (recordedOn base (cellsOf cells) r list) else eeText 29 0) ≡ recordedPrints base list state samples
     unfolding recordedPrints unlessLonger if_then_else_ base
     printed-as =
-        ap (λ (cs : List ℕ). if (isState state) then recordedText (recordedOn base cs r list) else eeText 29 0) (ap cellsOf zeros ∙ zero-cells 1024)
+        ap (λ (cs : List ℕ). if (isState state) then recordedText (recordedOn base cs r list) else eeText 29 0) (ap cellsOf zeros ∙ zero-cells SLOTS)
         ∙ sym (rw (le-ltb _ _ h, if_then_else_))
 
     pub beside-says : (a : ℕ) (cells′ out′ left′ : List ℕ) → LeavesAll (recordedEntry base list state samples cells out left) a cells′ out′ left′ → SaysBeside (recordedPrints base list state samples) out a out′ left′

@@ -5,7 +5,7 @@ use Prim.Native.Nat.{ℕ, zero, suc, _+_, _≤_}
 use native.Mathlib.Omega.{arith}
 use lib.ListN.{length, replicate}
 use Rattle.rules.specs.Notation.{if_then_else_}
-use Rattle.rules.specs.Sizes.{base}
+use Rattle.rules.specs.Sizes.{base, LINES}
 use Rattle.rules.specs.Frames.{constant, nextSample, Line, stores, loads, shows}
 use Rattle.rules.specs.Meaning.{listTakes}
 use Rattle.rules.specs.Text.{Listed, listed, unlisted, readList}
@@ -26,11 +26,11 @@ takes-most (loads o a ∷ ls) = let h = takes-most ls in omega arith
 takes-most (shows o l ∷ ls) = let h = takes-most ls in omega arith
 
 -- a list takes no more samples than it may have lines
-takes-few : (list : List ℕ) (ls : List Line) (size : ℕ) → readList base list ≡ listed ls size → listTakes ls ≤ 2048
+takes-few : (list : List ℕ) (ls : List Line) (size : ℕ) → readList base list ≡ listed ls size → listTakes ls ≤ LINES
 unfolding base
 takes-few list ls size e = go (readList base list) (read-list-in base (omega arith) list) e
   where
-    go : (l : Listed) → ListIn base 0 l → l ≡ listed ls size → listTakes ls ≤ 2048
+    go : (l : Listed) → ListIn base 0 l → l ≡ listed ls size → listTakes ls ≤ LINES
     go (unlisted n i) h q = absurd (let z : _≡_ {A = ℕ} 0 1 = cc in omega arith)
     go (listed ms k) h q = let s : ms ≡ ls = cc in omega (arith, h .0, takes-most ls, ap length s)
 

@@ -7,7 +7,7 @@ use lib.Dec.{eqb}
 use lib.ListN.{length, replicate}
 use Rattle.rules.specs.Sizes.{Room}
 use Rattle.rules.specs.Recordings.{recording}
-use Rattle.rules.specs.Entries.{recordedOn, overFront, eeText, unlessLonger, malformedText, leftText, recordedText}
+use Rattle.rules.specs.Entries.{recordedOn, overFront, eeText, unlessLonger, malformedText, leftText, recordedText, REFUSAL}
 use Rattle.text.specs.Writing.{over}
 use Rattle.machine.specs.Work.{cellAt}
 
@@ -18,13 +18,13 @@ pub record Prints (text out : List ℕ) (n : ℕ) (out′ : List ℕ) : Type 0 w
 
 -- the halves of an answer fit the digits of an `ee` line
 pub record Halved (answer : ℕ) : Type 0 where
-  pub number : answer / 4294967296 ≤ 255
-  pub line : answer % 4294967296 ≤ 65535
+  pub number : answer / REFUSAL ≤ 255
+  pub line : answer % REFUSAL ≤ 65535
 
 -- an answer below 2^32 counts what stands in out; another is printed as its number and its line
 pub record Shown (answer : ℕ) (out : List ℕ) (n : ℕ) (out′ : List ℕ) : Type 0 where
-  pub counts : answer < 4294967296 → (n ≡ answer) × (out′ ≡ out)
-  pub refuses : 4294967296 ≤ answer → Prints (eeText (answer / 4294967296) (answer % 4294967296)) out n out′
+  pub counts : answer < REFUSAL → (n ≡ answer) × (out′ ≡ out)
+  pub refuses : REFUSAL ≤ answer → Prints (eeText (answer / REFUSAL) (answer % REFUSAL)) out n out′
 
 -- a refusal of run_recorded, of which 24 shows a line of the recording
 abbrev pub stoppedText : ℕ → ℕ → List ℕ
@@ -32,8 +32,8 @@ stoppedText n i = elim (eqb n 24) [ true ↦ malformedText i | false ↦ eeText 
 
 -- the same of run_recorded, whose 24 has a line of the recording
 pub record HalvedBeside (answer : ℕ) : Type 0 where
-  pub number : answer / 4294967296 ≤ 255
-  pub line : (answer / 4294967296 ≡ 24 → ⊥) → answer % 4294967296 ≤ 65535
+  pub number : answer / REFUSAL ≤ 255
+  pub line : (answer / REFUSAL ≡ 24 → ⊥) → answer % REFUSAL ≤ 65535
 
 -- four bytes, high first, as a number
 abbrev pub number4 : List ℕ → ℕ

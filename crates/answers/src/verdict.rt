@@ -1,7 +1,8 @@
 // What the checking program prints for a script and a list.
-use crate::MOST;
 use crate::longer;
+use rules::TEXT;
 use supplier::agrees;
+use text::refusal::REFUSAL;
 use text::writing::put_refusal;
 ghost use mathlib.Core.List.{[], _∷_};
 ghost use Prim.Native.Nat.{_≤_};
@@ -32,13 +33,13 @@ fn put_no(out: &mut [u8]) -> usize
 }
 
 // `yes`, `no` or the line of a refusal; 17 where either text is longer than is read.
-pub fn checked(script: &[u8], list: &[u8], out: &mut [u8; 32768]) -> usize
+pub fn checked(script: &[u8], list: &[u8], out: &mut [u8; TEXT]) -> usize
     ensures { λ r. ⌜ Prints (checkerPrints base (now (script .entry)) (now (list .entry))) (now (out .entry)) r (now (out .exit)) ⌝ }
 {
-    if script.len() > MOST {
+    if script.len() > TEXT {
         return longer(out);
     }
-    if list.len() > MOST {
+    if list.len() > TEXT {
         return longer(out);
     }
     let answer = agrees(script, list);
@@ -48,10 +49,5 @@ pub fn checked(script: &[u8], list: &[u8], out: &mut [u8; 32768]) -> usize
     if answer == 0 {
         return put_no(out);
     }
-    put_refusal(
-        out,
-        0,
-        (answer / 4294967296) as u8,
-        (answer % 4294967296) as u16,
-    )
+    put_refusal(out, 0, (answer / REFUSAL) as u8, (answer % REFUSAL) as u16)
 }

@@ -9,7 +9,7 @@ use lib.Dec.{eqb}
 use lib.ListN.{getD}
 use borrow.Author.Tests.{eq-eqb, ne-eqb}
 use Rattle.rules.specs.Notation.{Answer, put}
-use Rattle.rules.specs.Sizes.{base}
+use Rattle.rules.specs.Sizes.{base, SEGMENTS, SLOTS}
 use Rattle.rules.specs.Sound.{soundSlots}
 use Rattle.rules.specs.Slots as rule
 use Rattle.rules.proofs.Kept.{base-fair}
@@ -31,9 +31,9 @@ removed-sound a s y = base-fair rule.byHead .removed a s y
 
 pub inserted-sound : (s : rule.Slots) → Sound s → Sound (inserting s .next)
 unfolding base rule.placing rule.edition1
-inserted-sound s y = go (rule.insert 8 s) refl
+inserted-sound s y = go (rule.insert SEGMENTS s) refl
   where
-    go : (o : Option rule.Placed) → rule.insert 8 s ≡ o → Sound (placedOr7 s (rule.insert 8 s) .next)
+    go : (o : Option rule.Placed) → rule.insert SEGMENTS s ≡ o → Sound (placedOr7 s (rule.insert SEGMENTS s) .next)
     go none e = rw e y
     go (some p) e = rw e (base-fair rule.byHead .placed 1 s p e y .0)
 
@@ -97,46 +97,46 @@ module _ (calls : List ℕ) (n : ℕ) where
 
 -- ---- an insert at a, or nowhere
 
-module _ (a : ℕ) (e : a ≡ 1024) where
+module _ (a : ℕ) (e : a ≡ SLOTS) where
   pub segments-none : (l : ℕ) → l ≡ segmentsAfter l a
-  segments-none l = rw (eq-eqb a 1024 e, segmentsAfter)
+  segments-none l = rw (eq-eqb a SLOTS e, segmentsAfter)
 
   pub head-none : (h : ℕ) → h ≡ headAfter h a
-  head-none h = rw (eq-eqb a 1024 e, headAfter)
+  head-none h = rw (eq-eqb a SLOTS e, headAfter)
 
   pub address-none : 0 ≡ addressAt a
-  address-none = rw (eq-eqb a 1024 e, addressAt)
+  address-none = rw (eq-eqb a SLOTS e, addressAt)
 
-module _ (a : ℕ) (e : a ≡ 1024 → ⊥) where
+module _ (a : ℕ) (e : a ≡ SLOTS → ⊥) where
   pub segments-some : (l : ℕ) → max l (a / 128 + 1) ≡ segmentsAfter l a
-  segments-some l = rw (ne-eqb a 1024 e, segmentsAfter)
+  segments-some l = rw (ne-eqb a SLOTS e, segmentsAfter)
 
   pub head-some : (h : ℕ) → a / 128 ≡ headAfter h a
-  head-some h = rw (ne-eqb a 1024 e, headAfter)
+  head-some h = rw (ne-eqb a SLOTS e, headAfter)
 
   pub address-some : a ≡ addressAt a
-  address-some = rw (ne-eqb a 1024 e, addressAt)
+  address-some = rw (ne-eqb a SLOTS e, addressAt)
 
 -- on lent halves: m is min(H, L), and a the least clear slot from segment m on, or 1,024
-module _ (hs : List ℕ) (l h : ℕ) (y : Sound (slotsOf hs l h)) (m a : ℕ) (start : m ≡ rule.startOf (slotsOf hs l h)) (e : a ≡ firstClear (occ hs) (128 * m) (1024 - 128 * m)) where
-  pub put-within : a < 1025
+module _ (hs : List ℕ) (l h : ℕ) (y : Sound (slotsOf hs l h)) (m a : ℕ) (start : m ≡ rule.startOf (slotsOf hs l h)) (e : a ≡ firstClear (occ hs) (128 * m) (SLOTS - 128 * m)) where
+  pub put-within : a < (SLOTS + 1)
   unfolding base
-  put-within = omega (arith, insert-within 8 (slotsOf hs l h) y m a start e)
+  put-within = omega (arith, insert-within SEGMENTS (slotsOf hs l h) y m a start e)
 
-  pub put-none : a ≡ 1024 → Inserted (slotsOf hs l h) hs a
+  pub put-none : a ≡ SLOTS → Inserted (slotsOf hs l h) hs a
   unfolding base
   put-none z =
-      let q : placedOr7 (slotsOf hs l h) none ≡ inserting (slotsOf hs l h) = ap (placedOr7 (slotsOf hs l h)) (sym (insert-none 8 (slotsOf hs l h) y m a start e z)) in
+      let q : placedOr7 (slotsOf hs l h) none ≡ inserting (slotsOf hs l h) = ap (placedOr7 (slotsOf hs l h)) (sym (insert-none SEGMENTS (slotsOf hs l h) y m a start e z)) in
       record {
         within = put-within;
         next = (λ u. record { occupied = occ hs; segments = sym (segments-none a z l) u; head = sym (head-none a z h) u }) ∙ ap (λ (x : Seen ℕ). x .next) q;
         gives = sym (address-none a z) ∙ ap (λ (x : Seen ℕ). addressGiven (x .says)) q;
       }
 
-  pub put-some : (new : List ℕ) → (a ≡ 1024 → ⊥) → occ new ≡ put (occ hs) a true → Inserted (slotsOf hs l h) new a
+  pub put-some : (new : List ℕ) → (a ≡ SLOTS → ⊥) → occ new ≡ put (occ hs) a true → Inserted (slotsOf hs l h) new a
   unfolding base
   put-some new z p =
-      let q = ap (placedOr7 (slotsOf hs l h)) (sym (insert-some 8 (slotsOf hs l h) y m a start e z)) in
+      let q = ap (placedOr7 (slotsOf hs l h)) (sym (insert-some SEGMENTS (slotsOf hs l h) y m a start e z)) in
       record {
         within = put-within;
         next = (λ u. record { occupied = p u; segments = sym (segments-some a z l) u; head = sym (head-some a z h) u }) ∙ ap (λ (x : Seen ℕ). x .next) q;

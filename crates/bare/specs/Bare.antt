@@ -6,7 +6,7 @@ use Prim.Native.Nat.{ℕ, zero, suc, _+_, _*_, _/_, _%_, _^_, _<_, max}
 use lib.ListN.{getD, set}
 use lib.Dec.{eqb}
 use Rattle.rules.specs.Notation.{Answer, given, refused}
-use Rattle.rules.specs.Sizes.{base}
+use Rattle.rules.specs.Sizes.{base, SLOTS}
 use Rattle.rules.specs.Slots as rule
 use Rattle.slots.specs.Halves.{occ}
 use Rattle.slots.specs.Promises.{view, Seen, placedOr7, removal, checked}
@@ -101,15 +101,15 @@ pairsSum stride n = summed stride n 0 halfFull 0
 -- ---- an insert on lent halves: at address a, or nowhere, which is 1,024
 
 abbrev pub segmentsAfter : ℕ → ℕ → ℕ
-segmentsAfter l a = elim (eqb a 1024) [ true ↦ l | false ↦ max l (a / 128 + 1) ]
+segmentsAfter l a = elim (eqb a SLOTS) [ true ↦ l | false ↦ max l (a / 128 + 1) ]
 
 abbrev pub headAfter : ℕ → ℕ → ℕ
-headAfter h a = elim (eqb a 1024) [ true ↦ h | false ↦ a / 128 ]
+headAfter h a = elim (eqb a SLOTS) [ true ↦ h | false ↦ a / 128 ]
 
 abbrev pub addressAt : ℕ → ℕ
-addressAt a = elim (eqb a 1024) [ true ↦ 0 | false ↦ a ]
+addressAt a = elim (eqb a SLOTS) [ true ↦ 0 | false ↦ a ]
 
 pub record Inserted (s : rule.Slots) (halves : List ℕ) (a : ℕ) : Type 0 where
-  pub within : a < 1025
+  pub within : a < (SLOTS + 1)
   pub next : record { occupied = occ halves; segments = segmentsAfter (s .segments) a; head = headAfter (s .head) a } ≡ inserting s .next
   pub gives : addressAt a ≡ addressGiven (inserting s .says)

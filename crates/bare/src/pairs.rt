@@ -3,12 +3,14 @@ ghost use mathlib.Core.Path.{_≡_};
 ghost use mathlib.Core.Bool.{true};
 ghost use Prim.Native.Nat.{_+_, _%_, _<_};
 ghost use lib.ListN.{length};
-ghost use Rattle.rules.specs.Sizes.{base};
+ghost use Rattle.rules.specs.Sizes.{base, HALVES, SLOTS};
 ghost use Rattle.rules.specs.Sound.{soundSlots};
 ghost use Rattle.rules.specs.Slots as rule;
 ghost use Rattle.slots.specs.Halves.{slotsOf};
 ghost use Rattle.slots.specs.Promises.{view, placeSays};
 ghost use Rattle.bare.specs.Bare.{addressGiven, addressAt, halfFull, pairsSum, summed, Inserted, segmentsAfter, headAfter};
+use rules::HALVES;
+use rules::SLOTS;
 use slots::PlaceAnswer;
 use slots::SlotAddress;
 use slots::Slots;
@@ -73,11 +75,11 @@ pub extern "C" fn bare_pairs_by_value(n: usize, stride: u16) -> u64
 // ---- the halves lent, with no check of soundness for each step
 
 // Slot a is removed. It answers the head afterwards.
-fn take_out(halves: &mut [u64; 16], segments: usize, head: usize, a: usize) -> usize
+fn take_out(halves: &mut [u64; HALVES], segments: usize, head: usize, a: usize) -> usize
     requires { ⌜ soundSlots (base .segments) (slotsOf (now halves) segments head) ≡ true ⌝ }
-    requires { ⌜ (a < 1024) × (length (now halves) ≡ 16) ⌝ }
+    requires { ⌜ (a < SLOTS) × (length (now halves) ≡ HALVES) ⌝ }
     ensures { λ r. ⌜ slotsOf (now (halves .exit)) segments r ≡ rule.remove a (slotsOf (now (halves .entry)) segments head) ⌝ }
-    ensures { λ r. ⌜ length (now (halves .exit)) ≡ 16 ⌝ }
+    ensures { λ r. ⌜ length (now (halves .exit)) ≡ HALVES ⌝ }
 {
     if a / 128 < segments {
         halves::vacate(halves, a);
@@ -87,14 +89,14 @@ fn take_out(halves: &mut [u64; 16], segments: usize, head: usize, a: usize) -> u
 }
 
 // One slot is inserted. It answers its address, or 1,024 where there is none.
-fn put_in(halves: &mut [u64; 16], segments: usize, head: usize) -> usize
+fn put_in(halves: &mut [u64; HALVES], segments: usize, head: usize) -> usize
     requires { ⌜ soundSlots (base .segments) (slotsOf (now halves) segments head) ≡ true ⌝ }
-    requires { ⌜ length (now halves) ≡ 16 ⌝ }
+    requires { ⌜ length (now halves) ≡ HALVES ⌝ }
     ensures { λ r. ⌜ Inserted (slotsOf (now (halves .entry)) segments head) (now (halves .exit)) r ⌝ }
-    ensures { λ r. ⌜ length (now (halves .exit)) ≡ 16 ⌝ }
+    ensures { λ r. ⌜ length (now (halves .exit)) ≡ HALVES ⌝ }
 {
     let a = halves::first_clear(halves, halves::least(head, segments));
-    if a == 1024 {
+    if a == SLOTS {
         return a;
     }
     halves::occupy(halves, a);
@@ -103,10 +105,10 @@ fn put_in(halves: &mut [u64; 16], segments: usize, head: usize) -> usize
 
 // L, H and the address that is summed, after an insert at a.
 fn segments_after(segments: usize, a: usize) -> usize
-    requires { ⌜ a < 1025 ⌝ }
+    requires { ⌜ a < (SLOTS + 1) ⌝ }
     ensures { λ r. ⌜ r ≡ segmentsAfter segments a ⌝ }
 {
-    if a == 1024 {
+    if a == SLOTS {
         segments
     } else {
         halves::most(segments, a / 128 + 1)
@@ -116,13 +118,13 @@ fn segments_after(segments: usize, a: usize) -> usize
 fn head_after(head: usize, a: usize) -> usize
     ensures { λ r. ⌜ r ≡ headAfter head a ⌝ }
 {
-    if a == 1024 { head } else { a / 128 }
+    if a == SLOTS { head } else { a / 128 }
 }
 
 fn address_at(a: usize) -> u64
     ensures { λ r. ⌜ r ≡ addressAt a ⌝ }
 {
-    if a == 1024 { 0 } else { a as u64 }
+    if a == SLOTS { 0 } else { a as u64 }
 }
 
 fn run_lent(s: Slots, n: usize, stride: u16) -> u64

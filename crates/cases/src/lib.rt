@@ -1,4 +1,5 @@
 // What test programs share: a long text put together, and an answer shown on a line.
+use text::refusal::REFUSAL;
 use text::writing::put_malformed;
 use text::writing::put_refusal;
 ghost use mathlib.Core.Path.{_≡_};
@@ -80,7 +81,7 @@ fn say_refusal(number: u8, line: u32) {
 
 // What was answered: the last of r bytes of text, `-` where there are none; or the `ee` line.
 pub fn say(r: u64, text: &[u8], last: usize) {
-    if r < 4294967296 {
+    if r < REFUSAL {
         let n = io::count(r as isize, text);
         if n == 0 {
             io::write_all(1, b"-");
@@ -88,5 +89,5 @@ pub fn say(r: u64, text: &[u8], last: usize) {
         show(text, back(n, last), n);
         return;
     }
-    say_refusal((r / 4294967296 % 256) as u8, (r % 4294967296) as u32);
+    say_refusal((r / REFUSAL % 256) as u8, (r % REFUSAL) as u32);
 }

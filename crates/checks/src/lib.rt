@@ -1,18 +1,26 @@
 // Checks of a full state, for a figure: how long a check of a state handed in takes. No product links it.
 ghost use mathlib.Core.Path.{_≡_};
 ghost use Rattle.scopes.specs.Sound.{Sound};
+use rules::BINDINGS;
+use rules::SCOPES;
+use rules::SLOTS;
 use scopes::HandleNumber;
 use scopes::Scopes;
 use slots::Place;
 use slots::SlotAddress;
 
-// 64 scopes in one line.
+// Scopes beside root, as many as there can be; a run of all slots.
+const CHILDREN: usize = SCOPES - 1;
+
+const ALL: u16 = SLOTS as u16;
+
+// All scopes, in one line.
 fn opened() -> Scopes
     ensures { λ r. ⌜ Sound r ⌝ }
 {
     let mut s = scopes::fresh();
     let mut i: usize = 0;
-    while i < 63 {
+    while i < CHILDREN {
         let o = scopes::open::child(s);
         s = o.state;
         i += 1;
@@ -20,14 +28,14 @@ fn opened() -> Scopes
     s
 }
 
-// 256 names more, in the top scope.
+// As many names as there can be more, in the top scope.
 fn bound(t: Scopes) -> Scopes
     requires { ⌜ Sound t ⌝ }
     ensures { λ r. ⌜ Sound r ⌝ }
 {
     let mut s = t;
     let mut i: usize = 0;
-    while i < 256 {
+    while i < BINDINGS {
         let o = scopes::names::define(s, i as u16, SlotAddress(0), HandleNumber(0));
         s = o.state;
         i += 1;
@@ -35,11 +43,11 @@ fn bound(t: Scopes) -> Scopes
     s
 }
 
-// 64 scopes, 1,024 slots on the list of the top scope, 256 names.
+// All scopes, all slots on the list of the top scope, all names.
 fn full() -> Scopes
     ensures { λ r. ⌜ Sound r ⌝ }
 {
-    let o = scopes::place::alloc_run(opened(), 1024, Place::ByHead);
+    let o = scopes::place::alloc_run(opened(), ALL, Place::ByHead);
     bound(o.state)
 }
 

@@ -13,7 +13,7 @@ use Rattle.rules.specs.Sizes.{base}
 use Rattle.rules.specs.Frames.{Line, Outcome, accepted}
 use Rattle.rules.specs.Meaning.{Ran}
 use Rattle.rules.specs.Text.{listText}
-use Rattle.rules.specs.Entries.{translated, listLeft, translateEntry, overFront, loadsText, cellsOf, oddByte, bytesOf, ran, Running, runLeft, ranOn, runEntry}
+use Rattle.rules.specs.Entries.{translated, listLeft, translateEntry, overFront, loadsText, cellsOf, oddByte, bytesOf, ran, Running, runLeft, ranOn, runEntry, REFUSAL}
 use Rattle.translate.specs.Whole as translate
 use Rattle.translate.proofs.Numbers.{Comes, to-list, to-stop, comes}
 use Rattle.rules.proofs.Bytes.{Held, held-base}
@@ -43,7 +43,7 @@ listing script list _ e (to-stop n i a b c) r list′ h k = absurd (omega (arith
 listing script list _ e (to-list {ls = ls} {size = size} a) r list′ h k = go (leb (length (listText ls size)) (length list)) refl
   where
     go : (b : Bool) → leb (length (listText ls size)) (length list) ≡ b → Listing script (take r list′)
-    go false q = absurd (let x : r ≡ 17 * 4294967296 = rw (q, if_then_else_) at (h .answered) in omega arith)
+    go false q = absurd (let x : r ≡ 17 * REFUSAL = rw (q, if_then_else_) at (h .answered) in omega arith)
     go true q =
         let x : r ≡ length (listText ls size) = rw (q, if_then_else_) at (h .answered) in
         let y : list′ ≡ overFront (listText ls size) list = rw (q, if_then_else_) at (h .list-left) in

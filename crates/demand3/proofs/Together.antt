@@ -9,11 +9,11 @@ use lib.Dec.{leb}
 use lib.ListN.{length, take, drop, replicate}
 use borrow.Author.Tests.{le-leb, lt-leb, leb-true, leb-false}
 use Rattle.rules.specs.Notation.{if_then_else_}
-use Rattle.rules.specs.Sizes.{base}
+use Rattle.rules.specs.Sizes.{base, PAGE, LINES}
 use Rattle.rules.specs.Frames.{Line, Outcome, accepted}
 use Rattle.rules.specs.Meaning.{Ran, obey, listTakes, lacking}
 use Rattle.rules.specs.Text.{listText}
-use Rattle.rules.specs.Entries.{translated, listLeft, translateEntry, overFront, loadsText, cellsOf, oddByte, bytesOf, ran, Running, runLeft, ranOn, runEntry}
+use Rattle.rules.specs.Entries.{translated, listLeft, translateEntry, overFront, loadsText, cellsOf, oddByte, bytesOf, ran, Running, runLeft, ranOn, runEntry, REFUSAL}
 use Rattle.translate.specs.Whole as translate
 use Rattle.text.proofs.Halves.{by-number}
 use Rattle.translate.proofs.Numbers.{Comes, to-list, to-stop, Halves, count, number, translate-halves}
@@ -97,7 +97,7 @@ module _ (script page : List ℕ) (r : ℕ) (page′ : List ℕ) (said : Transla
       run
 
   -- 17 is no answer here: every list goes on the page
-  pub refused-both : 32768 ≤ length page → 4294967296 ≤ r → (cells out : List ℕ) → Leaves (together script cells out) r cells out
+  pub refused-both : PAGE ≤ length page → REFUSAL ≤ r → (cells out : List ℕ) → Leaves (together script cells out) r cells out
   unfolding together translateEntry togetherOn listLeft if_then_else_
   refused-both room k cells out = go (translated base script) (come script) (said .answered)
     where
@@ -131,10 +131,10 @@ pub together-one : (script cells out : List ℕ) (r r′ : ℕ) (cells′ cells�
 together-one script cells out r r′ cells′ cells″ out′ out″ a b = machine.leaves-one a b
 
 -- the two halves of the answer can't be mistaken for each other
-pub together-answer : (script cells out : List ℕ) → Bytes cells → machine.HalvesOf cells out 23 2048 (together script cells out)
+pub together-answer : (script cells out : List ℕ) → Bytes cells → machine.HalvesOf cells out 23 LINES (together script cells out)
 unfolding together togetherOn base
 together-answer script cells out bytes = go (translated base script) refl (come script)
   where
-    go : (o : Outcome) → translated base script ≡ o → Comes o → machine.HalvesOf cells out 23 2048 (togetherOn o (means script []) cells out)
+    go : (o : Outcome) → translated base script ≡ o → Comes o → machine.HalvesOf cells out 23 LINES (togetherOn o (means script []) cells out)
     go _ e (to-stop n i a b c) = by-number _ _ _ _ _ n i (omega arith) a (omega arith) c (refl, refl)
-    go _ e (to-list {ls = ls} {size = size} a) = subst (machine.HalvesOf cells out 23 2048) (run-is script ls size (held-base script ls size e) cells out bytes) (machine.run-halves 23 (omega arith) base (omega arith) (omega arith) (listText ls size) cells out)
+    go _ e (to-list {ls = ls} {size = size} a) = subst (machine.HalvesOf cells out 23 LINES) (run-is script ls size (held-base script ls size e) cells out bytes) (machine.run-halves 23 (omega arith) base (omega arith) (omega arith) (listText ls size) cells out)

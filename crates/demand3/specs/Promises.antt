@@ -11,7 +11,7 @@ use Rattle.rules.specs.Frames.{Line, shows}
 use Rattle.rules.specs.Meaning.{high}
 use Rattle.rules.specs.Text.{lineText, listed, readList}
 use Rattle.rules.specs.Recordings.{recording, recorded}
-use Rattle.rules.specs.Entries.{overFront, loadsText, translateEntry, cellsOf, oddByte, runEntry, readEntry, recordedEntry, bytes4}
+use Rattle.rules.specs.Entries.{overFront, loadsText, translateEntry, cellsOf, oddByte, runEntry, readEntry, recordedEntry, bytes4, REFUSAL}
 use Rattle.rules.specs.Demand3.{scriptMeaning, scriptTakes}
 use Rattle.rules.specs.Suppliers.{verdict, verdictAnswer}
 use Rattle.translate.specs.Whole as translate
@@ -46,7 +46,7 @@ joined (p ∷ ps) = p ++ joined ps
 
 -- a refusal has its number, 1 or more, in the high 32 bits
 abbrev pub Accepts : ℕ → Type 0
-Accepts r = r < 4294967296
+Accepts r = r < REFUSAL
 
 -- ---- what is wanted
 

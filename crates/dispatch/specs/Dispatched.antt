@@ -7,6 +7,7 @@ use mathlib.Core.List.{List}
 use Prim.Native.Nat.{ℕ, _≤_, _<_}
 use lib.ListN.{length}
 use denote.Ref.{RefT, now}
+use Rattle.rules.specs.Sizes.{SLOTS}
 use Rattle.rules.specs.Slots.{Placement}
 use Rattle.rules.specs.Frames.{Frame, write}
 use Rattle.scopes.specs.declared.Numbers.{Numbers}
@@ -47,7 +48,7 @@ wholeOut halves links owner live dangled parent number bindings n =
 abbrev pub StandsOn : (halves links owner : RefT (List ℕ)) (live dangled : RefT (List Bool)) (parent number bindings : RefT (List ℕ)) → Numbers → (handles holders drained : RefT (List ℕ)) → ℕ → (needs remembers : RefT (List ℕ)) → ℕ → Type 0
 StandsOn halves links owner live dangled parent number bindings n handles holders drained handed needs remembers needed =
     StandsWith (made (now halves) (now links) (now owner) (now live) (now dangled) (now parent) (now number) (now bindings) n) (now handles) (now holders) handed (table (now needs) (now remembers) needed)
-    × (length (now drained) ≡ 1024)
+    × (length (now drained) ≡ SLOTS)
 
 -- the frame that the record f is leads where the rules say, where slots go by `place`
 abbrev pub StepsOn : Placement → Code → (halves links owner : LentArray ℕ) (live dangled : LentArray Bool) (parent number bindings : LentArray ℕ) → Numbers → (handles holders drained : LentArray ℕ) → ℕ → (needs remembers : LentArray ℕ) → ℕ → Advance → Type 0

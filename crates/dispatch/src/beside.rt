@@ -11,6 +11,12 @@ use frames::owned;
 use frames::steps::Adds;
 use frames::steps::Stepped;
 use handles::remembered::NeedNumber;
+use rules::HALVES;
+use rules::HANDLES;
+use rules::LINKS;
+use rules::NEEDS;
+use rules::SCOPES;
+use rules::SLOTS;
 use scopes::HandleNumber;
 use scopes::Numbers;
 use slots::Place;
@@ -26,16 +32,16 @@ pub struct Advance {
 
 // 0c to 0e.
 pub fn free_step<'a>(
-    halves: &mut [u64; 16],
-    links: &mut [u16; 2178],
-    owner: &mut [u8; 1024],
-    number: &[u32; 64],
+    halves: &mut [u64; HALVES],
+    links: &mut [u16; LINKS],
+    owner: &mut [u8; SLOTS],
+    number: &[u32; SCOPES],
     n: Numbers,
-    handles: &mut [u64; 2048],
-    holders: &[u16; 1024],
+    handles: &mut [u64; HANDLES],
+    holders: &[u16; SLOTS],
     handed: usize,
-    needs: &'a [u64; 64],
-    remembers: &'a [u16; 64],
+    needs: &'a [u64; NEEDS],
+    remembers: &'a [u16; NEEDS],
     needed: usize,
     f: Frame,
 ) -> Stepped
@@ -72,12 +78,12 @@ pub fn free_step<'a>(
 
 // 20 to 22.
 fn note_step<'a>(
-    live: &'a [bool; 64],
-    number: &'a [u32; 64],
-    handles: &[u64; 2048],
+    live: &'a [bool; SCOPES],
+    number: &'a [u32; SCOPES],
+    handles: &[u64; HANDLES],
     handed: usize,
-    needs: &mut [u64; 64],
-    remembers: &mut [u16; 64],
+    needs: &mut [u64; NEEDS],
+    remembers: &mut [u16; NEEDS],
     needed: usize,
     f: Frame,
 ) -> Noted
@@ -96,17 +102,17 @@ fn note_step<'a>(
 
 // 20 to 25.
 pub fn need_step<'a>(
-    halves: &mut [u64; 16],
-    links: &mut [u16; 2178],
-    owner: &mut [u8; 1024],
-    live: &'a [bool; 64],
-    number: &'a [u32; 64],
+    halves: &mut [u64; HALVES],
+    links: &mut [u16; LINKS],
+    owner: &mut [u8; SLOTS],
+    live: &'a [bool; SCOPES],
+    number: &'a [u32; SCOPES],
     n: Numbers,
-    handles: &mut [u64; 2048],
-    holders: &mut [u16; 1024],
+    handles: &mut [u64; HANDLES],
+    holders: &mut [u16; SLOTS],
     handed: usize,
-    needs: &mut [u64; 64],
-    remembers: &mut [u16; 64],
+    needs: &mut [u64; NEEDS],
+    remembers: &mut [u16; NEEDS],
     needed: usize,
     f: Frame,
     place: Place,

@@ -2,6 +2,7 @@
 ghost use mathlib.Core.Path.{_≡_};
 ghost use Prim.Native.Nat.{_≤_, _<_};
 ghost use lib.ListN.{length};
+ghost use Rattle.rules.specs.Sizes.{SLOTS};
 ghost use Rattle.rules.specs.Tells.{Tells};
 ghost use Rattle.slots.specs.Spots.{placementOf};
 ghost use Rattle.dispatch.specs.Dispatched.{StandsOn, StepsOn};
@@ -9,6 +10,13 @@ use beside::Advance;
 use beside::free_step;
 use beside::need_step;
 use plain::plain_step;
+use rules::BINDINGS;
+use rules::HALVES;
+use rules::HANDLES;
+use rules::LINKS;
+use rules::NEEDS;
+use rules::SCOPES;
+use rules::SLOTS;
 use scopes::Numbers;
 use slots::Place;
 use text::lines::Frame;
@@ -28,28 +36,28 @@ fn is_freeing(op: u8) -> bool
 
 // The step of a frame. Slots go by `place`; `drained` gets the addresses of a drain.
 pub fn step(
-    halves: &mut [u64; 16],
-    links: &mut [u16; 2178],
-    owner: &mut [u8; 1024],
-    live: &mut [bool; 64],
-    dangled: &mut [bool; 64],
-    parent: &mut [u8; 64],
-    number: &mut [u32; 64],
-    bindings: &mut [u64; 256],
+    halves: &mut [u64; HALVES],
+    links: &mut [u16; LINKS],
+    owner: &mut [u8; SLOTS],
+    live: &mut [bool; SCOPES],
+    dangled: &mut [bool; SCOPES],
+    parent: &mut [u8; SCOPES],
+    number: &mut [u32; SCOPES],
+    bindings: &mut [u64; BINDINGS],
     n: Numbers,
-    handles: &mut [u64; 2048],
-    holders: &mut [u16; 1024],
-    drained: &mut [u16; 1024],
+    handles: &mut [u64; HANDLES],
+    holders: &mut [u16; SLOTS],
+    drained: &mut [u16; SLOTS],
     handed: usize,
-    needs: &mut [u64; 64],
-    remembers: &mut [u16; 64],
+    needs: &mut [u64; NEEDS],
+    remembers: &mut [u16; NEEDS],
     needed: usize,
     f: Frame,
     place: Place,
 ) -> Advance
     requires { ⌜ StandsOn halves links owner live dangled parent number bindings n handles holders drained handed needs remembers needed ⌝ }
     ensures { λ r. ⌜ StepsOn (placementOf place) f halves links owner live dangled parent number bindings n handles holders drained handed needs remembers needed r ⌝ }
-    ensures { λ _. ⌜ length (now (drained .exit)) ≡ 1024 ⌝ }
+    ensures { λ _. ⌜ length (now (drained .exit)) ≡ SLOTS ⌝ }
 {
     let op = f.opcode;
     if 0x20 <= op {

@@ -3,6 +3,7 @@ ghost use mathlib.Core.Path.{_≡_};
 ghost use mathlib.Core.List.{List};
 ghost use Prim.Native.Nat.{ℕ, _≤_, _<_};
 ghost use lib.ListN.{length};
+ghost use Rattle.rules.specs.Sizes.{SLOTS};
 ghost use Rattle.scopes.specs.Lent.{made, Whole};
 ghost use Rattle.slots.specs.Spots.{placementOf};
 ghost use Rattle.frames.specs.Steps.{onNames, onCells, Stands, StandsAllots};
@@ -16,6 +17,12 @@ use frames::steps::Adds;
 use frames::steps::Source;
 use frames::steps::Stepped;
 use frames::steps::refused;
+use rules::BINDINGS;
+use rules::HALVES;
+use rules::HANDLES;
+use rules::LINKS;
+use rules::SCOPES;
+use rules::SLOTS;
 use scopes::HandleNumber;
 use scopes::Numbers;
 use scopes::Scopes;
@@ -25,14 +32,14 @@ use text::lines::Frame;
 
 // 01 to 05.
 fn scope_step(
-    halves: &mut [u64; 16],
-    links: &mut [u16; 2178],
-    owner: &mut [u8; 1024],
-    live: &mut [bool; 64],
-    dangled: &mut [bool; 64],
-    parent: &mut [u8; 64],
-    number: &mut [u32; 64],
-    bindings: &mut [u64; 256],
+    halves: &mut [u64; HALVES],
+    links: &mut [u16; LINKS],
+    owner: &mut [u8; SLOTS],
+    live: &mut [bool; SCOPES],
+    dangled: &mut [bool; SCOPES],
+    parent: &mut [u8; SCOPES],
+    number: &mut [u32; SCOPES],
+    bindings: &mut [u64; BINDINGS],
     n: Numbers,
     handed: usize,
     f: Frame,
@@ -84,14 +91,14 @@ fn scope_step(
 
 // 06 to 08.
 fn allot_step<'a>(
-    halves: &mut [u64; 16],
-    links: &mut [u16; 2178],
-    owner: &mut [u8; 1024],
-    live: &'a [bool; 64],
-    number: &'a [u32; 64],
+    halves: &mut [u64; HALVES],
+    links: &mut [u16; LINKS],
+    owner: &mut [u8; SLOTS],
+    live: &'a [bool; SCOPES],
+    number: &'a [u32; SCOPES],
     n: Numbers,
-    handles: &mut [u64; 2048],
-    holders: &mut [u16; 1024],
+    handles: &mut [u64; HANDLES],
+    holders: &mut [u16; SLOTS],
     handed: usize,
     f: Frame,
     place: Place,
@@ -133,11 +140,11 @@ fn allot_step<'a>(
 
 // 09 to 0b.
 fn name_step<'a>(
-    live: &'a [bool; 64],
-    parent: &'a [u8; 64],
-    bindings: &mut [u64; 256],
+    live: &'a [bool; SCOPES],
+    parent: &'a [u8; SCOPES],
+    bindings: &mut [u64; BINDINGS],
     n: Numbers,
-    handles: &[u64; 2048],
+    handles: &[u64; HANDLES],
     handed: usize,
     f: Frame,
 ) -> Stepped
@@ -181,13 +188,13 @@ fn source_of(f: Frame) -> Source
 
 // 10 to 12, and 14.
 fn cell_step<'a>(
-    halves: &[u64; 16],
-    live: &'a [bool; 64],
-    parent: &'a [u8; 64],
-    bindings: &'a [u64; 256],
+    halves: &[u64; HALVES],
+    live: &'a [bool; SCOPES],
+    parent: &'a [u8; SCOPES],
+    bindings: &'a [u64; BINDINGS],
     n: Numbers,
-    handles: &mut [u64; 2048],
-    holders: &[u16; 1024],
+    handles: &mut [u64; HANDLES],
+    holders: &[u16; SLOTS],
     handed: usize,
     f: Frame,
 ) -> Adds
@@ -220,26 +227,26 @@ fn cell_step<'a>(
 
 // 01 to 0b, 0f to 12 and 14: the frames that don't look at needs. Slots go by `place`; `drained` gets the addresses of a drain.
 pub fn plain_step(
-    halves: &mut [u64; 16],
-    links: &mut [u16; 2178],
-    owner: &mut [u8; 1024],
-    live: &mut [bool; 64],
-    dangled: &mut [bool; 64],
-    parent: &mut [u8; 64],
-    number: &mut [u32; 64],
-    bindings: &mut [u64; 256],
+    halves: &mut [u64; HALVES],
+    links: &mut [u16; LINKS],
+    owner: &mut [u8; SLOTS],
+    live: &mut [bool; SCOPES],
+    dangled: &mut [bool; SCOPES],
+    parent: &mut [u8; SCOPES],
+    number: &mut [u32; SCOPES],
+    bindings: &mut [u64; BINDINGS],
     n: Numbers,
-    handles: &mut [u64; 2048],
-    holders: &mut [u16; 1024],
-    drained: &mut [u16; 1024],
+    handles: &mut [u64; HANDLES],
+    holders: &mut [u16; SLOTS],
+    drained: &mut [u16; SLOTS],
     handed: usize,
     f: Frame,
     place: Place,
 ) -> Stepped
     requires { ⌜ Stands (made (now halves) (now links) (now owner) (now live) (now dangled) (now parent) (now number) (now bindings) n) (now handles) (now holders) handed ⌝ }
-    requires { ⌜ (length (now drained) ≡ 1024) × PlainCode (f .opcode) ⌝ }
+    requires { ⌜ (length (now drained) ≡ SLOTS) × PlainCode (f .opcode) ⌝ }
     ensures { λ r. ⌜ PlainOn (placementOf place) f halves links owner live dangled parent number bindings n handles holders drained handed r ⌝ }
-    ensures { λ _. ⌜ length (now (drained .exit)) ≡ 1024 ⌝ }
+    ensures { λ _. ⌜ length (now (drained .exit)) ≡ SLOTS ⌝ }
 {
     let op = f.opcode;
     if op < 0x06 {

@@ -9,7 +9,7 @@ use native.Mathlib.Omega.{arith}
 use lib.Dec.{eqb, ltb}
 use borrow.Author.Tests.{lt-ltb, eqb-true}
 use Rattle.rules.specs.Notation.{Answer, given, refused, _>>=_, refuse_when_, refuse_unless_}
-use Rattle.rules.specs.Sizes.{base}
+use Rattle.rules.specs.Sizes.{base, HANDLES, SCOPES}
 use Rattle.rules.specs.Slots.{Placement, Place, placing}
 use Rattle.rules.specs.Scopes as rule
 use Rattle.rules.specs.Scopes.{Found, Id, allocate, topScope, byId}
@@ -39,10 +39,10 @@ use Rattle.frames.proofs.Allotting.{allots}
 -- ---- the top, and the scope of an id
 
 module _ (s : Scopes) where
-  pub has-top : {handles holders : List ℕ} {handed : ℕ} → Stands s handles holders handed → (s .top ≡ 64 → ⊥) → (t : Found) × (topScope (view s) ≡ some t)
+  pub has-top : {handles holders : List ℕ} {handed : ℕ} → Stands s handles holders handed → (s .top ≡ SCOPES → ⊥) → (t : Found) × (topScope (view s) ≡ some t)
   has-top stands ne =
       ⊎-elim
-      (λ l. top-found base (view s) (stands .state .scopes) (s .top) (ap (λ (b : Bool). elim b [ true ↦ some (s .top) | false ↦ none ]) (lt-ltb (s .top) 64 (l .0))))
+      (λ l. top-found base (view s) (stands .state .scopes) (s .top) (ap (λ (b : Bool). elim b [ true ↦ some (s .top) | false ↦ none ]) (lt-ltb (s .top) SCOPES (l .0))))
       (λ l. absurd (ne (l .0)))
       (stands .whole .sound .rooted .topped)
 
@@ -79,7 +79,7 @@ module _ (p : Place) (s : Scopes) (handles holders : List ℕ) (handed : ℕ) (s
   abbrev place : Placement
   place = placing (base .segments) p
 
-  pub works-granted : (f : Frame) (op : ℕ) (k : Found) (kind : AddressKind) (n : ℕ) (o : Outcome) (r : Reached) (handles′ holders′ : List ℕ) → handed + n ≤ 2048
+  pub works-granted : (f : Frame) (op : ℕ) (k : Found) (kind : AddressKind) (n : ℕ) (o : Outcome) (r : Reached) (handles′ holders′ : List ℕ) → handed + n ≤ HANDLES
       → seen o ≡ told at c (allocate place k n c) → Whole (o .state) → r .state ≡ o .state → Grants (o .reply) handed n kind (r .handed) (r .adds) handles handles′ holders holders′
       → step base place standing f ≡ (allot base place k (kindOf kind) n standing >>= λ x. oneLine (shows op (x .0 ∷ [])) (x .1))
       → (drained : List ℕ) → Works place f op s handles holders handed r handles′ holders′ drained
@@ -91,21 +91,21 @@ module _ (p : Place) (s : Scopes) (handles holders : List ℕ) (handed : ℕ) (s
     holders-length = g .holders-length;
   }
 
-  pub full : (k : Found) (kind : Kind) (n : ℕ) → 2048 < handed + n → allot base place k kind n standing ≡ refused 16
+  pub full : (k : Found) (kind : Kind) (n : ℕ) → HANDLES < handed + n → allot base place k kind n standing ≡ refused 16
   unfolding allot base
-  full k kind n l = when-true 16 _ (lt-ltb 2048 (handed + n) l)
+  full k kind n l = when-true 16 _ (lt-ltb HANDLES (handed + n) l)
 
   -- ---- alloc
 
-  pub alloc-3 : s .top ≡ 64 → step base place standing alloc ≡ refused 3
+  pub alloc-3 : s .top ≡ SCOPES → step base place standing alloc ≡ refused 3
   unfolding step
   alloc-3 e = unless-none 3 _ (no-top s e)
 
-  pub alloc-16 : (s .top ≡ 64 → ⊥) → 2048 ≤ handed → step base place standing alloc ≡ refused 16
+  pub alloc-16 : (s .top ≡ SCOPES → ⊥) → HANDLES ≤ handed → step base place standing alloc ≡ refused 16
   unfolding step
   alloc-16 ne l = let t = has-top s stands ne in unless-some 3 _ (t .1) ∙ refused-on 16 _ (full (t .0) local 1 (omega arith))
 
-  module _ (ne : s .top ≡ 64 → ⊥) where
+  module _ (ne : s .top ≡ SCOPES → ⊥) where
     pub alloc-seen : (o : Outcome) → seen o ≡ told at c (rule.allocTop place c) → seen o ≡ told at c (allocate place (has-top s stands ne .0) 1 c)
     unfolding rule.allocTop
     alloc-seen o e = e ∙ ap (told at c) (unless-some 3 _ (has-top s stands ne .1))
@@ -116,17 +116,17 @@ module _ (p : Place) (s : Scopes) (handles holders : List ℕ) (handed : ℕ) (s
 
   -- ---- linear
 
-  pub linear-3 : (n : ℕ) → s .top ≡ 64 → step base place standing (linear n) ≡ refused 3
+  pub linear-3 : (n : ℕ) → s .top ≡ SCOPES → step base place standing (linear n) ≡ refused 3
   unfolding step
   linear-3 zero e = unless-none 3 _ (no-top s e)
   linear-3 (suc n) e = unless-none 3 _ (no-top s e)
 
-  pub linear-16 : (n : ℕ) → (n ≡ 0 → ⊥) → (s .top ≡ 64 → ⊥) → 2048 < handed + n → step base place standing (linear n) ≡ refused 16
+  pub linear-16 : (n : ℕ) → (n ≡ 0 → ⊥) → (s .top ≡ SCOPES → ⊥) → HANDLES < handed + n → step base place standing (linear n) ≡ refused 16
   unfolding step
   linear-16 zero pos ne l = absurd (pos refl)
   linear-16 (suc n) pos ne l = let t = has-top s stands ne in unless-some 3 _ (t .1) ∙ refused-on 16 _ (full (t .0) (runKind (suc n)) (suc n) l)
 
-  pub linear-0 : (n : ℕ) → n ≡ 0 → (s .top ≡ 64 → ⊥) → (drained : List ℕ) → Works place (linear n) 0x08 s handles holders handed (record { state = s; handed = handed; adds = One 0xffff }) handles holders drained
+  pub linear-0 : (n : ℕ) → n ≡ 0 → (s .top ≡ SCOPES → ⊥) → (drained : List ℕ) → Works place (linear n) 0x08 s handles holders handed (record { state = s; handed = handed; adds = One 0xffff }) handles holders drained
   unfolding step
   linear-0 n e ne drained = record {
     does = ap (λ (m : ℕ). step base place standing (linear m)) e ∙ unless-some 3 _ (has-top s stands ne .1);
@@ -142,7 +142,7 @@ module _ (p : Place) (s : Scopes) (handles holders : List ℕ) (handed : ℕ) (s
   first-is (given x) = refl
   first-is (refused n) = refl
 
-  module _ (n : ℕ) (pos : n ≡ 0 → ⊥) (ne : s .top ≡ 64 → ⊥) where
+  module _ (n : ℕ) (pos : n ≡ 0 → ⊥) (ne : s .top ≡ SCOPES → ⊥) where
     pub linear-seen : (o : Outcome) → seen o ≡ told atFirst c (rule.allocRun place n c) → seen o ≡ told at c (allocate place (has-top s stands ne .0) n c)
     unfolding rule.allocRun
     linear-seen o e = go n pos e

@@ -10,7 +10,7 @@ use lib.Dec.{eqb, ltb}
 use lib.ListN.{length}
 use borrow.Author.Tests.{lt-ltb, le-ltb, ltb-true}
 use Rattle.rules.specs.Notation.{Answer, given, refused, _>>=_, refuse_when_, refuse_unless_, _▹_}
-use Rattle.rules.specs.Sizes.{base}
+use Rattle.rules.specs.Sizes.{base, HANDLES, SEGMENTS, SLOTS}
 use Rattle.rules.specs.Slots.{Slots, Placed, Place, Placement, placing}
 use Rattle.rules.specs.Scopes as rule
 use Rattle.rules.specs.Scopes.{Found, allocate, topScope}
@@ -36,7 +36,7 @@ use Rattle.handles.proofs.Changes.{Granted, granting}
 
 -- ---- the slot that was answered
 
-pub slot-at : (y : Reply) → slotOr y < 1024 → y ≡ at (slotOr y)
+pub slot-at : (y : Reply) → slotOr y < SLOTS → y ≡ at (slotOr y)
 slot-at reply.Done l = absurd (omega arith)
 slot-at (reply.At a) l = refl
 slot-at reply.Empty l = absurd (omega arith)
@@ -44,12 +44,12 @@ slot-at (reply.Opened i) l = absurd (omega arith)
 slot-at (reply.Found b) l = absurd (omega arith)
 slot-at (reply.Refused n) l = absurd (omega arith)
 
-module _ (y : Reply) (n first : ℕ) (is : first ≡ slotOr y) (low : (a : SlotAddress) → y ≡ reply.At a → (a .0 < 1024) × (a .0 + n ≤ 1024)) where
-  pub slot-fits : first < 1024 → first + n ≤ 1024
+module _ (y : Reply) (n first : ℕ) (is : first ≡ slotOr y) (low : (a : SlotAddress) → y ≡ reply.At a → (a .0 < SLOTS) × (a .0 + n ≤ SLOTS)) where
+  pub slot-fits : first < SLOTS → first + n ≤ SLOTS
   slot-fits l = omega (arith, low (record { 0 = slotOr y }) (slot-at y (omega arith)) .1)
 
-  module _ (handed : ℕ) (kind : AddressKind) (adds : Adds) (says : adds ≡ addsOf y) (handles handles′ holders holders′ : List ℕ) (long : length handles′ ≡ 2048) (long′ : length holders′ ≡ 1024) where
-    pub grants-at : first < 1024 → Hands handles handles′ holders holders′ handed n first (kindOf kind)
+  module _ (handed : ℕ) (kind : AddressKind) (adds : Adds) (says : adds ≡ addsOf y) (handles handles′ holders holders′ : List ℕ) (long : length handles′ ≡ HANDLES) (long′ : length holders′ ≡ SLOTS) where
+    pub grants-at : first < SLOTS → Hands handles handles′ holders holders′ handed n first (kindOf kind)
         → Grants y handed n kind (handed + n) adds handles handles′ holders holders′
     grants-at l h = record {
       says = says;
@@ -61,7 +61,7 @@ module _ (y : Reply) (n first : ℕ) (is : first ≡ slotOr y) (low : (a : SlotA
       holders-length = long′;
     }
 
-    pub grants-none : 1024 ≤ first → Grants y handed n kind handed adds handles handles′ holders holders′
+    pub grants-none : SLOTS ≤ first → Grants y handed n kind handed adds handles handles′ holders holders′
     grants-none l = record {
       says = says;
       hands = λ a e. absurd (let s : slotOr y ≡ a .0 = ap slotOr e in omega (arith, low a e .0));
@@ -92,16 +92,16 @@ module _ (p : Place) (s : Scopes) (handles holders : List ℕ) (handed : ℕ) (s
   fair = placing-fair-sound base (omega arith) p
 
   -- where the allocation of n slots for k was given
-  given-below : (k : Found) (n : ℕ) (x : ℕ × rule.Scopes) → allocate place k n c ≡ given x → x .0 + n ≤ 1024
+  given-below : (k : Found) (n : ℕ) (x : ℕ × rule.Scopes) → allocate place k n c ≡ given x → x .0 + n ≤ SLOTS
   unfolding base
   given-below k n x q =
       let w = allotted place k n c .at x q in
       omega (arith, w .address, fair .placed n (c .slots) (w .placed) (w .from) (stands .state .scopes .slots) .2)
 
-  pub answered-below : (k : Found) (n : ℕ) (o : Outcome) → seen o ≡ told at c (allocate place k n c) → 0 < n → (a : SlotAddress) → o .reply ≡ reply.At a → (a .0 < 1024) × (a .0 + n ≤ 1024)
+  pub answered-below : (k : Found) (n : ℕ) (o : Outcome) → seen o ≡ told at c (allocate place k n c) → 0 < n → (a : SlotAddress) → o .reply ≡ reply.At a → (a .0 < SLOTS) × (a .0 + n ≤ SLOTS)
   answered-below k n o e pos a y = go (allocate place k n c) refl
     where
-      go : (m : Answer (ℕ × rule.Scopes)) → allocate place k n c ≡ m → (a .0 < 1024) × (a .0 + n ≤ 1024)
+      go : (m : Answer (ℕ × rule.Scopes)) → allocate place k n c ≡ m → (a .0 < SLOTS) × (a .0 + n ≤ SLOTS)
       go (given x) q =
           let says : o .reply ≡ at (x .0) = ap (λ (z : Seen). z .says) (e ∙ ap (told at c) q) in
           let same : x .0 ≡ a .0 = cc in
@@ -111,7 +111,7 @@ module _ (p : Place) (s : Scopes) (handles holders : List ℕ) (handed : ℕ) (s
           let says : o .reply ≡ reply.Refused m = ap (λ (z : Seen). z .says) (e ∙ ap (told at c) q) in
           absurd (let z : _≡_ {A = ℕ} 0 1 = cc in omega arith)
 
-  module _ (k : Found) (kind : AddressKind) (n : ℕ) (o : Outcome) (r : Reached) (handles′ holders′ drained : List ℕ) (fits : handed + n ≤ 2048)
+  module _ (k : Found) (kind : AddressKind) (n : ℕ) (o : Outcome) (r : Reached) (handles′ holders′ drained : List ℕ) (fits : handed + n ≤ HANDLES)
       (e : seen o ≡ told at c (allocate place k n c)) (same-state : r .state ≡ o .state) (g : Grants (o .reply) handed n kind (r .handed) (r .adds) handles handles′ holders holders′) where
     -- the rules' state after it is the code's
     granted-state : (x : ℕ × rule.Scopes) → allocate place k n c ≡ given x → view (r .state) ≡ x .1 → o .reply ≡ at (x .0)
@@ -129,12 +129,12 @@ module _ (p : Place) (s : Scopes) (handles holders : List ℕ) (handed : ℕ) (s
 
     pub allots : (op : ℕ) → (allot base place k (kindOf kind) n standing >>= λ x. oneLine (shows op (x .0 ∷ [])) (x .1)) ≡ stepped op (r .adds) (stateOf (view (r .state)) handles′ holders′ (r .handed)) drained
     unfolding allot base _>>=_ refuse_when_
-    allots op = rw (le-ltb 2048 (handed + n) fits, allot) (go (allocate (placing 8 p) k n c) refl)
+    allots op = rw (le-ltb HANDLES (handed + n) fits, allot) (go (allocate (placing SEGMENTS p) k n c) refl)
       where
         handed-out : ℕ × rule.Scopes → ℕ × State
         handed-out x = (x .0, standing ▹ scopes≔ (x .1) ▹ handles≔ (grant handed n (x .0) (kindOf kind) (standing .handles)) ▹ handed≔ (handed + n))
 
-        go : (m : Answer (ℕ × rule.Scopes)) → allocate (placing 8 p) k n c ≡ m
+        go : (m : Answer (ℕ × rule.Scopes)) → allocate (placing SEGMENTS p) k n c ≡ m
             → ((m >>= λ x. given (handed-out x)) >>= λ x. oneLine (shows op (x .0 ∷ [])) (x .1))
             ≡ stepped op (r .adds) (stateOf (view (r .state)) handles′ holders′ (r .handed)) drained
         go (given x) q =

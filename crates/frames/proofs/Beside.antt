@@ -7,7 +7,7 @@ use Prim.Native.Nat.{ℕ, _<_}
 use native.Mathlib.Omega.{arith}
 use lib.ListN.{length}
 use Rattle.rules.specs.Notation.{refused, first}
-use Rattle.rules.specs.Sizes.{base}
+use Rattle.rules.specs.Sizes.{base, HANDLES, NEEDS, SLOTS, WORD}
 use Rattle.rules.specs.Slots.{Placement}
 use Rattle.rules.specs.Frames.{Frame, forget, Remembered, State, spent, belongs, barred, freeHandle, Step, step}
 use Rattle.rules.proofs.Chains.{when-true, refused-on}
@@ -49,7 +49,7 @@ module _ (s : Scopes) (handles holders : List ℕ) (handed : ℕ) (t : Needing) 
   pub beside : {place : Placement} (f : Frame) (o : ℕ) (m : Step) (g : State → State) → step base place standing f ≡ mapped (λ r. (r .0, g (r .1))) m
       → (r : Reached) (handles′ holders′ drained : List ℕ) → Comes m o r handles′ holders′ drained
       → (t′ : Needing) → (isRefused (r .adds) ≡ false → g (stateOf (view (r .state)) handles′ holders′ (r .handed)) ≡ stateWith (view (r .state)) handles′ holders′ (r .handed) t′)
-      → length (t′ .needs) ≡ 64 → length (t′ .remembers) ≡ 64 → WorksWith place f o s handles holders handed t r handles′ holders′ t′ drained
+      → length (t′ .needs) ≡ NEEDS → length (t′ .remembers) ≡ NEEDS → WorksWith place f o s handles holders handed t r handles′ holders′ t′ drained
   beside f o m g e r handles′ holders′ drained w t′ q l l′ = record {
     does = e ∙ ap (mapped (λ (x : _ × State). (x .0, g (x .1)))) (w .does) ∙ stepped-as g o (r .adds) _ _ drained q;
     whole = w .whole;
@@ -129,7 +129,7 @@ module _ (s : Scopes) (handles holders : List ℕ) (handed : ℕ) (t : Needing) 
     needing = w .needing;
   }
 
-  pub sound-stands : StateSound base (stateWith (view s) handles holders handed t) → Whole s → s .counter < 65536 → length handles ≡ 2048 → length holders ≡ 1024 → length (t .needs) ≡ 64 → length (t .remembers) ≡ 64
+  pub sound-stands : StateSound base (stateWith (view s) handles holders handed t) → Whole s → s .counter < WORD → length handles ≡ HANDLES → length holders ≡ SLOTS → length (t .needs) ≡ NEEDS → length (t .remembers) ≡ NEEDS
       → StandsWith s handles holders handed t
   sound-stands ok whole counted hl ol nl rl = record {
     stands = record {

@@ -9,7 +9,7 @@ use lib.Dec.{eqb, leb}
 use lib.ListN.{length, getD, set, length-set}
 use borrow.Author.Tests.{le-leb, lt-leb}
 use Rattle.rules.specs.Notation.{Answer, given, refused, _>>=_, refuse_when_, _▹_, put, first}
-use Rattle.rules.specs.Sizes.{base}
+use Rattle.rules.specs.Sizes.{base, HANDLES, SLOTS}
 use Rattle.rules.specs.Scopes as rule
 use Rattle.rules.specs.Needs.{Kind, Address, address, freed, allocatedKind, isFreed}
 use Rattle.rules.specs.Frames.{noNeed, State, Handle, kind≔, written≔, Frame, define, forget, Source, write, read, shows, stores, loads, oneLine, unknown, spent, belongs, barred, setHandle, step}
@@ -71,10 +71,10 @@ module _ (s : Scopes) (handles holders : List ℕ) (handed : ℕ) (stands : Stan
   slot = x .address .slot .0
 
   -- its slot is a slot
-  pub slot-low : slot < 1024
-  slot-low = subst (λ (a : ℕ). a < 1024) (coded .slot) (low (getD handles h 0))
+  pub slot-low : slot < SLOTS
+  slot-low = subst (λ (a : ℕ). a < SLOTS) (coded .slot) (low (getD handles h 0))
     where
-      low : (b : ℕ) → slotIn b < 1024
+      low : (b : ℕ) → slotIn b < SLOTS
       low b = omega arith
 
   pub held-is : (holder : ℕ) (q : Bool) → holder ≡ getD holders slot 0 → q ≡ (occ (s .halves) slot && eqb holder h) → standing .handles h .held ≡ q
@@ -109,7 +109,7 @@ module _ (s : Scopes) (handles holders : List ℕ) (handed : ℕ) (stands : Stan
     unfolding setHandle
     set-changed k w p q = λ t. record { scopes = c; handles = sym (changed k w p q) t; handed = handed; needs = λ n. noNeed; needed = 0 }
 
-    pub now-long : length (set handles h b) ≡ 2048
+    pub now-long : length (set handles h b) ≡ HANDLES
     now-long = simp length-set (stands .handles-length)
 
   -- ---- freed, its slot kept

@@ -7,7 +7,7 @@ use Prim.Native.Nat.{ℕ, _+_, _≤_}
 use native.Mathlib.Omega.{arith}
 use lib.ListN.{getD}
 use Rattle.rules.specs.Notation.{Answer, given, refused, _>>=_}
-use Rattle.rules.specs.Sizes.{base}
+use Rattle.rules.specs.Sizes.{base, HANDLES}
 use Rattle.rules.specs.Slots.{Place, Placement, placing}
 use Rattle.rules.specs.Scopes as rule
 use Rattle.rules.specs.Scopes.{Found, allocate, byId, byNumber}
@@ -49,7 +49,7 @@ module _ (p : Place) (s : Scopes) (handles holders : List ℕ) (handed : ℕ) (s
   in-4 e o = unless-none 4 _ e
 
   module _ (k : Found) (e : byId base c (idOf id) ≡ some k) where
-    pub in-16 : 2048 ≤ handed → (o : ℕ) → allottedIn place (idOf id) o standing ≡ refused 16
+    pub in-16 : HANDLES ≤ handed → (o : ℕ) → allottedIn place (idOf id) o standing ≡ refused 16
     unfolding allottedIn
     in-16 l o = unless-some 4 _ e ∙ refused-on 16 _ (full p s handles holders handed stands k (scope (idOf id)) 1 (omega arith))
 
@@ -70,7 +70,7 @@ module _ (p : Place) (s : Scopes) (handles holders : List ℕ) (handed : ℕ) (s
               subst (λ (h : ℕ). kindIn (getD handles′ h 0) ≡ scope (idOf id)) next (g .hands (record { 0 = x .0 }) says .1 .kinds 0 (omega arith))
           go (refused n) p = clash (ap isRefused (g .says ∙ ap addsOf (ap (λ (y : Seen). y .says) (q ∙ ap (told at c) p)))) u
 
-      pub in-granted : handed + 1 ≤ 2048 → Whole (o .state) → r .state ≡ o .state → AllotsOne place (idOf id) s handles holders handed r handles′ holders′
+      pub in-granted : handed + 1 ≤ HANDLES → Whole (o .state) → r .state ≡ o .state → AllotsOne place (idOf id) s handles holders handed r handles′ holders′
       unfolding allottedIn
       in-granted fits ok same = record {
         comes = λ op drained. record {

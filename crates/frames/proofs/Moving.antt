@@ -7,7 +7,7 @@ use mathlib.Core.List.{List, [], _∷_}
 use Prim.Native.Nat.{ℕ, _%_, _<_}
 use native.Mathlib.Omega.{arith}
 use Rattle.rules.specs.Notation.{Answer, given, refused, _>>=_, _▹_}
-use Rattle.rules.specs.Sizes.{base}
+use Rattle.rules.specs.Sizes.{base, WORD}
 use Rattle.rules.specs.Slots.{Slots, Placement, removeAll}
 use Rattle.rules.specs.AddressSets.{member}
 use Rattle.rules.specs.Scopes as rule
@@ -115,7 +115,7 @@ module _ (s : Scopes) (handles holders : List ℕ) (handed : ℕ) (stands : Stan
         told-does c handles holders handed drained 0x01 d y opened (λ i. shows 0x01 (i .number ∷ [])) (rule.openChild base c) e
         (λ x q. child-leaves base c .at x q .1 .slots-are)
         (λ x q t.
-        let n : x .0 .number ≡ x .0 .number % 65536 = omega (arith, child-leaves base c .at x q .0, stands .counted) in
+        let n : x .0 .number ≡ x .0 .number % WORD = omega (arith, child-leaves base c .at x q .0, stands .counted) in
         λ u. oneLine (shows 0x01 (n u ∷ [])) t)
 
     pub dangle-does : (n : ℕ) {x : Option Found} → x ≡ rule.byNumber base c n → record { next = d; says = y } ≡ toldOnly c (rule.dangleScope x c) → step base nowhere (stateOf c handles holders handed) (dangle n) ≡ stepped 0x03 (addsOf y) (stateOf d handles holders handed) drained

@@ -8,7 +8,7 @@ use native.Mathlib.Omega.{arith}
 use lib.ListN.{length, getD, set, length-set}
 use borrow.Author.Tests.{le-leb, lt-leb}
 use Rattle.rules.specs.Notation.{_>>=_, refuse_when_}
-use Rattle.rules.specs.Sizes.{base}
+use Rattle.rules.specs.Sizes.{base, NEEDS}
 use Rattle.rules.specs.Scopes as rule
 use Rattle.rules.specs.Scopes.{byId, byNumber}
 use Rattle.rules.specs.Needs.{outputOf}
@@ -30,24 +30,24 @@ use Rattle.frames.specs.declared.steps.Adds.the-variants.{One, Refused}
 
 -- ---- one more
 
-module _ (needs remembers : List ℕ) (needed b h : ℕ) (long : length needs ≡ 64) (long′ : length remembers ≡ 64) where
+module _ (needs remembers : List ℕ) (needed b h : ℕ) (long : length needs ≡ NEEDS) (long′ : length remembers ≡ NEEDS) where
   abbrev x : Remembered
   x = record { need = needIn b; handle = h }
 
-  pub adding-22 : 64 ≤ needed → AddsNeed x (table needs remembers needed) (Refused 22) (table needs remembers needed)
+  pub adding-22 : NEEDS ≤ needed → AddsNeed x (table needs remembers needed) (Refused 22) (table needs remembers needed)
   unfolding addNeed base _>>=_ refuse_when_
   adding-22 l = record {
-    does = λ c handles holders handed o drained. rw (le-leb 64 needed l, addNeed);
+    does = λ c handles holders handed o drained. rw (le-leb NEEDS needed l, addNeed);
     few = tt;
     needs-length = long;
     remembers-length = long′;
   }
 
-  pub adding : needed < 64 → AddsNeed x (table needs remembers needed) (One needed) (table (set needs needed b) (set remembers needed h) (needed + 1))
+  pub adding : needed < NEEDS → AddsNeed x (table needs remembers needed) (One needed) (table (set needs needed b) (set remembers needed h) (needed + 1))
   unfolding addNeed setNeed base _>>=_ refuse_when_
   adding l = record {
     does = λ c handles holders handed o drained.
-        rw (lt-leb 64 needed l, addNeed)
+        rw (lt-leb NEEDS needed l, addNeed)
         (λ t. oneLine (shows o (needed ∷ [])) (record { scopes = c; handles = handleAt (c .slots .occupied) handles holders; handed = handed; needs = sym (need-set needs remembers needed b h (omega arith) (omega arith)) t; needed = needed + 1 }));
     few = tt;
     needs-length = simp length-set long;

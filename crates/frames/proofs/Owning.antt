@@ -7,7 +7,7 @@ use Prim.Native.Nat.{ℕ, _≤_, _<_}
 use native.Mathlib.Omega.{arith}
 use lib.ListN.{length, getD, set, length-set}
 use Rattle.rules.specs.Notation.{Answer, given, refused, _>>=_, refuse_unless_, if_then_else_, _▹_, put}
-use Rattle.rules.specs.Sizes.{Room, base}
+use Rattle.rules.specs.Sizes.{Room, base, NEEDS}
 use Rattle.rules.specs.Slots.{Placement}
 use Rattle.rules.specs.Scopes as rule
 use Rattle.rules.specs.Scopes.{Id, Found, byId}
@@ -141,7 +141,7 @@ module _ (c : rule.Scopes) (handles holders : List ℕ) (handed : ℕ) (t : Need
 -- ---- steps
 
 module _ (s : Scopes) (handles holders : List ℕ) (handed : ℕ) (t : Needing) (stands : StandsWith s handles holders handed t) (n : ℕ) where
-  pub below : n < t .needed → n < 64
+  pub below : n < t .needed → n < NEEDS
   unfolding base
   below l = omega (arith, stands .needing .few)
 
@@ -207,7 +207,7 @@ module _ (place : Placement) (s : Scopes) (handles holders : List ℕ) (handed :
 
     module _ (id : Id) (is : needIn (getD (t .needs) n 0) ≡ defer id) (r : Reached) (handles′ holders′ : List ℕ) (a : AllotsOne place id s handles holders handed r handles′ holders′) (drained : List ℕ) where
       first-to : (t′ : Needing) → (isRefused (r .adds) ≡ false → owned place (rememberedAt (t .needs) (t .remembers)) (t .needed) bare n there id is (stateOf (view (r .state)) handles′ holders′ (r .handed)) ≡ stateWith (view (r .state)) handles′ holders′ (r .handed) t′)
-          → length (t′ .needs) ≡ 64 → length (t′ .remembers) ≡ 64 → WorksWith place (allocNeed n) 0x23 s handles holders handed t r handles′ holders′ t′ drained
+          → length (t′ .needs) ≡ NEEDS → length (t′ .remembers) ≡ NEEDS → WorksWith place (allocNeed n) 0x23 s handles holders handed t r handles′ holders′ t′ drained
       first-to = beside s handles holders handed t stands (allocNeed n) 0x23 _ _ (first-is place (rememberedAt (t .needs) (t .remembers)) (t .needed) bare n there id is) r handles′ holders′ drained (a .comes 0x23 drained)
 
       pub first-refused : isRefused (r .adds) ≡ true → WorksWith place (allocNeed n) 0x23 s handles holders handed t r handles′ holders′ t drained
@@ -221,7 +221,7 @@ module _ (place : Placement) (s : Scopes) (handles holders : List ℕ) (handed :
     module _ (d : Need) (is : d ≡ needIn (getD (t .needs) n 0)) (kept : isGone d ≡ false) (r : Reached) (handles′ : List ℕ) (drained : List ℕ)
         (w : Comes (freedThen 0x25 (freeOwn (getD (t .remembers) n 0) bare d)) 0x25 r handles′ holders drained) where
       drop-to : (t′ : Needing) → (isRefused (r .adds) ≡ false → (within (rememberedAt (t .needs) (t .remembers)) (t .needed) (stateOf (view (r .state)) handles′ holders (r .handed)) ▹ setNeed n noNeed) ≡ stateWith (view (r .state)) handles′ holders (r .handed) t′)
-          → length (t′ .needs) ≡ 64 → length (t′ .remembers) ≡ 64 → WorksWith place (dropNeed n) 0x25 s handles holders handed t r handles′ holders t′ drained
+          → length (t′ .needs) ≡ NEEDS → length (t′ .remembers) ≡ NEEDS → WorksWith place (dropNeed n) 0x25 s handles holders handed t r handles′ holders t′ drained
       drop-to =
           beside s handles holders handed t stands (dropNeed n) 0x25 _ _ (drop-is place (rememberedAt (t .needs) (t .remembers)) (t .needed) bare n there (sym (ap isGone is) ∙ kept)) r handles′ holders drained
           (comes-by 0x25 r handles′ holders drained (λ u. freedThen 0x25 (freeOwn (getD (t .remembers) n 0) bare (sym is u))) w)

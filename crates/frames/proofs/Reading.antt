@@ -7,7 +7,7 @@ use Prim.Native.Nat.{ℕ, _+_, _≤_, _<_}
 use native.Mathlib.Omega.{arith}
 use lib.ListN.{length, getD, take, length-take}
 use Rattle.rules.specs.Notation.{Answer, given, refused, _>>=_, refuse_unless_, _▹_}
-use Rattle.rules.specs.Sizes.{base}
+use Rattle.rules.specs.Sizes.{base, HANDLES, SCOPES, SLOTS}
 use Rattle.rules.specs.Scopes as rule
 use Rattle.rules.specs.Needs.{isFreed}
 use Rattle.rules.specs.Frames as frame
@@ -74,7 +74,7 @@ module _ (s : Scopes) (handles holders : List ℕ) (handed : ℕ) (stands : Stan
 
   -- ---- drain
 
-  pub drain-works : (t : Scopes) (count : ℕ) (drained : List ℕ) → view t ≡ rule.drainDangling c .1 → take count drained ≡ rule.drainDangling c .0 → Whole t → length drained ≡ 1024 → count ≤ 1024
+  pub drain-works : (t : Scopes) (count : ℕ) (drained : List ℕ) → view t ≡ rule.drainDangling c .1 → take count drained ≡ rule.drainDangling c .0 → Whole t → length drained ≡ SLOTS → count ≤ SLOTS
       → Works nowhere frame.drain 0x0f s handles holders handed (record { state = t; handed = handed; adds = Drained count }) handles holders drained
   unfolding step rule.drainDangling
   drain-works t count drained e q ok long few =
@@ -89,11 +89,11 @@ module _ (s : Scopes) (handles holders : List ℕ) (handed : ℕ) (stands : Stan
 
   -- ---- define
 
-  pub define-3 : (name h : ℕ) → s .top ≡ 64 → step base nowhere standing (frame.define name h) ≡ refused 3
+  pub define-3 : (name h : ℕ) → s .top ≡ SCOPES → step base nowhere standing (frame.define name h) ≡ refused 3
   unfolding step
   define-3 name h e = unless-none 3 _ (no-top s e)
 
-  module _ (name h : ℕ) (ne : s .top ≡ 64 → ⊥) where
+  module _ (name h : ℕ) (ne : s .top ≡ SCOPES → ⊥) where
     pub define-unknown : handed ≤ h → step base nowhere standing (frame.define name h) ≡ refused 13
     unfolding step
     define-unknown l = unless-some 3 _ (has-top s stands ne .1) ∙ when-true 13 _ (spent-unknown standing h l)
@@ -138,7 +138,7 @@ module _ (s : Scopes) (handles holders : List ℕ) (handed : ℕ) (stands : Stan
             let says : y ≡ reply.Refused n = e ∙ ap (replied bound) p in
             named-chain name standing (refused n) p ∙ λ t. stepped 0x12 (sym (q ∙ ap addsOf says) t) standing drained
 
-    pub named-loads : handleOr y < handed → handed ≤ 2048 → LoadsOf (frame.readName name) 0x12 s handles holders handed (handleOr y)
+    pub named-loads : handleOr y < handed → handed ≤ HANDLES → LoadsOf (frame.readName name) 0x12 s handles holders handed (handleOr y)
     unfolding step _>>=_
     named-loads l few = go (rule.getName base name c) refl
       where

@@ -6,7 +6,7 @@ use Prim.Native.Nat.{ℕ}
 use lib.ListN.{length}
 use denote.Ref.{RefT, now}
 use Rattle.rules.specs.Notation.{_>>=_}
-use Rattle.rules.specs.Sizes.{base}
+use Rattle.rules.specs.Sizes.{base, HANDLES, NEEDS, SLOTS}
 use Rattle.rules.specs.Slots.{Placement}
 use Rattle.rules.specs.Scopes as scope
 use Rattle.rules.specs.Needs.{Kind, freed, Need, defer, at, ignore, freedNeed}
@@ -32,8 +32,8 @@ use Rattle.frames.specs.declared.steps.Stepped.{Stepped}
 pub record StandsWith (s : Scopes) (handles holders : List ℕ) (handed : ℕ) (t : Needing) : Type 0 where
   pub stands : Stands s handles holders handed
   pub needing : NeedsSound (base .needs) (handleAt (view s .slots .occupied) handles holders) handed (rememberedAt (t .needs) (t .remembers)) (t .needed)
-  pub needs-length : length (t .needs) ≡ 64
-  pub remembers-length : length (t .remembers) ≡ 64
+  pub needs-length : length (t .needs) ≡ NEEDS
+  pub remembers-length : length (t .remembers) ≡ NEEDS
 
 -- The frame f, of opcode o, leads from the state and the tables before it to r and the tables after it, as the rules say where slots go by
 -- `place`. After a refusal nothing is said of them: no step follows.
@@ -42,10 +42,10 @@ pub record WorksWith (place : Placement) (f : rules.Frame) (o : ℕ) (s : Scopes
       ≡ stepped o (r .adds) (stateWith (view (r .state)) handles′ holders′ (r .handed) t′) drained
   pub whole : Whole (r .state)
   pub few : Few (r .adds)
-  pub handles-length : length handles′ ≡ 2048
-  pub holders-length : length holders′ ≡ 1024
-  pub needs-length : length (t′ .needs) ≡ 64
-  pub remembers-length : length (t′ .remembers) ≡ 64
+  pub handles-length : length handles′ ≡ HANDLES
+  pub holders-length : length holders′ ≡ SLOTS
+  pub needs-length : length (t′ .needs) ≡ NEEDS
+  pub remembers-length : length (t′ .remembers) ≡ NEEDS
 
 -- the state becomes u, the needs t′, where slots go by `place`
 abbrev pub LeadsWithBy : Placement → rules.Frame → ℕ → Scopes → Scopes → List ℕ → List ℕ → ℕ → Needing → Stepped → List ℕ → List ℕ → Needing → Type 0
@@ -66,8 +66,8 @@ pub record AddsNeed (x : Remembered) (t : Needing) (adds : Adds) (t′ : Needing
   pub does : (c : scope.Scopes) (handles holders : List ℕ) (handed o : ℕ) (drained : List ℕ)
       → (rules.addNeed base x (stateWith c handles holders handed t) >>= λ u. oneLine (shows o (t .needed ∷ [])) u) ≡ stepped o adds (stateWith c handles holders handed t′) drained
   pub few : Few adds
-  pub needs-length : length (t′ .needs) ≡ 64
-  pub remembers-length : length (t′ .remembers) ≡ 64
+  pub needs-length : length (t′ .needs) ≡ NEEDS
+  pub remembers-length : length (t′ .remembers) ≡ NEEDS
 
 -- what 24 shows
 abbrev pub shownOf : OutputAnswer → Adds

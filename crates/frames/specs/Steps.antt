@@ -7,7 +7,7 @@ use Prim.Native.Nat.{ℕ, _+_, _%_, _≤_, _<_}
 use lib.ListN.{length, getD, take}
 use denote.Ref.{RefT, now}
 use Rattle.rules.specs.Notation.{Answer, refused, _>>=_, refuse_when_, refuse_unless_}
-use Rattle.rules.specs.Sizes.{base}
+use Rattle.rules.specs.Sizes.{base, HANDLES, SLOTS, WORD}
 use Rattle.rules.specs.Slots.{Placement}
 use Rattle.rules.specs.Scopes as scope
 use Rattle.rules.specs.Needs.{scope as inScope}
@@ -51,7 +51,7 @@ abbrev pub addsOf : Reply → Adds
 addsOf reply.Done = Nothing
 addsOf (reply.At a) = One (a .0)
 addsOf reply.Empty = One 0xffff
-addsOf (reply.Opened i) = One (i .number % 65536)
+addsOf (reply.Opened i) = One (i .number % WORD)
 addsOf (reply.Found b) = One (b .address .0)
 addsOf (reply.Refused n) = Refused n
 
@@ -87,7 +87,7 @@ Few Nothing = Unit {0}
 Few (One a) = Unit {0}
 Few (Store a x) = Unit {0}
 Few (Load a) = Unit {0}
-Few (Drained n) = n ≤ 1024
+Few (Drained n) = n ≤ SLOTS
 Few (Refused n) = Unit {0}
 
 -- ---- steps
@@ -105,9 +105,9 @@ freeCode false = 0x0d
 pub record Stands (s : Scopes) (handles holders : List ℕ) (handed : ℕ) : Type 0 where
   pub whole : Whole s
   pub state : StateSound base (stateOf (view s) handles holders handed)
-  pub counted : s .counter < 65536
-  pub handles-length : length handles ≡ 2048
-  pub holders-length : length holders ≡ 1024
+  pub counted : s .counter < WORD
+  pub handles-length : length handles ≡ HANDLES
+  pub holders-length : length holders ≡ SLOTS
 
 -- where a step leads: the state, how many handles were handed out, and what its line adds
 pub record Reached : Type 0 where
@@ -126,16 +126,16 @@ pub record Works (place : Placement) (f : rules.Frame) (o : ℕ) (s : Scopes) (h
       ≡ stepped o (r .adds) (stateOf (view (r .state)) handles′ holders′ (r .handed)) drained
   pub whole : Whole (r .state)
   pub few : Few (r .adds)
-  pub handles-length : length handles′ ≡ 2048
-  pub holders-length : length holders′ ≡ 1024
+  pub handles-length : length handles′ ≡ HANDLES
+  pub holders-length : length holders′ ≡ SLOTS
 
 -- m, which several frames have a use for, comes to r and the tables after it, with a line of opcode o
 pub record Comes (m : rules.Step) (o : ℕ) (r : Reached) (handles′ holders′ drained : List ℕ) : Type 0 where
   pub does : m ≡ stepped o (r .adds) (stateOf (view (r .state)) handles′ holders′ (r .handed)) drained
   pub whole : Whole (r .state)
   pub few : Few (r .adds)
-  pub handles-length : length handles′ ≡ 2048
-  pub holders-length : length holders′ ≡ 1024
+  pub handles-length : length handles′ ≡ HANDLES
+  pub holders-length : length holders′ ≡ SLOTS
 
 -- a slot in the scope of that id, and its handle: 4, 16, 7; the line shows the address
 unfoldable pub allottedIn : Placement → scope.Id → ℕ → rules.State → rules.Step
@@ -191,8 +191,8 @@ freesOut s halves links owner number n = onFrees s (now (halves .exit)) (now (li
 
 -- ---- what is asked where the state doesn't matter
 pub record Tables (handles : List ℕ) (handed : ℕ) : Type 0 where
-  pub most : handed ≤ 2048
-  pub long : length handles ≡ 2048
+  pub most : handed ≤ HANDLES
+  pub long : length handles ≡ HANDLES
 
 -- the state becomes t, where slots go by `place`
 abbrev pub LeadsBy : Placement → rules.Frame → ℕ → Scopes → Scopes → List ℕ → List ℕ → ℕ → Stepped → List ℕ → List ℕ → Type 0
@@ -224,8 +224,8 @@ loading o t h = do
 pub record Grants (y : Reply) (handed n : ℕ) (k : AddressKind) (handed′ : ℕ) (adds : Adds) (handles handles′ holders holders′ : List ℕ) : Type 0 where
   pub says : adds ≡ addsOf y
   pub hands : (a : SlotAddress) → y ≡ reply.At a → (handed′ ≡ handed + n) × Hands handles handles′ holders holders′ handed n (a .0) (kindOf k)
-  pub handles-length : length handles′ ≡ 2048
-  pub holders-length : length holders′ ≡ 1024
+  pub handles-length : length handles′ ≡ HANDLES
+  pub holders-length : length holders′ ≡ SLOTS
 
 -- the frame f, of opcode o, loads what handle h holds: 14, 15
 abbrev pub LoadsOf : rules.Frame → ℕ → Scopes → List ℕ → List ℕ → ℕ → ℕ → Type 0
@@ -234,7 +234,7 @@ LoadsOf f o s handles holders handed h = rules.step base nowhere (stateOf (view 
 -- one slot was asked for in the scope of that id; the handle that was handed out is the next one, and of that scope
 pub record AllotsOne (place : Placement) (id : scope.Id) (s : Scopes) (handles holders : List ℕ) (handed : ℕ) (r : Reached) (handles′ holders′ : List ℕ) : Type 0 where
   pub comes : (o : ℕ) (drained : List ℕ) → Comes (allottedIn place id o (stateOf (view s) handles holders handed)) o r handles′ holders′ drained
-  pub hands : isRefused (r .adds) ≡ false → (handed < 2048) × (kindIn (getD handles′ handed 0) ≡ inScope id)
+  pub hands : isRefused (r .adds) ≡ false → (handed < HANDLES) × (kindIn (getD handles′ handed 0) ≡ inScope id)
 
 -- .. over the lent arrays
 abbrev pub AllotsInScope : Placement → scope.Id → (halves links owner : LentArray ℕ) → LentArray Bool → LentArray ℕ → Numbers → (handles holders : LentArray ℕ) → ℕ → Stepped → Type 0

@@ -2,6 +2,7 @@
 ghost use mathlib.Core.Path.{_≡_};
 ghost use Prim.Native.Nat.{_+_, _≤_, _<_};
 ghost use lib.ListN.{length};
+ghost use Rattle.rules.specs.Sizes.{HANDLES, SLOTS};
 ghost use Rattle.rules.specs.Frames as frame;
 ghost use Rattle.scopes.specs.View.{idOf};
 ghost use Rattle.scopes.specs.Lent.{withSlots};
@@ -15,6 +16,11 @@ use crate::steps::refused;
 use handles::grant;
 use needs::AddressKind;
 use needs::linear::run_kind;
+use rules::HALVES;
+use rules::HANDLES;
+use rules::LINKS;
+use rules::SCOPES;
+use rules::SLOTS;
 use scopes::LentOutcome;
 use scopes::Numbers;
 use scopes::Reply;
@@ -42,21 +48,21 @@ fn slot_or(reply: Reply) -> usize
 // Slots were asked for, `many` of them: where they were given, as many handles go out.
 fn granted(
     o: LentOutcome,
-    handles: &mut [u64; 2048],
-    holders: &mut [u16; 1024],
+    handles: &mut [u64; HANDLES],
+    holders: &mut [u16; SLOTS],
     handed: usize,
     many: usize,
     kind: AddressKind,
 ) -> Stepped
-    requires { ⌜ (handed + many ≤ 2048) × (length (now handles) ≡ 2048) × (length (now holders) ≡ 1024) ⌝ }
-    requires { ⌜ ((a : SlotAddress) → o .reply ≡ Reply.At a → (a .0 < 1024) × (a .0 + many ≤ 1024)) ⌝ }
+    requires { ⌜ (handed + many ≤ HANDLES) × (length (now handles) ≡ HANDLES) × (length (now holders) ≡ SLOTS) ⌝ }
+    requires { ⌜ ((a : SlotAddress) → o .reply ≡ Reply.At a → (a .0 < SLOTS) × (a .0 + many ≤ SLOTS)) ⌝ }
     ensures { λ r. ⌜ (r .numbers ≡ o .numbers) × Grants (o .reply) handed many kind (r .handed) (r .adds) (now (handles .entry)) (now (handles .exit)) (now (holders .entry)) (now (holders .exit)) ⌝ }
 {
     let n = o.numbers;
     let reply = o.reply;
     let adds = adds_of(reply);
     let first = slot_or(reply);
-    if first < 1024 {
+    if first < SLOTS {
         grant(handles, holders, handed, many, first, kind);
         return Stepped {
             numbers: n,
@@ -72,12 +78,12 @@ fn granted(
 }
 
 pub fn alloc(
-    halves: &mut [u64; 16],
-    links: &mut [u16; 2178],
-    owner: &mut [u8; 1024],
+    halves: &mut [u64; HALVES],
+    links: &mut [u16; LINKS],
+    owner: &mut [u8; SLOTS],
     n: Numbers,
-    handles: &mut [u64; 2048],
-    holders: &mut [u16; 1024],
+    handles: &mut [u64; HANDLES],
+    holders: &mut [u16; SLOTS],
     handed: usize,
     place: Place,
 ) -> Stepped
@@ -85,10 +91,10 @@ pub fn alloc(
     ensures { λ r. ⌜ LeadsSlots (placementOf place) frame.alloc 0x06 halves links owner n handles holders handed r ⌝ }
 {
     let top = n.top;
-    if top == 64 {
+    if top == SCOPES {
         return refused(n, handed, 3);
     }
-    if 2048 <= handed {
+    if HANDLES <= handed {
         return refused(n, handed, 16);
     }
     let o = lent::alloc(halves, links, owner, n, place);
@@ -97,14 +103,14 @@ pub fn alloc(
 
 // One slot in the scope of that id, and its handle: 4, 16, 7.
 pub fn alloc_in_scope<'a>(
-    halves: &mut [u64; 16],
-    links: &mut [u16; 2178],
-    owner: &mut [u8; 1024],
-    live: &'a [bool; 64],
-    number: &'a [u32; 64],
+    halves: &mut [u64; HALVES],
+    links: &mut [u16; LINKS],
+    owner: &mut [u8; SLOTS],
+    live: &'a [bool; SCOPES],
+    number: &'a [u32; SCOPES],
     n: Numbers,
-    handles: &mut [u64; 2048],
-    holders: &mut [u16; 1024],
+    handles: &mut [u64; HANDLES],
+    holders: &mut [u16; SLOTS],
     handed: usize,
     id: ScopeId,
     place: Place,
@@ -113,10 +119,10 @@ pub fn alloc_in_scope<'a>(
     ensures { λ r. ⌜ AllotsInScope (placementOf place) (idOf id) halves links owner live number n handles holders handed r ⌝ }
 {
     let i = open::place_of(live, number, id);
-    if i == 64 {
+    if i == SCOPES {
         return refused(n, handed, 4);
     }
-    if 2048 <= handed {
+    if HANDLES <= handed {
         return refused(n, handed, 16);
     }
     let o = lent::alloc_in(halves, links, owner, live, number, n, id, place);
@@ -124,14 +130,14 @@ pub fn alloc_in_scope<'a>(
 }
 
 pub fn alloc_in<'a>(
-    halves: &mut [u64; 16],
-    links: &mut [u16; 2178],
-    owner: &mut [u8; 1024],
-    live: &'a [bool; 64],
-    number: &'a [u32; 64],
+    halves: &mut [u64; HALVES],
+    links: &mut [u16; LINKS],
+    owner: &mut [u8; SLOTS],
+    live: &'a [bool; SCOPES],
+    number: &'a [u32; SCOPES],
     n: Numbers,
-    handles: &mut [u64; 2048],
-    holders: &mut [u16; 1024],
+    handles: &mut [u64; HANDLES],
+    holders: &mut [u16; SLOTS],
     handed: usize,
     k: u16,
     place: Place,
@@ -156,12 +162,12 @@ pub fn alloc_in<'a>(
 }
 
 pub fn linear(
-    halves: &mut [u64; 16],
-    links: &mut [u16; 2178],
-    owner: &mut [u8; 1024],
+    halves: &mut [u64; HALVES],
+    links: &mut [u16; LINKS],
+    owner: &mut [u8; SLOTS],
     n: Numbers,
-    handles: &mut [u64; 2048],
-    holders: &mut [u16; 1024],
+    handles: &mut [u64; HANDLES],
+    holders: &mut [u16; SLOTS],
     handed: usize,
     k: u16,
     place: Place,
@@ -170,7 +176,7 @@ pub fn linear(
     ensures { λ r. ⌜ LeadsSlots (placementOf place) (frame.linear k) 0x08 halves links owner n handles holders handed r ⌝ }
 {
     let top = n.top;
-    if top == 64 {
+    if top == SCOPES {
         return refused(n, handed, 3);
     }
     if k == 0 {
@@ -181,7 +187,7 @@ pub fn linear(
         };
     }
     let many = k as usize;
-    if 2048 < handed + many {
+    if HANDLES < handed + many {
         return refused(n, handed, 16);
     }
     let o = lent::alloc_run(halves, links, owner, n, k, place);

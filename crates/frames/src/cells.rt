@@ -11,6 +11,11 @@ use handles::is_held;
 use handles::packed;
 use handles::unpacked;
 use needs::addresses::allocated;
+use rules::BINDINGS;
+use rules::HALVES;
+use rules::HANDLES;
+use rules::SCOPES;
+use rules::SLOTS;
 use scopes::HandleNumber;
 use scopes::Numbers;
 use scopes::Reply;
@@ -19,9 +24,9 @@ use scopes::lent::names;
 
 // 13, 14. A write makes a Dangling handle Local.
 pub fn write(
-    halves: &[u64; 16],
-    handles: &mut [u64; 2048],
-    holders: &[u16; 1024],
+    halves: &[u64; HALVES],
+    handles: &mut [u64; HANDLES],
+    holders: &[u16; SLOTS],
     handed: usize,
     h: HandleNumber,
     x: Source,
@@ -50,9 +55,9 @@ pub fn write(
 
 // The load of handle h, which is known: 14, 15.
 fn load(
-    halves: &[u64; 16],
-    handles: &[u64; 2048],
-    holders: &[u16; 1024],
+    halves: &[u64; HALVES],
+    handles: &[u64; HANDLES],
+    holders: &[u16; SLOTS],
     handed: usize,
     h: HandleNumber,
 ) -> Adds
@@ -76,9 +81,9 @@ fn load(
 
 // 13, 14, 15.
 pub fn read(
-    halves: &[u64; 16],
-    handles: &[u64; 2048],
-    holders: &[u16; 1024],
+    halves: &[u64; HALVES],
+    handles: &[u64; HANDLES],
+    holders: &[u16; SLOTS],
     handed: usize,
     h: HandleNumber,
 ) -> Adds
@@ -111,13 +116,13 @@ fn handle_or(reply: Reply) -> u16
 
 // 3, 10, 11, 14, 15.
 pub fn read_name<'a>(
-    halves: &[u64; 16],
-    live: &'a [bool; 64],
-    parent: &'a [u8; 64],
-    bindings: &'a [u64; 256],
+    halves: &[u64; HALVES],
+    live: &'a [bool; SCOPES],
+    parent: &'a [u8; SCOPES],
+    bindings: &'a [u64; BINDINGS],
     n: Numbers,
-    handles: &[u64; 2048],
-    holders: &[u16; 1024],
+    handles: &[u64; HANDLES],
+    holders: &[u16; SLOTS],
     handed: usize,
     name: u16,
 ) -> Adds

@@ -17,6 +17,11 @@ use needs::AddressKind;
 use needs::addresses::goes_back;
 use needs::addresses::is_done;
 use needs::addresses::is_freed;
+use rules::HALVES;
+use rules::HANDLES;
+use rules::LINKS;
+use rules::SCOPES;
+use rules::SLOTS;
 use scopes::HandleNumber;
 use scopes::Numbers;
 use scopes::Scopes;
@@ -24,12 +29,12 @@ use scopes::lent::place;
 
 // The slot of h, which is known as x, goes back: 14, 12.
 fn hand_back(
-    halves: &mut [u64; 16],
-    links: &mut [u16; 2178],
-    owner: &mut [u8; 1024],
+    halves: &mut [u64; HALVES],
+    links: &mut [u16; LINKS],
+    owner: &mut [u8; SLOTS],
     n: Numbers,
-    handles: &mut [u64; 2048],
-    holders: &[u16; 1024],
+    handles: &mut [u64; HANDLES],
+    holders: &[u16; SLOTS],
     handed: usize,
     h: HandleNumber,
     x: Handle,
@@ -62,13 +67,13 @@ fn hand_back(
 
 // The handle h, which is known as x, is freed as an address of that kind: where the slot goes back 14, 12.
 pub fn free_as(
-    halves: &mut [u64; 16],
-    links: &mut [u16; 2178],
-    owner: &mut [u8; 1024],
-    number: &[u32; 64],
+    halves: &mut [u64; HALVES],
+    links: &mut [u16; LINKS],
+    owner: &mut [u8; SLOTS],
+    number: &[u32; SCOPES],
     n: Numbers,
-    handles: &mut [u64; 2048],
-    holders: &[u16; 1024],
+    handles: &mut [u64; HANDLES],
+    holders: &[u16; SLOTS],
     handed: usize,
     h: HandleNumber,
     x: Handle,
@@ -103,13 +108,13 @@ pub fn free_as(
 
 // 13, then where the slot goes back 14, 12.
 pub fn free(
-    halves: &mut [u64; 16],
-    links: &mut [u16; 2178],
-    owner: &mut [u8; 1024],
-    number: &[u32; 64],
+    halves: &mut [u64; HALVES],
+    links: &mut [u16; LINKS],
+    owner: &mut [u8; SLOTS],
+    number: &[u32; SCOPES],
     n: Numbers,
-    handles: &mut [u64; 2048],
-    holders: &[u16; 1024],
+    handles: &mut [u64; HANDLES],
+    holders: &[u16; SLOTS],
     handed: usize,
     h: HandleNumber,
     dangles: bool,
@@ -144,7 +149,7 @@ pub fn free(
 }
 
 // 13.
-pub fn forget(handles: &mut [u64; 2048], handed: usize, h: HandleNumber) -> Adds
+pub fn forget(handles: &mut [u64; HANDLES], handed: usize, h: HandleNumber) -> Adds
     requires { ⌜ Tables (now handles) handed ⌝ }
     ensures { λ r. ⌜ ((s : Scopes) (holders : List ℕ) → Stays (frame.forget (h .0)) 0x0e s (now (handles .entry)) holders handed r (now (handles .exit))) ⌝ }
 {

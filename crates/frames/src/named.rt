@@ -11,6 +11,9 @@ use crate::steps::ended;
 use crate::steps::refused;
 use handles::unpacked;
 use needs::addresses::is_freed;
+use rules::BINDINGS;
+use rules::HANDLES;
+use rules::SCOPES;
 use scopes::HandleNumber;
 use scopes::Numbers;
 use scopes::Scopes;
@@ -18,9 +21,9 @@ use scopes::lent::names;
 
 // 3, 13, 9.
 pub fn define(
-    bindings: &mut [u64; 256],
+    bindings: &mut [u64; BINDINGS],
     n: Numbers,
-    handles: &[u64; 2048],
+    handles: &[u64; HANDLES],
     handed: usize,
     name: u16,
     h: HandleNumber,
@@ -29,7 +32,7 @@ pub fn define(
     ensures { λ r. ⌜ ((s : Scopes) (holders : List ℕ) → Leads (frame.define name (h .0)) 0x09 (withNames s (now (bindings .entry)) n) (withNames s (now (bindings .exit)) (r .numbers)) (now (handles .entry)) holders handed r (now (handles .entry)) holders) ⌝ }
 {
     let top = n.top;
-    if top == 64 {
+    if top == SCOPES {
         return refused(n, handed, 3);
     }
     let i = h.0 as usize;
@@ -48,9 +51,9 @@ pub fn define(
 
 // 3, 10, 11.
 pub fn get<'a>(
-    live: &'a [bool; 64],
-    parent: &'a [u8; 64],
-    bindings: &'a [u64; 256],
+    live: &'a [bool; SCOPES],
+    parent: &'a [u8; SCOPES],
+    bindings: &'a [u64; BINDINGS],
     n: Numbers,
     name: u16,
 ) -> Adds
@@ -63,9 +66,9 @@ pub fn get<'a>(
 
 // 3, 10, 11.
 pub fn take<'a>(
-    live: &'a [bool; 64],
-    parent: &'a [u8; 64],
-    bindings: &mut [u64; 256],
+    live: &'a [bool; SCOPES],
+    parent: &'a [u8; SCOPES],
+    bindings: &mut [u64; BINDINGS],
     n: Numbers,
     handed: usize,
     name: u16,

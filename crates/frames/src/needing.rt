@@ -1,6 +1,7 @@
 // 20 defer, 21 assigned, 22 ignore, 24 output of need: frames that make a need or ask one, and leave all else alone.
 ghost use mathlib.Core.Path.{_≡_};
 ghost use Prim.Native.Nat.{_≤_};
+ghost use Rattle.rules.specs.Sizes.{NEEDS};
 ghost use Rattle.rules.specs.Frames as frame;
 ghost use Rattle.needs.specs.Kinds.{needOf};
 ghost use Rattle.handles.specs.NeedTable.{needIn, SizedNeeds};
@@ -15,6 +16,9 @@ use handles::unpacked;
 use needs::Need;
 use needs::OutputAnswer;
 use needs::any;
+use rules::HANDLES;
+use rules::NEEDS;
+use rules::SCOPES;
 use scopes::HandleNumber;
 use scopes::Scopes;
 
@@ -27,11 +31,17 @@ pub struct Noted {
 // ---- 20, 21, 22
 
 // One more need, of number b, that remembers h: 22.
-fn add(needs: &mut [u64; 64], remembers: &mut [u16; 64], needed: usize, b: u64, h: u16) -> Noted
+fn add(
+    needs: &mut [u64; NEEDS],
+    remembers: &mut [u16; NEEDS],
+    needed: usize,
+    b: u64,
+    h: u16,
+) -> Noted
     requires { ⌜ SizedNeeds (now needs) (now remembers) needed ⌝ }
     ensures { λ r. ⌜ AddsNeed (record { need = needIn b; handle = h }) (tableIn needs remembers needed) (r .adds) (tableOut needs remembers (r .needed)) ⌝ }
 {
-    if 64 <= needed {
+    if NEEDS <= needed {
         return Noted {
             needed,
             adds: Adds::Refused(22),
@@ -47,10 +57,10 @@ fn add(needs: &mut [u64; 64], remembers: &mut [u16; 64], needed: usize, b: u64, 
 
 // 4, 22.
 pub fn defer<'a>(
-    live: &'a [bool; 64],
-    number: &'a [u32; 64],
-    needs: &mut [u64; 64],
-    remembers: &mut [u16; 64],
+    live: &'a [bool; SCOPES],
+    number: &'a [u32; SCOPES],
+    needs: &mut [u64; NEEDS],
+    remembers: &mut [u16; NEEDS],
     needed: usize,
     k: u16,
 ) -> Noted
@@ -70,10 +80,10 @@ pub fn defer<'a>(
 
 // 13, 22.
 pub fn assigned(
-    handles: &[u64; 2048],
+    handles: &[u64; HANDLES],
     handed: usize,
-    needs: &mut [u64; 64],
-    remembers: &mut [u16; 64],
+    needs: &mut [u64; NEEDS],
+    remembers: &mut [u16; NEEDS],
     needed: usize,
     h: HandleNumber,
 ) -> Noted
@@ -95,7 +105,7 @@ pub fn assigned(
 }
 
 // 22.
-pub fn ignore(needs: &mut [u64; 64], remembers: &mut [u16; 64], needed: usize) -> Noted
+pub fn ignore(needs: &mut [u64; NEEDS], remembers: &mut [u16; NEEDS], needed: usize) -> Noted
     requires { ⌜ SizedNeeds (now needs) (now remembers) needed ⌝ }
     ensures { λ r. ⌜ ((s : Scopes) → Notes frame.newIgnore 0x22 s (tableIn needs remembers needed) (r .adds) (tableOut needs remembers (r .needed))) ⌝ }
 {
@@ -126,8 +136,8 @@ fn shown(answer: OutputAnswer) -> Adds
 }
 
 // 21, 18.
-pub fn output(needs: &[u64; 64], needed: usize, k: NeedNumber) -> Adds
-    requires { ⌜ needed ≤ 64 ⌝ }
+pub fn output(needs: &[u64; NEEDS], needed: usize, k: NeedNumber) -> Adds
+    requires { ⌜ needed ≤ NEEDS ⌝ }
     ensures { λ r. ⌜ Asks (frame.outputNeed (k .0)) 0x24 needs needed r ⌝ }
 {
     let i = k.0 as usize;

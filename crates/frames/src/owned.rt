@@ -25,6 +25,12 @@ use handles::remembered::need_in;
 use handles::unpacked;
 use needs::AddressKind;
 use needs::Need;
+use rules::HALVES;
+use rules::HANDLES;
+use rules::LINKS;
+use rules::NEEDS;
+use rules::SCOPES;
+use rules::SLOTS;
 use scopes::HandleNumber;
 use scopes::Numbers;
 use scopes::ScopeId;
@@ -34,16 +40,16 @@ use slots::Place;
 // ---- 0c, 0d, 0e beside needs: 13 also where the handle belongs to one
 
 pub fn free_beside<'a>(
-    halves: &mut [u64; 16],
-    links: &mut [u16; 2178],
-    owner: &mut [u8; 1024],
-    number: &[u32; 64],
+    halves: &mut [u64; HALVES],
+    links: &mut [u16; LINKS],
+    owner: &mut [u8; SLOTS],
+    number: &[u32; SCOPES],
     n: Numbers,
-    handles: &mut [u64; 2048],
-    holders: &[u16; 1024],
+    handles: &mut [u64; HANDLES],
+    holders: &[u16; SLOTS],
     handed: usize,
-    needs: &'a [u64; 64],
-    remembers: &'a [u16; 64],
+    needs: &'a [u64; NEEDS],
+    remembers: &'a [u16; NEEDS],
     needed: usize,
     h: HandleNumber,
     dangles: bool,
@@ -69,10 +75,10 @@ pub fn free_beside<'a>(
 }
 
 pub fn forget_beside<'a>(
-    handles: &mut [u64; 2048],
+    handles: &mut [u64; HANDLES],
     handed: usize,
-    needs: &'a [u64; 64],
-    remembers: &'a [u16; 64],
+    needs: &'a [u64; NEEDS],
+    remembers: &'a [u16; NEEDS],
     needed: usize,
     h: HandleNumber,
 ) -> Adds
@@ -105,17 +111,17 @@ fn is_refused(adds: Adds) -> bool
 // The first time, of the need k, which is deferred to the scope id: 4, 16, 7. The next handle becomes the need's, and the need's
 // number in the table that handle's.
 fn first<'a>(
-    halves: &mut [u64; 16],
-    links: &mut [u16; 2178],
-    owner: &mut [u8; 1024],
-    live: &'a [bool; 64],
-    number: &'a [u32; 64],
+    halves: &mut [u64; HALVES],
+    links: &mut [u16; LINKS],
+    owner: &mut [u8; SLOTS],
+    live: &'a [bool; SCOPES],
+    number: &'a [u32; SCOPES],
     n: Numbers,
-    handles: &mut [u64; 2048],
-    holders: &mut [u16; 1024],
+    handles: &mut [u64; HANDLES],
+    holders: &mut [u16; SLOTS],
     handed: usize,
-    needs: &mut [u64; 64],
-    remembers: &mut [u16; 64],
+    needs: &mut [u64; NEEDS],
+    remembers: &mut [u16; NEEDS],
     needed: usize,
     k: NeedNumber,
     id: ScopeId,
@@ -150,17 +156,17 @@ fn first<'a>(
 
 // 21; a deferred need is allocated, an address is answered as it is, and `ffff` for an ignored need.
 pub fn allocate<'a>(
-    halves: &mut [u64; 16],
-    links: &mut [u16; 2178],
-    owner: &mut [u8; 1024],
-    live: &'a [bool; 64],
-    number: &'a [u32; 64],
+    halves: &mut [u64; HALVES],
+    links: &mut [u16; LINKS],
+    owner: &mut [u8; SLOTS],
+    live: &'a [bool; SCOPES],
+    number: &'a [u32; SCOPES],
     n: Numbers,
-    handles: &mut [u64; 2048],
-    holders: &mut [u16; 1024],
+    handles: &mut [u64; HANDLES],
+    holders: &mut [u16; SLOTS],
     handed: usize,
-    needs: &mut [u64; 64],
-    remembers: &mut [u16; 64],
+    needs: &mut [u64; NEEDS],
+    remembers: &mut [u16; NEEDS],
     needed: usize,
     k: NeedNumber,
     place: Place,
@@ -236,13 +242,13 @@ fn is_scope(kind: AddressKind) -> bool
 
 // The handle h, which the need d remembers, is freed where it belongs to it: 14, 12.
 fn free_own(
-    halves: &mut [u64; 16],
-    links: &mut [u16; 2178],
-    owner: &mut [u8; 1024],
-    number: &[u32; 64],
+    halves: &mut [u64; HALVES],
+    links: &mut [u16; LINKS],
+    owner: &mut [u8; SLOTS],
+    number: &[u32; SCOPES],
     n: Numbers,
-    handles: &mut [u64; 2048],
-    holders: &[u16; 1024],
+    handles: &mut [u64; HANDLES],
+    holders: &[u16; SLOTS],
     handed: usize,
     h: HandleNumber,
     d: Need,
@@ -278,16 +284,16 @@ fn free_own(
 
 // 21, 14, 12.
 pub fn free_need(
-    halves: &mut [u64; 16],
-    links: &mut [u16; 2178],
-    owner: &mut [u8; 1024],
-    number: &[u32; 64],
+    halves: &mut [u64; HALVES],
+    links: &mut [u16; LINKS],
+    owner: &mut [u8; SLOTS],
+    number: &[u32; SCOPES],
     n: Numbers,
-    handles: &mut [u64; 2048],
-    holders: &[u16; 1024],
+    handles: &mut [u64; HANDLES],
+    holders: &[u16; SLOTS],
     handed: usize,
-    needs: &mut [u64; 64],
-    remembers: &mut [u16; 64],
+    needs: &mut [u64; NEEDS],
+    remembers: &mut [u16; NEEDS],
     needed: usize,
     k: NeedNumber,
 ) -> Stepped

@@ -8,15 +8,20 @@ ghost use Rattle.frames.specs.Steps.{Leads};
 use crate::steps::Stepped;
 use crate::steps::ended;
 use crate::steps::meant;
+use rules::BINDINGS;
+use rules::HALVES;
+use rules::LINKS;
+use rules::SCOPES;
+use rules::SLOTS;
 use scopes::Numbers;
 use scopes::Scopes;
 use scopes::lent::close;
 use scopes::lent::open;
 
 pub fn child(
-    live: &mut [bool; 64],
-    parent: &mut [u8; 64],
-    number: &mut [u32; 64],
+    live: &mut [bool; SCOPES],
+    parent: &mut [u8; SCOPES],
+    number: &mut [u32; SCOPES],
     n: Numbers,
     handed: usize,
 ) -> Stepped
@@ -28,14 +33,14 @@ pub fn child(
 }
 
 pub fn pop(
-    halves: &mut [u64; 16],
-    links: &mut [u16; 2178],
-    owner: &mut [u8; 1024],
-    live: &mut [bool; 64],
-    dangled: &mut [bool; 64],
-    parent: &mut [u8; 64],
-    number: &mut [u32; 64],
-    bindings: &mut [u64; 256],
+    halves: &mut [u64; HALVES],
+    links: &mut [u16; LINKS],
+    owner: &mut [u8; SLOTS],
+    live: &mut [bool; SCOPES],
+    dangled: &mut [bool; SCOPES],
+    parent: &mut [u8; SCOPES],
+    number: &mut [u32; SCOPES],
+    bindings: &mut [u64; BINDINGS],
     n: Numbers,
     handed: usize,
     k: u16,
@@ -60,10 +65,10 @@ pub fn pop(
 }
 
 pub fn dangle<'a>(
-    live: &'a [bool; 64],
-    dangled: &mut [bool; 64],
-    parent: &'a [u8; 64],
-    number: &'a [u32; 64],
+    live: &'a [bool; SCOPES],
+    dangled: &mut [bool; SCOPES],
+    parent: &'a [u8; SCOPES],
+    number: &'a [u32; SCOPES],
     n: Numbers,
     handed: usize,
     k: u16,
@@ -77,9 +82,9 @@ pub fn dangle<'a>(
 }
 
 pub fn restore<'a>(
-    live: &'a [bool; 64],
-    dangled: &mut [bool; 64],
-    number: &'a [u32; 64],
+    live: &'a [bool; SCOPES],
+    dangled: &mut [bool; SCOPES],
+    number: &'a [u32; SCOPES],
     n: Numbers,
     handed: usize,
     k: u16,
@@ -93,14 +98,14 @@ pub fn restore<'a>(
 }
 
 pub fn pop_last(
-    halves: &mut [u64; 16],
-    links: &mut [u16; 2178],
-    owner: &mut [u8; 1024],
-    live: &mut [bool; 64],
-    dangled: &mut [bool; 64],
-    parent: &mut [u8; 64],
-    number: &mut [u32; 64],
-    bindings: &mut [u64; 256],
+    halves: &mut [u64; HALVES],
+    links: &mut [u16; LINKS],
+    owner: &mut [u8; SLOTS],
+    live: &mut [bool; SCOPES],
+    dangled: &mut [bool; SCOPES],
+    parent: &mut [u8; SCOPES],
+    number: &mut [u32; SCOPES],
+    bindings: &mut [u64; BINDINGS],
     n: Numbers,
     handed: usize,
 ) -> Stepped

@@ -13,9 +13,10 @@ use Rattle.rules.specs.Scopes.{Id}
 use Rattle.rules.specs.Needs.{Kind, Address, allocatedKind, local, dangling, assigned, freed, scope, defer, at, ignore, freedNeed}
 use Rattle.rules.specs.Frames.{owns, isScopeKind, keeps}
 use Rattle.rules.proofs.Tables.{put-ext}
+use Rattle.rules.specs.Sizes.{COUNTERS}
 use Rattle.needs.specs.Kinds.{kindOf}
 use Rattle.handles.specs.declared.Handle.{Handle as Known}
-use Rattle.handles.specs.Handles.{Coded, slotIn, idIn, kindIn, kindCoded}
+use Rattle.handles.specs.Handles.{Coded, slotIn, idIn, kindIn, kindCoded, INDEXES, INDEX_PART, KINDS, KIND_PART, NUMBER_PART, SLOT_PART}
 use Rattle.handles.specs.NeedTable.{codeIn, needIn, rememberedAt, belongsIn}
 
 -- ---- one number
@@ -80,19 +81,19 @@ module _ (b : ℕ) (id : Id) (is : kindIn b ≡ scope id) where
       let e : scope (idIn b) ≡ scope id = sym (ap (λ (k : ℕ). kindCoded k (idIn b)) four) ∙ is in
       cc
 
-  near : (b + 2) / 16 ≡ b / 16
-  near = let e : b / 2 % 8 ≡ 4 = four in omega arith
+  near : (b + 2) / SLOT_PART ≡ b / SLOT_PART
+  near = let e : b / KIND_PART % KINDS ≡ 4 = four in omega arith
 
-  far : (b + 2) / 1048576 ≡ b / 1048576
+  far : (b + 2) / INDEX_PART ≡ b / INDEX_PART
   far = let e = near in omega arith
 
-  farther : (b + 2) / 268435456 ≡ b / 268435456
+  farther : (b + 2) / NUMBER_PART ≡ b / NUMBER_PART
   farther = let e = far in omega arith
 
   pub deferred-is : needIn (b + 2) ≡ defer id
   deferred-is =
-      let five : codeIn (b + 2) ≡ 5 = let e : b / 2 % 8 ≡ 4 = four in omega arith in
-      let ids : idIn (b + 2) ≡ idIn b = λ t. record { index = far t % 256; number = farther t % 4294967296 } in
+      let five : codeIn (b + 2) ≡ 5 = let e : b / KIND_PART % KINDS ≡ 4 = four in omega arith in
+      let ids : idIn (b + 2) ≡ idIn b = λ t. record { index = far t % INDEXES; number = farther t % COUNTERS } in
       rw (eq-eqb (codeIn (b + 2)) 5 five) (ap defer (ids ∙ same-id))
 
 -- the number of an Assigned address

@@ -4,9 +4,10 @@ use mathlib.Core.Path.{_≡_}
 use mathlib.Core.Logic.{_⊎_}
 use mathlib.Core.Bool.{Bool, true, false, _&&_}
 use mathlib.Core.List.{List}
-use Prim.Native.Nat.{ℕ, _+_, _/_, _%_, _≤_, _<_}
+use Prim.Native.Nat.{ℕ, _+_, _*_, _/_, _%_, _≤_, _<_}
 use lib.ListN.{getD}
 use lib.Dec.{eqb}
+use Rattle.rules.specs.Sizes.{SLOTS, WORD, COUNTERS}
 use Rattle.rules.specs.Scopes.{Id, Scopes}
 use Rattle.rules.specs.Needs.{Kind, local, dangling, assigned, freed, scope}
 use Rattle.rules.specs.Frames.{Handle, noNeed, State}
@@ -16,13 +17,31 @@ use Rattle.needs.specs.declared.AddressKind.the-variants as kind
 use Rattle.needs.specs.Kinds.{kindOf}
 use Rattle.handles.specs.declared.Handle.{Handle as Handle′}
 
--- A handle in one number, from the low end: written 1 bit, kind 3 bits, slot 10 (6 bits more stay 0), index 8 and number 32 of a Scope kind. 0 is a handle
--- that was never handed out.
+-- A handle in one number, from the low end: written 1 bit, kind 3 bits, slot 16, index 8 and number 32 of a Scope kind. 0 is a handle that was never
+-- handed out. What each part is counted in, and below what it is where that is no whole width:
+abbrev pub KIND_PART : ℕ
+KIND_PART = 2
+
+abbrev pub KINDS : ℕ
+KINDS = 8
+
+abbrev pub SLOT_PART : ℕ
+SLOT_PART = KINDS * KIND_PART
+
+abbrev pub INDEX_PART : ℕ
+INDEX_PART = WORD * SLOT_PART
+
+abbrev pub INDEXES : ℕ
+INDEXES = 256
+
+abbrev pub NUMBER_PART : ℕ
+NUMBER_PART = INDEXES * INDEX_PART
+
 abbrev pub slotIn : ℕ → ℕ
-slotIn b = b / 16 % 1024
+slotIn b = b / SLOT_PART % SLOTS
 
 abbrev pub idIn : ℕ → Id
-idIn b = record { index = b / 1048576 % 256; number = b / 268435456 % 4294967296 }
+idIn b = record { index = b / INDEX_PART % INDEXES; number = b / NUMBER_PART % COUNTERS }
 
 abbrev pub kindBy : Bool → Bool → Bool → Bool → Id → Kind
 kindBy true _ _ _ id = local
@@ -35,7 +54,7 @@ abbrev pub kindCoded : ℕ → Id → Kind
 kindCoded k id = kindBy (eqb k 1) (eqb k 2) (eqb k 3) (eqb k 4) id
 
 abbrev pub kindIn : ℕ → Kind
-kindIn b = kindCoded (b / 2 % 8) (idIn b)
+kindIn b = kindCoded (b / KIND_PART % KINDS) (idIn b)
 
 -- "An allocation is held until its slot is given back or its owner popped": its slot is occupied, and no later handle took it
 abbrev pub handleAt : (ℕ → Bool) → List ℕ → List ℕ → ℕ → Handle

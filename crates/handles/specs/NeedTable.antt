@@ -5,15 +5,16 @@ use mathlib.Core.List.{List}
 use Prim.Native.Nat.{ℕ, _/_, _%_, _≤_}
 use lib.Dec.{eqb}
 use lib.ListN.{length, getD}
+use Rattle.rules.specs.Sizes.{NEEDS}
 use Rattle.rules.specs.Notation.{isSome, first}
 use Rattle.rules.specs.Scopes.{Scopes}
 use Rattle.rules.specs.Needs.{assigned, scope, Need, defer, at, ignore, freedNeed}
 use Rattle.rules.specs.Frames.{Remembered, keeps, State}
-use Rattle.handles.specs.Handles.{slotIn, idIn, handleAt}
+use Rattle.handles.specs.Handles.{slotIn, idIn, handleAt, KIND_PART, KINDS}
 
 -- A need in one number, laid out as a handle's is: code 3 an Assigned address, 4 a Scope address, 5 Defer, 6 Ignore; any other is Freed.
 abbrev pub codeIn : ℕ → ℕ
-codeIn b = b / 2 % 8
+codeIn b = b / KIND_PART % KINDS
 
 abbrev pub needBy : Bool → Bool → Bool → Bool → ℕ → Need
 needBy true _ _ _ b = defer (idIn b)
@@ -34,7 +35,7 @@ unfoldable pub belongsIn : List ℕ → List ℕ → ℕ → ℕ → Bool
 belongsIn needs remembers needed h = isSome (first (λ n. keeps (rememberedAt needs remembers n) h) 0 needed)
 
 abbrev pub SizedNeeds : List ℕ → List ℕ → ℕ → Type 0
-SizedNeeds needs remembers needed = (length needs ≡ 64) × (length remembers ≡ 64) × (needed ≤ 64)
+SizedNeeds needs remembers needed = (length needs ≡ NEEDS) × (length remembers ≡ NEEDS) × (needed ≤ NEEDS)
 
 -- both tables, and how many needs there are
 pub record Needing : Type 0 where

@@ -6,12 +6,18 @@ ghost use mathlib.Core.Bool.{_&&_};
 ghost use Prim.Native.Nat.{ℕ, _+_, _≤_, _<_};
 ghost use lib.Dec.{eqb};
 ghost use lib.ListN.{length};
+ghost use Rattle.rules.specs.Sizes.{HANDLES, SLOTS};
 ghost use Rattle.slots.specs.Halves.{occ};
 ghost use Rattle.scopes.specs.View.{idOf};
 ghost use Rattle.needs.specs.Kinds.{kindOf};
 ghost use Rattle.handles.specs.Handles.{Coded, kindCoded, codeOfKind, idOfKind, freedAs, Hands};
 use needs::Address;
 use needs::AddressKind;
+use rules::COUNTERS;
+use rules::HALVES;
+use rules::HANDLES;
+use rules::SLOTS;
+use rules::WORD;
 use scopes::ScopeId;
 use slots::SlotAddress;
 use slots::halves;
@@ -23,6 +29,22 @@ pub struct Handle {
 }
 
 // ---- a handle in one number
+
+// From the low end: written 1 bit, kind 3 bits, slot 16, index 8 and number 32 of a Scope kind. What each part is counted in, and below what it is
+// where that is no whole width:
+pub const KIND_PART: u64 = 2;
+
+pub const KINDS: u64 = 8;
+
+pub const SLOT_PART: u64 = KINDS * KIND_PART;
+
+pub const WIDE_SLOTS: u64 = SLOTS as u64;
+
+pub const INDEX_PART: u64 = WORD * SLOT_PART;
+
+pub const INDEXES: u64 = 256;
+
+pub const NUMBER_PART: u64 = INDEXES * INDEX_PART;
 
 fn code_of(kind: AddressKind) -> u64
     ensures { λ r. ⌜ r ≡ codeOfKind kind ⌝ }
@@ -85,7 +107,7 @@ fn one_if(b: bool) -> u64
 }
 
 pub fn packed(x: Handle) -> u64
-    requires { ⌜ x .address .slot .0 < 1024 ⌝ }
+    requires { ⌜ x .address .slot .0 < SLOTS ⌝ }
     ensures { λ r. ⌜ Coded r x ⌝ }
 {
     let address = x.address;
@@ -93,19 +115,19 @@ pub fn packed(x: Handle) -> u64
     let at = address.slot;
     let slot = at.0 as u64;
     let id = id_of(kind);
-    let place = ((id.number as u64) * 256 + (id.index as u64)) * 65536 + slot;
-    (place * 8 + code_of(kind)) * 2 + one_if(x.written)
+    let place = ((id.number as u64) * INDEXES + (id.index as u64)) * WORD + slot;
+    (place * KINDS + code_of(kind)) * KIND_PART + one_if(x.written)
 }
 
 pub fn unpacked(b: u64) -> Handle
     ensures { λ r. ⌜ Coded b r ⌝ }
 {
     let id = ScopeId {
-        index: (b / 1048576 % 256) as u8,
-        number: (b / 268435456 % 4294967296) as u32,
+        index: (b / INDEX_PART % INDEXES) as u8,
+        number: (b / NUMBER_PART % COUNTERS) as u32,
     };
-    let kind = kind_from(b / 2 % 8, id);
-    let slot = SlotAddress((b / 16 % 1024) as u16);
+    let kind = kind_from(b / KIND_PART % KINDS, id);
+    let slot = SlotAddress((b / SLOT_PART % WIDE_SLOTS) as u16);
     Handle {
         address: Address { slot, kind },
         written: b % 2 == 1,
@@ -114,7 +136,7 @@ pub fn unpacked(b: u64) -> Handle
 
 // The same handle, with its kind Freed, in one number.
 pub fn forgotten(x: Handle) -> u64
-    requires { ⌜ x .address .slot .0 < 1024 ⌝ }
+    requires { ⌜ x .address .slot .0 < SLOTS ⌝ }
     ensures { λ r. ⌜ Coded r (freedAs x) ⌝ }
 {
     let address = x.address;
@@ -131,8 +153,8 @@ pub fn forgotten(x: Handle) -> u64
 // ---- held
 
 // Slot a is occupied, and `holder`, which took it last, is the handle h.
-pub fn is_held(halves: &[u64; 16], a: usize, holder: u16, h: u16) -> bool
-    requires { ⌜ a < 1024 ⌝ }
+pub fn is_held(halves: &[u64; HALVES], a: usize, holder: u16, h: u16) -> bool
+    requires { ⌜ a < SLOTS ⌝ }
     ensures { λ r. ⌜ r ≡ (occ (now (halves .entry)) a && eqb holder h) ⌝ }
 {
     if halves::occupied(halves, a) {
@@ -145,16 +167,16 @@ pub fn is_held(halves: &[u64; 16], a: usize, holder: u16, h: u16) -> bool
 
 // n handles from `handed` on, for the n slots from a on.
 pub fn grant(
-    handles: &mut [u64; 2048],
-    holders: &mut [u16; 1024],
+    handles: &mut [u64; HANDLES],
+    holders: &mut [u16; SLOTS],
     handed: usize,
     n: usize,
     a: usize,
     kind: AddressKind,
 )
-    requires { ⌜ (handed + n ≤ 2048) × (a + n ≤ 1024) × (length (now handles) ≡ 2048) × (length (now holders) ≡ 1024) ⌝ }
+    requires { ⌜ (handed + n ≤ HANDLES) × (a + n ≤ SLOTS) × (length (now handles) ≡ HANDLES) × (length (now holders) ≡ SLOTS) ⌝ }
     ensures { λ _. ⌜ Hands (now (handles .entry)) (now (handles .exit)) (now (holders .entry)) (now (holders .exit)) handed n a (kindOf kind) ⌝ }
-    ensures { λ _. ⌜ (length (now (handles .exit)) ≡ 2048) × (length (now (holders .exit)) ≡ 1024) ⌝ }
+    ensures { λ _. ⌜ (length (now (handles .exit)) ≡ HANDLES) × (length (now (holders .exit)) ≡ SLOTS) ⌝ }
 {
     let mut i: usize = 0;
     while i < n {

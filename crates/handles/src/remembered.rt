@@ -1,16 +1,26 @@
 // The needs of a script: each in one number of a table, and in another table the handle that it remembers, as a binding does.
 ghost use mathlib.Core.Path.{_≡_};
 ghost use Prim.Native.Nat.{_<_};
+ghost use Rattle.rules.specs.Sizes.{SLOTS};
 ghost use Rattle.rules.specs.Needs as rule;
 ghost use Rattle.rules.specs.Frames as frame;
 ghost use Rattle.scopes.specs.View.{idOf};
 ghost use Rattle.needs.specs.Kinds.{needOf};
 ghost use Rattle.handles.specs.NeedTable.{needIn, belongsIn, SizedNeeds};
 use crate::Handle;
+use crate::INDEX_PART;
+use crate::INDEXES;
+use crate::KIND_PART;
+use crate::KINDS;
+use crate::NUMBER_PART;
+use crate::SLOT_PART;
+use crate::WIDE_SLOTS;
 use crate::packed;
 use needs::Address;
 use needs::AddressKind;
 use needs::Need;
+use rules::COUNTERS;
+use rules::NEEDS;
 use scopes::HandleNumber;
 use scopes::ScopeId;
 use slots::SlotAddress;
@@ -41,7 +51,7 @@ pub fn deferred(id: ScopeId) -> u64
 
 // A need whose address is assigned from elsewhere.
 pub fn assigned(slot: SlotAddress) -> u64
-    requires { ⌜ slot .0 < 1024 ⌝ }
+    requires { ⌜ slot .0 < SLOTS ⌝ }
     ensures { λ r. ⌜ needIn r ≡ rule.at (rule.address (slot .0) rule.assigned) ⌝ }
 {
     packed(Handle {
@@ -56,12 +66,12 @@ pub fn assigned(slot: SlotAddress) -> u64
 pub fn need_in(b: u64) -> Need
     ensures { λ r. ⌜ needOf r ≡ needIn b ⌝ }
 {
-    let code = b / 2 % 8;
+    let code = b / KIND_PART % KINDS;
     let id = ScopeId {
-        index: (b / 1048576 % 256) as u8,
-        number: (b / 268435456 % 4294967296) as u32,
+        index: (b / INDEX_PART % INDEXES) as u8,
+        number: (b / NUMBER_PART % COUNTERS) as u32,
     };
-    let slot = SlotAddress((b / 16 % 1024) as u16);
+    let slot = SlotAddress((b / SLOT_PART % WIDE_SLOTS) as u16);
     if code == 5 {
         return Need::Defer(id);
     }
@@ -89,7 +99,7 @@ pub fn need_in(b: u64) -> Need
 fn is_its(b: u64, r: u16, h: u16) -> bool
     ensures { λ x. ⌜ x ≡ frame.keeps (record { need = needIn b; handle = r }) h ⌝ }
 {
-    if b / 2 % 8 == 4 {
+    if b / KIND_PART % KINDS == 4 {
         return r == h;
     }
     false
@@ -97,8 +107,8 @@ fn is_its(b: u64, r: u16, h: u16) -> bool
 
 // Whether h belongs to a need.
 pub fn belongs<'a>(
-    needs: &'a [u64; 64],
-    remembers: &'a [u16; 64],
+    needs: &'a [u64; NEEDS],
+    remembers: &'a [u16; NEEDS],
     needed: usize,
     h: HandleNumber,
 ) -> bool

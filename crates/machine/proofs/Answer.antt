@@ -10,7 +10,7 @@ use lib.Dec.{eqb, leb, ltb}
 use lib.ListN.{length, drop, replicate}
 use borrow.Author.Tests.{leb-true}
 use Rattle.rules.specs.Notation.{if_then_else_}
-use Rattle.rules.specs.Sizes.{Room, base}
+use Rattle.rules.specs.Sizes.{Room, base, LINES}
 use Rattle.rules.specs.Frames.{constant, nextSample, Line, stores, loads, shows}
 use Rattle.rules.specs.Meaning.{Ran, obey, high, listTakes, lacking}
 use Rattle.rules.specs.Text.{Listed, listed, unlisted, readList}
@@ -124,7 +124,7 @@ unfolding runEntry
 run-halves greatest k room one h list cells out = halves-of greatest (room .lines) k h cells out _ (comes room one (cellsOf cells) list)
 
 -- as `run` promises it
-pub run-answer : (list cells out : List ℕ) → HalvesOf cells out 23 2048 (runEntry base list cells out)
+pub run-answer : (list cells out : List ℕ) → HalvesOf cells out 23 LINES (runEntry base list cells out)
 unfolding base
 run-answer list cells out = run-halves 23 (omega arith) base (omega arith) (omega arith) list cells out
 
@@ -157,6 +157,6 @@ module _ (most : ℕ) (h : most ≤ 65535) (cells out left : List ℕ) where
       (λ s. rw (s, recordedEntry) (by-number _ _ _ _ _ 29 0 (omega arith) (omega arith) (omega arith) (omega arith) (refl, refl, refl)))
 
 -- as `run_recorded` promises it
-pub recorded-answer : (list : List ℕ) (state : ℕ) (samples cells out left : List ℕ) → RecordedHalves 2048 cells out left (recordedEntry base list state samples cells out left)
+pub recorded-answer : (list : List ℕ) (state : ℕ) (samples cells out left : List ℕ) → RecordedHalves LINES cells out left (recordedEntry base list state samples cells out left)
 unfolding base
-recorded-answer list state samples cells out left = recorded-halves 2048 (omega arith) cells out left base (omega arith) refl list state samples
+recorded-answer list state samples cells out left = recorded-halves LINES (omega arith) cells out left base (omega arith) refl list state samples

@@ -12,6 +12,7 @@ ghost use mathlib.Core.Path.{_≡_};
 ghost use mathlib.Core.List.{_++_};
 ghost use Prim.Native.Nat.{_+_, _*_, _≤_, _<_};
 ghost use lib.ListN.{length, drop};
+ghost use Rattle.rules.specs.Sizes.{LINES};
 ghost use Rattle.text.specs.Lines.{unpacked};
 ghost use Rattle.text.specs.Writing.{over as overText};
 ghost use Rattle.machine.specs.Entries.{entryFor, entriesOf, loadsOf, takesOf};
@@ -33,7 +34,7 @@ fn filled(code: u64, samples: &[u8], j: usize) -> u64
 
 // The samples into the lines that take them, in order, each used once.
 pub fn fill(table: &mut [u64], lines: usize, takes: usize, samples: &[u8])
-    requires { ⌜ (lines ≤ length (now table)) × (lines ≤ 2048) ⌝ }
+    requires { ⌜ (lines ≤ length (now table)) × (lines ≤ LINES) ⌝ }
     requires { ⌜ takes ≡ takesIn (entriesOf (now table) 0 lines) ⌝ }
     requires { ⌜ 2 * takes ≤ length (now samples) ⌝ }
     ensures { λ _. ⌜ entriesOf (now (table .exit)) 0 lines ≡ filledFrom (now (samples .entry)) 0 (entriesOf (now (table .entry)) 0 lines) ⌝ }
@@ -73,7 +74,7 @@ fn obey_one(x: Entry, cells: &mut [u8], out: &mut [u8], w: usize) -> usize
 
 // The whole list. It answers how many bytes it wrote.
 pub fn obey(table: &[u64], lines: usize, cells: &mut [u8], out: &mut [u8]) -> usize
-    requires { ⌜ (lines ≤ length (now table)) × (lines ≤ 2048) ⌝ }
+    requires { ⌜ (lines ≤ length (now table)) × (lines ≤ LINES) ⌝ }
     requires { ⌜ Reaches (length (now cells)) (entriesOf (now table) 0 lines) ⌝ }
     requires { ⌜ 7 * loadsIn (entriesOf (now table) 0 lines) ≤ length (now out) ⌝ }
     ensures wrote { λ r. ⌜ r ≡ 7 * loadsIn (entriesOf (now (table .entry)) 0 lines) ⌝ }

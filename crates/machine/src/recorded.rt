@@ -7,13 +7,14 @@ use crate::survey::lacking;
 use crate::survey::scan;
 use recordings::states::is_reader;
 use recordings::states::opened;
+use rules::LINES;
 use text::refusal::refuse;
 use text::whole::Listing;
 use text::whole::check_list;
 ghost use mathlib.Core.Path.{_≡_};
 ghost use Prim.Native.Nat.{_<_, _≤_};
 ghost use lib.ListN.{length};
-ghost use Rattle.rules.specs.Sizes.{base};
+ghost use Rattle.rules.specs.Sizes.{base, LINES};
 ghost use Rattle.rules.specs.Entries.{bytes4, overFront, recordedEntry};
 ghost use Rattle.text.specs.Table.{RowsFor};
 ghost use Rattle.machine.specs.Entries.{entriesOf};
@@ -24,8 +25,6 @@ ghost use Rattle.machine.specs.Recorded.{lacksOf, enoughLeft, wholeLeft,
 const SHORT: usize = 192;
 
 const SHORT_LINES: usize = 64;
-
-const LINES: usize = 2048;
 
 // Whether lent memory is too short: cells, output, samples or left.
 fn lacks(c: usize, o: usize, m: usize, l: usize, size: usize, loads: usize, takes: usize) -> bool
@@ -66,7 +65,7 @@ fn run_enough(
     out: &mut [u8],
     left: &mut [u8],
 ) -> u64
-    requires { ⌜ (lines ≤ length (now table)) × (lines ≤ 2048) × (size < 65536) × (takes ≤ recorded) × (recorded < 4294967296) ⌝ }
+    requires { ⌜ (lines ≤ length (now table)) × (lines ≤ LINES) × (size < 65536) × (takes ≤ recorded) × (recorded < 4294967296) ⌝ }
     requires { ⌜ surveyOf size 0 0 0 (entriesOf (now table) 0 lines) ≡ Survey.Low loads takes ⌝ }
     ensures { λ r. ⌜ LeftBy (enoughLeft (now (samples .entry)) size loads takes recorded (entriesOf (now (table .entry)) 0 lines)) r cells out left ⌝ }
 {
@@ -102,7 +101,7 @@ fn run_low(
     out: &mut [u8],
     left: &mut [u8],
 ) -> u64
-    requires { ⌜ (lines ≤ length (now table)) × (lines ≤ 2048) × (size < 65536) × (recorded < 4294967296) ⌝ }
+    requires { ⌜ (lines ≤ length (now table)) × (lines ≤ LINES) × (size < 65536) × (recorded < 4294967296) ⌝ }
     requires { ⌜ surveyOf size 0 0 0 (entriesOf (now table) 0 lines) ≡ Survey.Low loads takes ⌝ }
     ensures { λ r. ⌜ LeftBy (wholeLeft (now (samples .entry)) size loads takes column recorded (entriesOf (now (table .entry)) 0 lines)) r cells out left ⌝ }
 {
@@ -138,7 +137,7 @@ fn run_read(
     out: &mut [u8],
     left: &mut [u8],
 ) -> u64
-    requires { ⌜ (lines ≤ length (now table)) × (lines ≤ 2048) × (size < 65536) × (recorded < 4294967296) ⌝ }
+    requires { ⌜ (lines ≤ length (now table)) × (lines ≤ LINES) × (size < 65536) × (recorded < 4294967296) ⌝ }
     ensures { λ r. ⌜ LeftBy (surveyLeft (now (samples .entry)) size column recorded (entriesOf (now (table .entry)) 0 lines)) r cells out left ⌝ }
 {
     match scan(table, lines, size) {

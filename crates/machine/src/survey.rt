@@ -6,6 +6,7 @@ use crate::entries::takes_of;
 ghost use mathlib.Core.Path.{_≡_};
 ghost use Prim.Native.Nat.{ℕ, _≤_};
 ghost use lib.ListN.{length};
+ghost use Rattle.rules.specs.Sizes.{LINES};
 ghost use Rattle.machine.specs.Entries.{entriesOf};
 ghost use Rattle.machine.specs.Survey.{surveyOf, lackingOf};
 
@@ -16,9 +17,9 @@ pub enum Survey {
 }
 
 pub fn scan(table: &[u64], lines: usize, size: usize) -> Survey
-    requires { ⌜ (lines ≤ length (now table)) × (lines ≤ 2048) ⌝ }
+    requires { ⌜ (lines ≤ length (now table)) × (lines ≤ LINES) ⌝ }
     ensures { λ r. ⌜ r ≡ surveyOf size 0 0 0 (entriesOf (now (table .entry)) 0 lines) ⌝ }
-    ensures within { λ r. ⌜ ((j : ℕ) → r ≡ Survey.High j → j ≤ 2048) ⌝ }
+    ensures within { λ r. ⌜ ((j : ℕ) → r ≡ Survey.High j → j ≤ LINES) ⌝ }
 {
     let mut i: usize = 0;
     let mut loads: usize = 0;
@@ -37,9 +38,9 @@ pub fn scan(table: &[u64], lines: usize, size: usize) -> Survey
 
 // The first line that takes a sample where so many samples are too few.
 pub fn lacking(table: &[u64], lines: usize, samples: usize) -> usize
-    requires { ⌜ (lines ≤ length (now table)) × (lines ≤ 2048) ⌝ }
+    requires { ⌜ (lines ≤ length (now table)) × (lines ≤ LINES) ⌝ }
     ensures { λ r. ⌜ r ≡ lackingOf 0 samples (entriesOf (now (table .entry)) 0 lines) ⌝ }
-    ensures within { λ r. ⌜ r ≤ 2048 ⌝ }
+    ensures within { λ r. ⌜ r ≤ LINES ⌝ }
 {
     let mut i: usize = 0;
     let mut left = samples;

@@ -6,6 +6,7 @@ use native.Mathlib.Omega.{arith}
 use lib.Dec.{eqb, ltb}
 use lib.ListN.{getD}
 use borrow.Author.Tests.{lt-ltb, le-ltb, eq-eqb, ne-eqb}
+use Rattle.rules.specs.Sizes.{SCOPES}
 use Rattle.rules.specs.Needs as rule
 use Rattle.rules.proofs.Tables.{by-eqb}
 use Rattle.scopes.specs.View.{view, idOf}
@@ -20,14 +21,14 @@ use Rattle.needs.specs.declared.AddressKind.the-variants as kind
 -- ---- is this index the top's
 
 module _ (t i : ℕ) (b : Bool) where
-  pub top-same : t < 64 → t ≡ i → b ≡ (ltb t 64 && eqb t i && b)
-  top-same h e = rw (lt-ltb t 64 h, eq-eqb t i e)
+  pub top-same : t < SCOPES → t ≡ i → b ≡ (ltb t SCOPES && eqb t i && b)
+  top-same h e = rw (lt-ltb t SCOPES h, eq-eqb t i e)
 
-  pub top-other : t < 64 → (t ≡ i → ⊥) → false ≡ (ltb t 64 && eqb t i && b)
-  top-other h n = rw (lt-ltb t 64 h, ne-eqb t i n)
+  pub top-other : t < SCOPES → (t ≡ i → ⊥) → false ≡ (ltb t SCOPES && eqb t i && b)
+  top-other h n = rw (lt-ltb t SCOPES h, ne-eqb t i n)
 
-  pub top-far : 64 ≤ t → false ≡ (ltb t 64 && eqb t i && b)
-  top-far h = rw (le-ltb t 64 h)
+  pub top-far : SCOPES ≤ t → false ≡ (ltb t SCOPES && eqb t i && b)
+  top-far h = rw (le-ltb t SCOPES h)
 
 -- ---- of a sound state
 
@@ -40,9 +41,9 @@ module _ (s : state.Scopes) (sound : Sound s) where
   back-from kind.Assigned = refl
   back-from kind.Freed = refl
   back-from (kind.Scope id) =
-      by-eqb (s .top) 64
+      by-eqb (s .top) SCOPES
       (λ e. sym (top-far (s .top) (id .index) (eqb (getD (s .number) (s .top) 0) (id .number)) (omega arith)) ∙ sym (ap (rule.isScope (idOf id)) (no-top s e)))
       (λ n.
       let t : Topped s = topped s sound n in
-      sym (ap (λ (b : Bool). b && eqb (s .top) (id .index) && eqb (getD (s .number) (s .top) 0) (id .number)) (sym (lt-ltb (s .top) 64 (t .small))))
+      sym (ap (λ (b : Bool). b && eqb (s .top) (id .index) && eqb (getD (s .number) (s .top) 0) (id .number)) (sym (lt-ltb (s .top) SCOPES (t .small))))
       ∙ sym (ap (rule.isScope (idOf id)) (t .is)))

@@ -4,6 +4,7 @@ use mathlib.Core.List.{List}
 use Prim.Native.Nat.{ℕ}
 use lib.ListN.{getD}
 use lib.Dec.{eqb, ltb}
+use Rattle.rules.specs.Sizes.{SCOPES}
 use Rattle.scopes.specs.declared.Reply.{Reply}
 use Rattle.scopes.specs.declared.Reply.the-variants.{Done, At, Empty, Opened, Found, Refused}
 use Rattle.needs.specs.declared.AddressKind.{AddressKind}
@@ -38,4 +39,4 @@ backFrom number top kind.Local = true
 backFrom number top kind.Dangling = true
 backFrom number top kind.Assigned = false
 backFrom number top kind.Freed = false
-backFrom number top (kind.Scope id) = ltb top 64 && eqb top (id .index) && eqb (getD number top 0) (id .number)
+backFrom number top (kind.Scope id) = ltb top SCOPES && eqb top (id .index) && eqb (getD number top 0) (id .number)

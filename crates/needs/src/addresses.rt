@@ -5,6 +5,7 @@ ghost use Rattle.needs.specs.Kinds.{kindOf, addressOf};
 ghost use Rattle.needs.specs.Inner.{isDone, backFrom};
 use crate::Address;
 use crate::AddressKind;
+use rules::SCOPES;
 use scopes::Reply;
 use scopes::ScopeId;
 
@@ -65,10 +66,10 @@ pub fn is_freed(kind: AddressKind) -> bool
 }
 
 // The scope with this id is the top.
-fn is_top(number: &[u32; 64], top: usize, id: ScopeId) -> bool
+fn is_top(number: &[u32; SCOPES], top: usize, id: ScopeId) -> bool
     ensures { λ r. ⌜ r ≡ backFrom (now (number .entry)) top (AddressKind.Scope id) ⌝ }
 {
-    if top < 64 {
+    if top < SCOPES {
         if top == id.index as usize {
             return number[top] == id.number;
         }
@@ -77,7 +78,7 @@ fn is_top(number: &[u32; 64], top: usize, id: ScopeId) -> bool
 }
 
 // The slot of an address of this kind goes back when it is freed.
-pub fn goes_back(number: &[u32; 64], top: usize, kind: AddressKind) -> bool
+pub fn goes_back(number: &[u32; SCOPES], top: usize, kind: AddressKind) -> bool
     ensures { λ r. ⌜ r ≡ backFrom (now (number .entry)) top kind ⌝ }
 {
     match kind {

@@ -4,6 +4,7 @@ use input::Input;
 use input::open_argument;
 use input::read_argument;
 use recordings::read_recording;
+use rules::TEXT;
 ghost use Rattle.programs.specs.Recorded.{ReadBy};
 
 // One byte more than the longest recording, 4,294,967,295 lines of 7: so many are never well formed.
@@ -61,7 +62,7 @@ fn read_file(samples: &mut [u8]) -> Recorded
 }
 
 fn print(list: &[u8], state: u64, samples: &[u8]) {
-    let mut out = [0u8; 32768];
+    let mut out = [0u8; TEXT];
     let n = recorded(list, state, samples, &mut out);
     io::write_all(1, &out[..n]);
 }

@@ -2,9 +2,10 @@
 use answers::verdict::checked;
 use input::Input;
 use input::read_argument;
+use rules::TEXT;
 
 fn print(script: &[u8], list: &[u8]) {
-    let mut out = [0u8; 32768];
+    let mut out = [0u8; TEXT];
     let n = checked(script, list, &mut out);
     io::write_all(1, &out[..n]);
 }

@@ -3,6 +3,7 @@ use answers::ran;
 use answers::translated;
 use input::Input;
 use input::read_input;
+use rules::TEXT;
 ghost use Rattle.answers.specs.Prints.{Prints};
 ghost use Rattle.programs.specs.Printed.{printedBy};
 
@@ -14,7 +15,7 @@ pub enum Program {
     Runner,
 }
 
-fn answered(program: Program, text: &[u8], out: &mut [u8; 32768]) -> usize
+fn answered(program: Program, text: &[u8], out: &mut [u8; TEXT]) -> usize
     ensures { λ r. ⌜ Prints (printedBy program (now (text .entry))) (now (out .entry)) r (now (out .exit)) ⌝ }
 {
     match program {
@@ -24,7 +25,7 @@ fn answered(program: Program, text: &[u8], out: &mut [u8; 32768]) -> usize
 }
 
 fn print(program: Program, text: &[u8]) {
-    let mut out = [0u8; 32768];
+    let mut out = [0u8; TEXT];
     let n = answered(program, text, &mut out);
     io::write_all(1, &out[..n]);
 }

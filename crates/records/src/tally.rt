@@ -3,6 +3,7 @@ use crate::Found;
 use crate::record_at;
 use crate::same;
 use answers::translated;
+use rules::TEXT;
 ghost use mathlib.Core.Path.{_≡_};
 ghost use Prim.Native.Nat.{_+_, _≤_, _<_, _^_};
 ghost use lib.ListN.{length};
@@ -23,7 +24,7 @@ pub struct Tally {
 fn agrees(script: &[u8], answer: &[u8]) -> bool
     ensures { λ r. ⌜ r ≡ sameText (translatorPrints base (now (script .entry))) (now (answer .entry)) ⌝ }
 {
-    let mut out = [0u8; 32768];
+    let mut out = [0u8; TEXT];
     let n = translated(script, &mut out);
     same(&out[..n], answer)
 }

@@ -8,7 +8,7 @@ use native.Mathlib.Omega.{arith}
 use native.Mathlib.Nat.{mod-le}
 use lib.Dec.{lit<}
 use Rattle.rules.specs.Notation.{_▹_, put}
-use Rattle.rules.specs.Sizes.{Room}
+use Rattle.rules.specs.Sizes.{Room, COUNTERS}
 use Rattle.rules.specs.Slots.{Placement}
 use Rattle.rules.specs.AddressSets.{member}
 use Rattle.rules.specs.Scopes.{Scopes, freshScopes, Found, closed, drainDangling}
@@ -103,8 +103,8 @@ module _ (room : Room) (place : Placement) (fair : Fair room place (SlotsSound (
   own-small h ignore = all-given stays
   own-small h freedNeed = all-given stays
 
-  child-small : (d : Scopes) {n : ℕ} → Leaves (c .slots) (c .bindings) ((c .counter + 1) % 4294967296) n d → After (s ▹ scopes≔ d)
-  child-small d w = record { count = omega (arith, w .counter-is, small .count, mod-le (c .counter + 1) 4294967296); addresses = small .addresses }
+  child-small : (d : Scopes) {n : ℕ} → Leaves (c .slots) (c .bindings) ((c .counter + 1) % COUNTERS) n d → After (s ▹ scopes≔ d)
+  child-small d w = record { count = omega (arith, w .counter-is, small .count, mod-le (c .counter + 1) COUNTERS); addresses = small .addresses }
 
   pub small-step : (f : Frame) → All (λ r. After (r .1)) (step room place s f)
   unfolding step setNeed drainDangling

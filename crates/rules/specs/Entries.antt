@@ -66,9 +66,12 @@ loadsText (v ∷ vs) = loadText v ++ loadsText vs
 
 -- ---- lent memory
 
--- the answer of a refusal: its number in the high 32 bits, its line in the low 32
+-- an answer from here on is a refusal: its number in the high 32 bits, its line in the low 32
+abbrev pub REFUSAL : ℕ
+REFUSAL = 4294967296
+
 abbrev pub refusalAnswer : ℕ → ℕ → ℕ
-refusalAnswer n i = n * 4294967296 + i
+refusalAnswer n i = n * REFUSAL + i
 
 -- text over the beginning of lent memory
 abbrev pub overFront : List ℕ → List ℕ → List ℕ

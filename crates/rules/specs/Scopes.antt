@@ -7,7 +7,7 @@ use Prim.Native.Nat.{ℕ, zero, suc, _+_, _-_, _%_, max}
 use lib.ListN.{length}
 use lib.Dec.{eqb, ltb, leb}
 use Rattle.rules.specs.Notation.{Answer, given, refused, _>>=_, refuse_when_, refuse_unless_, isSome, _▹_, put, first}
-use Rattle.rules.specs.Sizes.{Room}
+use Rattle.rules.specs.Sizes.{Room, COUNTERS}
 use Rattle.rules.specs.Slots.{Slots, freshSlots, Placed, Placement, remove, removeAll}
 use Rattle.rules.specs.AddressSets.{member, added, without, addedAll, withoutAll, run}
 
@@ -139,7 +139,7 @@ setScope k x c = c ▹ live≔ (put (c .live) (k .index) (some x))
 
 -- "is 32 bits wide, and goes from 4,294,967,295 back to 0"
 abbrev pub afterCounter : ℕ → ℕ
-afterCounter n = (n + 1) % 4294967296
+afterCounter n = (n + 1) % COUNTERS
 
 -- "The index is the lowest free one from 1 to 63": 3, 8.
 -- "child: parent is the top; becomes top."

@@ -40,6 +40,13 @@ SCOPES = 64
 abbrev pub LISTS : ℕ
 LISTS = SCOPES + 1
 
+abbrev pub DANGLING : ℕ
+DANGLING = SCOPES
+
+-- numbers that a scope can get: "is 32 bits wide, and goes from 4,294,967,295 back to 0"
+abbrev pub COUNTERS : ℕ
+COUNTERS = 4294967296
+
 -- link cells of one direction: each address, then the end of each list
 abbrev pub CELLS : ℕ
 CELLS = SLOTS + LISTS
@@ -59,6 +66,10 @@ LINES = 2048
 abbrev pub HANDLES : ℕ
 HANDLES = 2048
 
+-- "Names and values are 16 bits.": each is below this
+abbrev pub WORD : ℕ
+WORD = 65536
+
 -- W-201: "Needs .. at most 64 in a script."
 abbrev pub NEEDS : ℕ
 NEEDS = 64
@@ -66,6 +77,14 @@ NEEDS = 64
 -- "Text buffers: 32,768 bytes"
 abbrev pub TEXT : ℕ
 TEXT = 32768
+
+-- the page that a list is written on before it is handed out
+abbrev pub PAGE : ℕ
+PAGE = TEXT
+
+-- no list of an accepted script has more bytes: 11 for each frame, 4 for each handle, 7 for the size line
+abbrev pub LONGEST_LIST : ℕ
+LONGEST_LIST = 11 * LINES + 4 * HANDLES + 7
 
 -- the room of 01
 unfoldable pub base : Room

@@ -11,6 +11,10 @@ pub const SCOPES: usize = 64;
 
 pub const LISTS: usize = SCOPES + 1;
 
+pub const DANGLING: usize = SCOPES;
+
+pub const COUNTERS: u64 = 4294967296;
+
 pub const CELLS: usize = SLOTS + LISTS;
 
 pub const LINKS: usize = 2 * CELLS;
@@ -19,8 +23,12 @@ pub const BINDINGS: usize = 256;
 
 pub const HANDLES: usize = 2048;
 
+pub const WORD: u64 = 65536;
+
 pub const NEEDS: usize = 64;
 
 pub const LINES: usize = 2048;
 
 pub const TEXT: usize = 32768;
+
+pub const PAGE: usize = TEXT;

@@ -8,7 +8,7 @@ use Prim.Native.Nat.{ℕ, zero, suc, _+_, _*_, _≤_, _<_, max}
 use native.Mathlib.Decide.{decLt}
 use native.Mathlib.Omega.{arith}
 use Rattle.rules.specs.Notation.{Answer, given, refused, _>>=_, refuse_unless_}
-use Rattle.rules.specs.Sizes.{base}
+use Rattle.rules.specs.Sizes.{base, SCOPES, SEGMENTS, SLOTS}
 use Rattle.rules.specs.Slots.{Place, Placement, placing}
 use Rattle.rules.specs.Sound.{soundSlots}
 use Rattle.rules.specs.Scopes as rule
@@ -31,7 +31,7 @@ use Rattle.scopes.proofs.Finds.{no-top, Topped, Known}
 pub slots-sound : (s : Scopes) → Slotted (s .halves) (s .segments) (s .head) → soundSlots (base .segments) (view s .slots) ≡ true
 unfolding base
 slots-sound s h =
-    tells-slots 8 (view s .slots) .shows
+    tells-slots SEGMENTS (view s .slots) .shows
     (record {
       segments = h .most;
       head = h .front;
@@ -41,17 +41,17 @@ slots-sound s h =
 -- ---- n slots for scope k, which go where r says
 
 module _ (s : Scopes) (k : ℕ) (p : Place) (n : ℕ) (r : Spot) (g : Goes (placing (base .segments) p) n (view s .slots) r) where
-  pub alloc-full : r .address ≡ 1024 → record { next = view s; says = Refused 7 } ≡ told at (view s) (rule.allocate (placing (base .segments) p) (foundAt s k) n (view s))
+  pub alloc-full : r .address ≡ SLOTS → record { next = view s; says = Refused 7 } ≡ told at (view s) (rule.allocate (placing (base .segments) p) (foundAt s k) n (view s))
   unfolding rule.allocate _>>=_ refuse_unless_
   alloc-full e = rw (g .nowhere e)
 
-  module _ (h : Sound s) (ne : r .address ≢ 1024) where
+  module _ (h : Sound s) (ne : r .address ≢ SLOTS) where
     -- every placement gives clear slots below the room, and leaves them in order
     pub alloc-vacant : Vacant (occ (s .halves)) (r .address) n
     unfolding base
     alloc-vacant = goes-vacant p n (view s .slots) r (slots-sound s (h .slotted)) g ne
 
-    then-in-order : InOrder 8 (after (view s .slots) n r)
+    then-in-order : InOrder SEGMENTS (after (view s .slots) n r)
     unfolding base
     then-in-order = goes-in-order p n (view s .slots) r (slots-sound s (h .slotted)) g ne
 
@@ -107,7 +107,7 @@ module _ (s : Scopes) (k : ℕ) (p : Place) (n : ℕ) (r : Spot) (g : Goes (plac
 -- ---- which scope it is for
 
 module _ (place : Placement) (s : Scopes) where
-  pub alloc-no-top : s .top ≡ 64 → record { next = view s; says = Refused 3 } ≡ told at (view s) (rule.allocTop place (view s))
+  pub alloc-no-top : s .top ≡ SCOPES → record { next = view s; says = Refused 3 } ≡ told at (view s) (rule.allocTop place (view s))
   unfolding rule.allocTop _>>=_ refuse_unless_
   alloc-no-top e = rw (no-top s e)
 
@@ -123,7 +123,7 @@ module _ (place : Placement) (s : Scopes) where
   unfolding rule.allocIn _>>=_ refuse_unless_
   alloc-in-is o i e = rw (e .is)
 
-  pub run-no-top : (n : ℕ) → s .top ≡ 64 → record { next = view s; says = Refused 3 } ≡ told atFirst (view s) (rule.allocRun place n (view s))
+  pub run-no-top : (n : ℕ) → s .top ≡ SCOPES → record { next = view s; says = Refused 3 } ≡ told atFirst (view s) (rule.allocRun place n (view s))
   unfolding rule.allocRun _>>=_ refuse_unless_
   run-no-top zero e = rw (no-top s e)
   run-no-top (suc m) e = rw (no-top s e)

@@ -12,10 +12,11 @@ use lib.ListN.{length, getD, set, take, drop}
 use lib.Seq.{take-suc, take-all, take-set-lt, split-at, set-split, length-take-le, getD-take}
 use lib.Dec.{eqb}
 use borrow.Author.Tests.{eq-eqb, ne-eqb, eqb-true}
+use Rattle.rules.specs.Sizes.{BINDINGS, WORD}
 use Rattle.rules.specs.Notation.{isSome}
 use Rattle.rules.specs.Scopes as rule
 use Rattle.rules.proofs.Tells.{clash}
-use Rattle.scopes.specs.View.{binding, bindingsOf}
+use Rattle.scopes.specs.View.{binding, bindingsOf, ADDRESS_PART, HANDLE_PART, NAME_PART, SCOPE_PART}
 use Rattle.scopes.specs.Sound.{Each, BoundOnce}
 use Rattle.scopes.specs.Leaves.{Spot}
 use Rattle.scopes.proofs.Tables.{and-left, and-right, and-both}
@@ -24,26 +25,26 @@ use Rattle.scopes.proofs.Opens.{each-map}
 -- ---- a binding in one number
 
 -- the test of a key is the rules' test
-pub hit : (b i name : ℕ) → name < 65536 → b / 8589934592 ≡ i * 65536 + name → rule.isFor i name (binding b) ≡ true
-hit b i name hn e = and-both _ _ (eq-eqb (b / 562949953421312) i (omega arith)) (eq-eqb (b / 8589934592 % 65536) name (omega arith))
+pub hit : (b i name : ℕ) → name < WORD → b / NAME_PART ≡ i * WORD + name → rule.isFor i name (binding b) ≡ true
+hit b i name hn e = and-both _ _ (eq-eqb (b / SCOPE_PART) i (omega arith)) (eq-eqb (b / NAME_PART % WORD) name (omega arith))
 
-pub miss : (b i name : ℕ) → name < 65536 → b / 8589934592 ≢ i * 65536 + name → rule.isFor i name (binding b) ≡ false
+pub miss : (b i name : ℕ) → name < WORD → b / NAME_PART ≢ i * WORD + name → rule.isFor i name (binding b) ≡ false
 miss b i name hn n =
-    by-cases (ℕ-discrete (b / 562949953421312) i)
-    (λ e. rw (eq-eqb (b / 562949953421312) i e, ne-eqb (b / 8589934592 % 65536) name (λ q. n (omega arith))))
-    (λ e. rw (ne-eqb (b / 562949953421312) i e))
+    by-cases (ℕ-discrete (b / SCOPE_PART) i)
+    (λ e. rw (eq-eqb (b / SCOPE_PART) i e, ne-eqb (b / NAME_PART % WORD) name (λ q. n (omega arith))))
+    (λ e. rw (ne-eqb (b / SCOPE_PART) i e))
 
-module _ (i name address handle b : ℕ) (hn : name < 65536) (ha : address < 65536) (hh : handle < 65536) (e : b ≡ (i * 65536 + name) * 8589934592 + (address * 131072 + handle * 2)) where
-  scope-is : b / 562949953421312 ≡ i
+module _ (i name address handle b : ℕ) (hn : name < WORD) (ha : address < WORD) (hh : handle < WORD) (e : b ≡ (i * WORD + name) * NAME_PART + (address * ADDRESS_PART + handle * 2)) where
+  scope-is : b / SCOPE_PART ≡ i
   scope-is = omega arith
 
-  name-is : b / 8589934592 % 65536 ≡ name
+  name-is : b / NAME_PART % WORD ≡ name
   name-is = omega arith
 
-  address-is : b / 131072 % 65536 ≡ address
+  address-is : b / ADDRESS_PART % WORD ≡ address
   address-is = omega arith
 
-  handle-is : b / 2 % 65536 ≡ handle
+  handle-is : b / HANDLE_PART % WORD ≡ handle
   handle-is = omega arith
 
   pub pack-is : binding b ≡ record { scope = i; name = name; address = address; handle = handle; moved = false }
@@ -51,20 +52,20 @@ module _ (i name address handle b : ℕ) (hn : name < 65536) (ha : address < 655
 
 -- one more is the same binding, moved
 module _ (b : ℕ) (e : b % 2 ≢ 1) where
-  scope-kept : (b + 1) / 562949953421312 ≡ b / 562949953421312
+  scope-kept : (b + 1) / SCOPE_PART ≡ b / SCOPE_PART
   scope-kept = omega arith
 
-  name-kept : (b + 1) / 8589934592 ≡ b / 8589934592
+  name-kept : (b + 1) / NAME_PART ≡ b / NAME_PART
   name-kept = omega arith
 
-  address-kept : (b + 1) / 131072 ≡ b / 131072
+  address-kept : (b + 1) / ADDRESS_PART ≡ b / ADDRESS_PART
   address-kept = omega arith
 
   handle-kept : (b + 1) / 2 ≡ b / 2
   handle-kept = omega arith
 
   pub marked-moved : binding (b + 1) ≡ rule.moved≔ true (binding b)
-  marked-moved = λ t. record { scope = scope-kept t; name = name-kept t % 65536; address = address-kept t % 65536; handle = handle-kept t % 65536; moved = eq-eqb ((b + 1) % 2) 1 (omega arith) t }
+  marked-moved = λ t. record { scope = scope-kept t; name = name-kept t % WORD; address = address-kept t % WORD; handle = handle-kept t % WORD; moved = eq-eqb ((b + 1) % 2) 1 (omega arith) t }
 
 -- ---- the search
 
@@ -98,7 +99,7 @@ module _ (i name : ℕ) where
   unfolding rule.rebound
   rebound-here x p q b l h = let e : rule.isFor (x .scope) (x .name) (binding b) ≡ true = rw (p, q) h in rw (e, rule.rebound)
 
-  module _ (bindings : List ℕ) (count : ℕ) (long : length bindings ≡ 256) (hc : count ≤ 256) where
+  module _ (bindings : List ℕ) (count : ℕ) (long : length bindings ≡ BINDINGS) (hc : count ≤ BINDINGS) where
     abbrev L : List ℕ
     L = take count bindings
 
@@ -110,7 +111,7 @@ module _ (i name : ℕ) where
         rw (add-one j, take-suc L j 0 (omega (arith, len)))
         (missed-end (take j L) (getD L j 0) h (rw (getD-take count bindings j 0 hj) m))
 
-    pub spot-none : (j : ℕ) → count ≤ j → Missed (take j L) → Spot bindings count i name 256
+    pub spot-none : (j : ℕ) → count ≤ j → Missed (take j L) → Spot bindings count i name BINDINGS
     unfolding rule.boundIn rule.rebound
     spot-none j l h =
         let all : Missed L = rw (take-all j L (omega (arith, len))) at h in
@@ -134,7 +135,7 @@ module _ (i name : ℕ) where
             inside = hj;
             is = ap (rule.boundIn i name) ms ∙ bound-skip (take j L) _ h ∙ bound-here (getD bindings j 0) _ t;
             in-scope = eqb-true _ _ (and-left _ _ t);
-            of-name = eqb-true _ _ (and-right (eqb (getD bindings j 0 / 562949953421312) i) _ t);
+            of-name = eqb-true _ _ (and-right (eqb (getD bindings j 0 / SCOPE_PART) i) _ t);
             replaced = λ b p q.
                 ap (map binding) (take-set-lt count bindings j b hj ∙ set-split L j b (omega (arith, len))) ∙ map-append binding (take j L) _
                 ∙ sym (ap (rule.rebound (binding b)) ms ∙ rebound-skip (binding b) p q (take j L) _ h ∙ ap (λ (x : List rule.Binding). map binding (take j L) ++ x) (rebound-here (binding b) p q (getD bindings j 0) _ t));

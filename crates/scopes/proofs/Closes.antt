@@ -10,6 +10,7 @@ use native.Mathlib.Omega.{arith}
 use lib.ListN.{length, getD, set, length-set, List·getD-eq-default}
 use lib.Seq.{getD-set-same, getD-set-other}
 use borrow.Author.Tests.{ne-eqb, eq-eqb, eqb-true, eqb-false}
+use Rattle.rules.specs.Sizes.{BINDINGS, CELLS, HALVES, LINKS, LISTS, SCOPES, SLOTS}
 use Rattle.rules.specs.Notation.{put}
 use Rattle.rules.specs.AddressSets.{member, without, added, addedAll}
 use Rattle.rules.specs.Slots.{removeAll}
@@ -36,43 +37,43 @@ use Rattle.scopes.proofs.Frees.{released, released-sized, removed, back
 pub record Turn (t : Scopes) (i a : ℕ) : Type 0 where
   pub zs : List ℕ
   pub is : held (t .links) i ≡ a ∷ zs
-  pub small : a < 1024
+  pub small : a < SLOTS
   pub owner : getD (t .owner) a 0 ≡ i
   pub rest : without a (held (t .links) i) ≡ zs
 
-module _ (t : Scopes) (h : Sound t) (i a : ℕ) (hi : i < 65) (at : Ahead (nextIn (t .links)) a (held (t .links) i) (1024 + i)) where
-  pub turn : a ≢ 1024 + i → Turn t i a
+module _ (t : Scopes) (h : Sound t) (i a : ℕ) (hi : i < LISTS) (at : Ahead (nextIn (t .links)) a (held (t .links) i) (SLOTS + i)) where
+  pub turn : a ≢ SLOTS + i → Turn t i a
   turn ne = go (held (t .links) i) refl at (h .ringed .rings .ring i hi)
     where
-      go : (xs : List ℕ) → held (t .links) i ≡ xs → Ahead (nextIn (t .links)) a xs (1024 + i) → Ring 1024 (nextIn (t .links)) (prevIn 1089 (t .links)) (1024 + i) xs → Turn t i a
+      go : (xs : List ℕ) → held (t .links) i ≡ xs → Ahead (nextIn (t .links)) a xs (SLOTS + i) → Ring SLOTS (nextIn (t .links)) (prevIn CELLS (t .links)) (SLOTS + i) xs → Turn t i a
       go [] q w r = absurd (ne w)
       go (z ∷ zs) q w r =
           let az : a ≡ z = w .0 in
           let is : held (t .links) i ≡ a ∷ zs = q ∙ ap (λ (x : ℕ). x ∷ zs) (sym az) in
-          let small : a < 1024 = omega (arith, r .addr z (member-same z zs)) in
+          let small : a < SLOTS = omega (arith, r .addr z (member-same z zs)) in
           record {
             zs = zs;
             is = is;
             small = small;
             owner = eqb-true (getD (t .owner) a 0) i (sym (h .ringed .tells a i small hi) ∙ ap (member a) is ∙ member-same a zs);
-            rest = ap (without a) q ∙ ap (λ (x : ℕ). without x (z ∷ zs)) az ∙ without-first 1024 (nextIn (t .links)) (prevIn 1089 (t .links)) (1024 + i) z zs (omega arith) r;
+            rest = ap (without a) q ∙ ap (λ (x : ℕ). without x (z ∷ zs)) az ∙ without-first SLOTS (nextIn (t .links)) (prevIn CELLS (t .links)) (SLOTS + i) z zs (omega arith) r;
           }
 
-  pub ended : a ≡ 1024 + i → held (t .links) i ≡ []
+  pub ended : a ≡ SLOTS + i → held (t .links) i ≡ []
   ended e = go (held (t .links) i) refl at (h .ringed .rings .ring i hi)
     where
-      go : (xs : List ℕ) → held (t .links) i ≡ xs → Ahead (nextIn (t .links)) a xs (1024 + i) → Ring 1024 (nextIn (t .links)) (prevIn 1089 (t .links)) (1024 + i) xs → held (t .links) i ≡ []
+      go : (xs : List ℕ) → held (t .links) i ≡ xs → Ahead (nextIn (t .links)) a xs (SLOTS + i) → Ring SLOTS (nextIn (t .links)) (prevIn CELLS (t .links)) (SLOTS + i) xs → held (t .links) i ≡ []
       go [] q w r = q
       go (z ∷ zs) q w r = absurd (omega (arith, w .0, r .addr z (member-same z zs)))
 
 -- ---- one address has gone: closing the scope then comes to the same
 
-module _ (t : Scopes) (h : Sound t) (z : Sized t) (i a : ℕ) (hi : i < 64) (u : Turn t i a) (halves links : List ℕ)
-    (slot : occ halves ≡ put (occ (t .halves)) a false) (c : Held 1024 65 links (gains 64 a (leaves a (held (t .links))))) where
+module _ (t : Scopes) (h : Sound t) (z : Sized t) (i a : ℕ) (hi : i < SCOPES) (u : Turn t i a) (halves links : List ℕ)
+    (slot : occ halves ≡ put (occ (t .halves)) a false) (c : Held SLOTS LISTS links (gains SCOPES a (leaves a (held (t .links))))) where
   abbrev then : Scopes
-  then = released t a 64 halves links
+  then = released t a SCOPES halves links
 
-  lists : (held links i ≡ without a (held (t .links) i)) × (held links 64 ≡ added a (held (t .links) 64))
+  lists : (held links i ≡ without a (held (t .links) i)) × (held links SCOPES ≡ added a (held (t .links) SCOPES))
   lists = back-lists t h z a i (u .small) hi (u .owner) halves slot links c
 
   now-i : held links i ≡ u .zs
@@ -85,33 +86,33 @@ module _ (t : Scopes) (h : Sound t) (z : Sized t) (i a : ℕ) (hi : i < 64) (u :
       ap (λ (l : List ℕ). removeAll l (view then .slots)) now-i
       ∙ ap (removeAll (u .zs)) (sym (removed t h z a i (u .small) hi (u .owner) halves slot))
       ∙ sym (ap (λ (l : List ℕ). removeAll l (view t .slots)) (u .is)) in
-      let d : addedAll (held links i) (held links 64) ≡ addedAll (held (t .links) i) (held (t .links) 64) =
-      ap (λ (l : List ℕ). addedAll l (held links 64)) now-i
+      let d : addedAll (held links i) (held links SCOPES) ≡ addedAll (held (t .links) i) (held (t .links) SCOPES) =
+      ap (λ (l : List ℕ). addedAll l (held links SCOPES)) now-i
       ∙ ap (addedAll (u .zs)) (lists .1)
-      ∙ sym (ap (λ (l : List ℕ). addedAll l (held (t .links) 64)) (u .is)) in
+      ∙ sym (ap (λ (l : List ℕ). addedAll l (held (t .links) SCOPES)) (u .is)) in
       let l : put (view then .live) i none ≡ put (view t .live) i none =
       ap (λ (f : ℕ → Option rule.Scope). put f i none) (back-live t h z a i (u .small) hi (u .owner) halves slot links c) ∙ put-again (view t .live) i _ none in
       λ v. record { slots = s v; live = l v; top = index (getD (t .parent) i 0); counter = t .counter; bindings = rule.unbound i (view t .bindings); dangling = d v; size = t .size }
 
 -- the loop: t has come from t₀, and a is next
 pub record Closing (i : ℕ) (t₀ t : Scopes) (a : ℕ) : Type 0 where
-  pub at : Ahead (nextIn (t .links)) a (held (t .links) i) (1024 + i)
+  pub at : Ahead (nextIn (t .links)) a (held (t .links) i) (SLOTS + i)
   pub sound : Sound t
   pub sized : Sized t
   pub live : getD (t .live) i false ≡ true
   pub closes : rule.closed (foundAt t i) (view t) ≡ rule.closed (foundAt t₀ i) (view t₀)
 
-module _ (i : ℕ) (t₀ t : Scopes) (a : ℕ) (hi : i < 64) (g : Closing i t₀ t a) (u : Turn t i a) (halves links : List ℕ) (lh : length halves ≡ 16) (ll : length links ≡ 2178)
-    (slot : occ halves ≡ put (occ (t .halves)) a false) (c : Held 1024 65 links (gains 64 a (leaves a (held (t .links))))) where
-  pub closing-sound : Sound (released t a 64 halves links)
+module _ (i : ℕ) (t₀ t : Scopes) (a : ℕ) (hi : i < SCOPES) (g : Closing i t₀ t a) (u : Turn t i a) (halves links : List ℕ) (lh : length halves ≡ HALVES) (ll : length links ≡ LINKS)
+    (slot : occ halves ≡ put (occ (t .halves)) a false) (c : Held SLOTS LISTS links (gains SCOPES a (leaves a (held (t .links))))) where
+  pub closing-sound : Sound (released t a SCOPES halves links)
   closing-sound = back-sound t (g .sound) (g .sized) a i (u .small) hi (u .owner) halves slot links c
 
-  pub closing-on : (b : ℕ) → Ahead (nextIn links) b (held links i) (1024 + i) → Closing i t₀ (released t a 64 halves links) b
+  pub closing-on : (b : ℕ) → Ahead (nextIn links) b (held links i) (SLOTS + i) → Closing i t₀ (released t a SCOPES halves links) b
   closing-on b at =
       record {
         at = at;
         sound = closing-sound;
-        sized = released-sized t (g .sized) a 64 halves links lh ll;
+        sized = released-sized t (g .sized) a SCOPES halves links lh ll;
         live = g .live;
         closes = step-closes t (g .sound) (g .sized) i a hi u halves links slot c ∙ g .closes;
       }
@@ -129,7 +130,7 @@ gone t i bindings count top =
       owner = t .owner;
       live = set (t .live) i false;
       dangled = set (t .dangled) i false;
-      parent = set (t .parent) i 64;
+      parent = set (t .parent) i SCOPES;
       number = set (t .number) i 0;
       bindings = bindings;
       count = count;
@@ -162,13 +163,13 @@ alone live parent nc (root l q) = refl
 alone live parent nc (up {i = j} n l r) = absurd (nc j l (alone live parent nc r))
 
 module _ (live : List Bool) (parent : List ℕ) (i : ℕ) (nc : NoChild live parent i) where
-  leads-off : {j : ℕ} → j ≢ i → Leads live parent j → Leads (set live i false) (set parent i 64) j
-  leads-off ne (root l q) = root (getD-set-other live i 0 false false ne ∙ l) (getD-set-other parent i 0 64 0 ne ∙ q)
+  leads-off : {j : ℕ} → j ≢ i → Leads live parent j → Leads (set live i false) (set parent i SCOPES) j
+  leads-off ne (root l q) = root (getD-set-other live i 0 false false ne ∙ l) (getD-set-other parent i 0 SCOPES 0 ne ∙ q)
   leads-off ne (up {i = j} n l r) =
       up n (getD-set-other live i j false false ne ∙ l)
-      (subst (λ (x : ℕ). Leads (set live i false) (set parent i 64) x) (sym (getD-set-other parent i j 64 0 ne)) (leads-off (nc j l) r))
+      (subst (λ (x : ℕ). Leads (set live i false) (set parent i SCOPES) x) (sym (getD-set-other parent i j SCOPES 0 ne)) (leads-off (nc j l) r))
 
-module _ (t : Scopes) (h : Sound t) (z : Sized t) (i : ℕ) (hi : i < 64) (li : getD (t .live) i false ≡ true) (nc : NoChild (t .live) (t .parent) i) (empty : held (t .links) i ≡ [])
+module _ (t : Scopes) (h : Sound t) (z : Sized t) (i : ℕ) (hi : i < SCOPES) (li : getD (t .live) i false ≡ true) (nc : NoChild (t .live) (t .parent) i) (empty : held (t .links) i ≡ [])
     (bindings : List ℕ) (count : ℕ) (en : bindingsOf bindings count ≡ rule.unbound i (bindingsOf (t .bindings) (t .count))) (less : count ≤ t .count)
     (clear : (j : ℕ) → count ≤ j → getD bindings j 0 ≡ 0) (top : ℕ) (et : top ≡ getD (t .parent) i 0) where
   off : getD (set (t .live) i false) i false ≡ false
@@ -179,12 +180,12 @@ module _ (t : Scopes) (h : Sound t) (z : Sized t) (i : ℕ) (hi : i < 64) (li : 
   gone-is =
       let l : view (gone t i bindings count top) .live ≡ put (view t .live) i none =
       put-ext (view t .live) (view (gone t i bindings count top) .live) i none (rw off)
-      (λ j n. rw (getD-set-other (t .live) i j false false n, getD-set-other (t .dangled) i j false false n, getD-set-other (t .parent) i j 64 0 n, getD-set-other (t .number) i j 0 0 n)) in
+      (λ j n. rw (getD-set-other (t .live) i j false false n, getD-set-other (t .dangled) i j false false n, getD-set-other (t .parent) i j SCOPES 0 n, getD-set-other (t .number) i j 0 0 n)) in
       let s : view t .slots ≡ removeAll (held (t .links) i) (view t .slots) = sym (ap (λ (x : List ℕ). removeAll x (view t .slots)) empty) in
       let d : view t .dangling ≡ addedAll (held (t .links) i) (view t .dangling) = sym (ap (λ (x : List ℕ). addedAll x (view t .dangling)) empty) in
       λ v. record { slots = s v; live = l v; top = index (et v); counter = t .counter; bindings = en v; dangling = d v; size = t .size }
 
-  not-i : (a : ℕ) → a < 1024 → getD (t .owner) a 0 ≢ i
+  not-i : (a : ℕ) → a < SLOTS → getD (t .owner) a 0 ≢ i
   unfolding member
   not-i a ha = eqb-false (getD (t .owner) a 0) i (sym (h .ringed .tells a i ha (omega arith)) ∙ ap (member a) empty)
 
@@ -212,7 +213,7 @@ module _ (t : Scopes) (h : Sound t) (z : Sized t) (i : ℕ) (hi : i < 64) (li : 
       }
     where
       topped : (j : ℕ) → j ≡ i → Leads (t .live) (t .parent) j
-          → ((getD (t .parent) i 0 < 64) × (getD (set (t .live) i false) (getD (t .parent) i 0) false ≡ true)) ⊎ ((getD (t .parent) i 0 ≡ 64) × ((k : ℕ) → k < 64 → getD (set (t .live) i false) k false ≡ false))
+          → ((getD (t .parent) i 0 < SCOPES) × (getD (set (t .live) i false) (getD (t .parent) i 0) false ≡ true)) ⊎ ((getD (t .parent) i 0 ≡ SCOPES) × ((k : ℕ) → k < SCOPES → getD (set (t .live) i false) k false ≡ false))
       topped j e (root l q) = inr (rw (← e) q, λ k hk. others k (getD (t .live) k false) refl (ℕ-discrete k i))
         where
           others : (k : ℕ) (b : Bool) → getD (t .live) k false ≡ b → Dec (k ≡ i) → getD (set (t .live) i false) k false ≡ false
@@ -223,20 +224,20 @@ module _ (t : Scopes) (h : Sound t) (z : Sized t) (i : ℕ) (hi : i < 64) (li : 
           let p : getD (t .live) (getD (t .parent) i 0) false ≡ true = parent-live t h i li (λ q. n (e ∙ q)) in
           inl (in-range t (z .live) _ p, still _ (nc i li) p)
 
-      leads : (j : ℕ) → getD (set (t .live) i false) j false ≡ true → Dec (j ≡ i) → Leads (set (t .live) i false) (set (t .parent) i 64) j
+      leads : (j : ℕ) → getD (set (t .live) i false) j false ≡ true → Dec (j ≡ i) → Leads (set (t .live) i false) (set (t .parent) i SCOPES) j
       leads j l (yes e) = clash (subst (λ (x : ℕ). getD (set (t .live) i false) x false ≡ true) e l) off
       leads j l (no n) = leads-off (t .live) (t .parent) i nc n (h .rooted .leads j (sym (getD-set-other (t .live) i j false false n) ∙ l))
 
-      dead : (j : ℕ) → j < 64 → getD (set (t .live) i false) j false ≡ false → Dec (j ≡ i) → (getD (set (t .dangled) i false) j false ≡ false) × (getD (set (t .parent) i 64) j 0 ≡ 64) × (getD (set (t .number) i 0) j 0 ≡ 0)
-      dead j hj l (yes e) = rw e (getD-set-same (t .dangled) i false false (omega (arith, z .dangled)), getD-set-same (t .parent) i 64 0 (omega (arith, z .parent)), getD-set-same (t .number) i 0 0 (omega (arith, z .number)))
+      dead : (j : ℕ) → j < SCOPES → getD (set (t .live) i false) j false ≡ false → Dec (j ≡ i) → (getD (set (t .dangled) i false) j false ≡ false) × (getD (set (t .parent) i SCOPES) j 0 ≡ SCOPES) × (getD (set (t .number) i 0) j 0 ≡ 0)
+      dead j hj l (yes e) = rw e (getD-set-same (t .dangled) i false false (omega (arith, z .dangled)), getD-set-same (t .parent) i SCOPES 0 (omega (arith, z .parent)), getD-set-same (t .number) i 0 0 (omega (arith, z .number)))
       dead j hj l (no n) =
-          rw (getD-set-other (t .dangled) i j false false n, getD-set-other (t .parent) i j 64 0 n, getD-set-other (t .number) i j 0 0 n) (h .rooted .dead j hj (sym (getD-set-other (t .live) i j false false n) ∙ l))
+          rw (getD-set-other (t .dangled) i j false false n, getD-set-other (t .parent) i j SCOPES 0 n, getD-set-other (t .number) i j 0 0 n) (h .rooted .dead j hj (sym (getD-set-other (t .live) i j false false n) ∙ l))
 
       first : Dec (0 ≡ i) → getD (set (t .number) i 0) 0 0 ≡ 0
       first (yes e) = rw (← e) (getD-set-same (t .number) 0 0 0 (omega (arith, z .number)))
       first (no n) = getD-set-other (t .number) i 0 0 0 n ∙ h .rooted .first
 
-  pub gone-whole : length bindings ≡ 256 → Whole (gone t i bindings count top)
+  pub gone-whole : length bindings ≡ BINDINGS → Whole (gone t i bindings count top)
   gone-whole lb =
       record {
         sound = gone-sound;
@@ -246,7 +247,7 @@ module _ (t : Scopes) (h : Sound t) (z : Sized t) (i : ℕ) (hi : i < 64) (li : 
           owner = z .owner;
           live = length-set (t .live) i false ∙ z .live;
           dangled = length-set (t .dangled) i false ∙ z .dangled;
-          parent = length-set (t .parent) i 64 ∙ z .parent;
+          parent = length-set (t .parent) i SCOPES ∙ z .parent;
           number = length-set (t .number) i 0 ∙ z .number;
           bindings = lb;
         };
@@ -254,12 +255,12 @@ module _ (t : Scopes) (h : Sound t) (z : Sized t) (i : ℕ) (hi : i < 64) (li : 
 
 -- ---- what the code reads fits
 
-pub parent-fits : (t : Scopes) → Sound t → (i : ℕ) → getD (t .live) i false ≡ true → length (t .live) ≡ 64 → getD (t .parent) i 0 ≤ 64
+pub parent-fits : (t : Scopes) → Sound t → (i : ℕ) → getD (t .live) i false ≡ true → length (t .live) ≡ SCOPES → getD (t .parent) i 0 ≤ SCOPES
 parent-fits t h i li z =
     by-cases (ℕ-discrete i 0)
-    (λ e. let q : getD (t .parent) i 0 ≡ 64 = go i e (h .rooted .leads i li) in omega arith)
-    (λ n. let q : getD (t .parent) i 0 < 64 = in-range t z _ (parent-live t h i li n) in omega arith)
+    (λ e. let q : getD (t .parent) i 0 ≡ SCOPES = go i e (h .rooted .leads i li) in omega arith)
+    (λ n. let q : getD (t .parent) i 0 < SCOPES = in-range t z _ (parent-live t h i li n) in omega arith)
   where
-    go : (j : ℕ) → j ≡ 0 → Leads (t .live) (t .parent) j → getD (t .parent) j 0 ≡ 64
+    go : (j : ℕ) → j ≡ 0 → Leads (t .live) (t .parent) j → getD (t .parent) j 0 ≡ SCOPES
     go _ e (root l q) = q
     go _ e (up n l r) = absurd (n e)

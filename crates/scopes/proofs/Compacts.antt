@@ -11,8 +11,9 @@ use lib.ListN.{length, getD, set, take, length-set}
 use lib.Seq.{take-suc, take-suc-set, take-set-le, getD-set-same, getD-set-other}
 use lib.Dec.{eqb}
 use borrow.Author.Tests.{eq-eqb, ne-eqb}
+use Rattle.rules.specs.Sizes.{BINDINGS}
 use Rattle.rules.specs.Scopes as rule
-use Rattle.scopes.specs.View.{binding, bindingsOf}
+use Rattle.scopes.specs.View.{binding, bindingsOf, SCOPE_PART}
 use Rattle.scopes.specs.Leaves.{Wiped}
 
 abbrev unless : Bool → ℕ → List ℕ → List ℕ
@@ -21,58 +22,58 @@ unless false x xs = x ∷ xs
 
 abbrev pub kept : ℕ → List ℕ → List ℕ
 kept i [] = []
-kept i (b ∷ l) = unless (eqb (b / 562949953421312) i) b (kept i l)
+kept i (b ∷ l) = unless (eqb (b / SCOPE_PART) i) b (kept i l)
 
 pub kept-is : (i : ℕ) (l : List ℕ) → map binding (kept i l) ≡ rule.unbound i (map binding l)
 unfolding rule.unbound
 kept-is i [] = refl
 kept-is i (b ∷ l) =
-    by-cases (ℕ-discrete (b / 562949953421312) i)
-    (λ e. rw (eq-eqb (b / 562949953421312) i e, rule.unbound) (kept-is i l))
-    (λ n. rw (ne-eqb (b / 562949953421312) i n, rule.unbound) (ap (λ (t : List _). binding b ∷ t) (kept-is i l)))
+    by-cases (ℕ-discrete (b / SCOPE_PART) i)
+    (λ e. rw (eq-eqb (b / SCOPE_PART) i e, rule.unbound) (kept-is i l))
+    (λ n. rw (ne-eqb (b / SCOPE_PART) i n, rule.unbound) (ap (λ (t : List _). binding b ∷ t) (kept-is i l)))
 
 kept-append : (i : ℕ) (l : List ℕ) (b : ℕ) → kept i (l ++ (b ∷ [])) ≡ kept i l ++ kept i (b ∷ [])
 kept-append i [] b = refl
 kept-append i (x ∷ l) b =
-    by-cases (ℕ-discrete (x / 562949953421312) i)
-    (λ e. rw (eq-eqb (x / 562949953421312) i e) (kept-append i l b))
-    (λ n. rw (ne-eqb (x / 562949953421312) i n) (ap (λ (t : List ℕ). x ∷ t) (kept-append i l b)))
+    by-cases (ℕ-discrete (x / SCOPE_PART) i)
+    (λ e. rw (eq-eqb (x / SCOPE_PART) i e) (kept-append i l b))
+    (λ n. rw (ne-eqb (x / SCOPE_PART) i n) (ap (λ (t : List ℕ). x ∷ t) (kept-append i l b)))
 
 -- j bindings are passed, and w of them kept
 pub record Passed (old : List ℕ) (count i : ℕ) (new : List ℕ) (w j : ℕ) : Type 0 where
-  pub long : length new ≡ 256
+  pub long : length new ≡ BINDINGS
   pub within : (w ≤ j) × (j ≤ count)
   pub front : take w new ≡ kept i (take j old)
   pub ahead : (k : ℕ) → j ≤ k → getD new k 0 ≡ getD old k 0
 
-pub passed-none : (old : List ℕ) (count i : ℕ) → length old ≡ 256 → Passed old count i old 0 0
+pub passed-none : (old : List ℕ) (count i : ℕ) → length old ≡ BINDINGS → Passed old count i old 0 0
 passed-none old count i l = record { long = l; within = (omega arith, omega arith); front = refl; ahead = λ k _. refl }
 
-module _ (old : List ℕ) (count i : ℕ) (lo : length old ≡ 256) (hc : count ≤ 256) (new : List ℕ) (w j : ℕ) (h : Passed old count i new w j) (hj : j < count) where
-  pub passed-keep : getD new j 0 / 562949953421312 ≢ i → Passed old count i (set new w (getD new j 0)) (w + 1) (j + 1)
+module _ (old : List ℕ) (count i : ℕ) (lo : length old ≡ BINDINGS) (hc : count ≤ BINDINGS) (new : List ℕ) (w j : ℕ) (h : Passed old count i new w j) (hj : j < count) where
+  pub passed-keep : getD new j 0 / SCOPE_PART ≢ i → Passed old count i (set new w (getD new j 0)) (w + 1) (j + 1)
   passed-keep n =
       record {
         long = length-set new w (getD new j 0) ∙ h .long;
         within = (omega (arith, h .within .0), omega arith);
-        front = rw (add-one w, add-one j, take-suc-set new w (getD new j 0) (omega (arith, h .long, h .within .0)), take-suc old j 0 (omega arith), kept-append i (take j old) (getD old j 0), ← h .ahead j (omega arith), ne-eqb (getD new j 0 / 562949953421312) i n, h .front);
+        front = rw (add-one w, add-one j, take-suc-set new w (getD new j 0) (omega (arith, h .long, h .within .0)), take-suc old j 0 (omega arith), kept-append i (take j old) (getD old j 0), ← h .ahead j (omega arith), ne-eqb (getD new j 0 / SCOPE_PART) i n, h .front);
         ahead = λ k l. getD-set-other new w k (getD new j 0) 0 (omega (arith, h .within .0)) ∙ h .ahead k (omega arith);
       }
 
-  pub passed-drop : getD new j 0 / 562949953421312 ≡ i → Passed old count i new w (j + 1)
+  pub passed-drop : getD new j 0 / SCOPE_PART ≡ i → Passed old count i new w (j + 1)
   passed-drop e =
       record {
         long = h .long;
         within = (omega (arith, h .within .0), omega arith);
-        front = rw (add-one j, take-suc old j 0 (omega arith), kept-append i (take j old) (getD old j 0), ← h .ahead j (omega arith), eq-eqb (getD new j 0 / 562949953421312) i e, append-nil) (h .front);
+        front = rw (add-one j, take-suc old j 0 (omega arith), kept-append i (take j old) (getD old j 0), ← h .ahead j (omega arith), eq-eqb (getD new j 0 / SCOPE_PART) i e, append-nil) (h .front);
         ahead = λ k l. h .ahead k (omega arith);
       }
 
 -- ---- the places that are left over
 
-pub wiped-none : (old : List ℕ) (from : ℕ) → length old ≡ 256 → Wiped old from from old
+pub wiped-none : (old : List ℕ) (from : ℕ) → length old ≡ BINDINGS → Wiped old from from old
 wiped-none old from l = record { long = l; front = refl; zeros = λ k a b. absurd (omega arith); ahead = λ k a. refl }
 
-pub wiped-more : (old : List ℕ) (from w : ℕ) (new : List ℕ) → from ≤ w → w < 256 → Wiped old from w new → Wiped old from (w + 1) (set new w 0)
+pub wiped-more : (old : List ℕ) (from w : ℕ) (new : List ℕ) → from ≤ w → w < BINDINGS → Wiped old from w new → Wiped old from (w + 1) (set new w 0)
 wiped-more old from w new l hw h =
     record {
       long = length-set new w 0 ∙ h .long;

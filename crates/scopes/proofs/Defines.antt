@@ -12,7 +12,7 @@ use lib.Seq.{length-take-le, take-suc-set, getD-set-other}
 use lib.Dec.{leb}
 use borrow.Author.Tests.{le-leb, lt-leb}
 use Rattle.rules.specs.Notation.{_>>=_, refuse_unless_, refuse_when_, isSome}
-use Rattle.rules.specs.Sizes.{base}
+use Rattle.rules.specs.Sizes.{base, BINDINGS, SCOPES}
 use Rattle.rules.specs.Scopes as rule
 use Rattle.scopes.specs.View.{view, index, binding, bindingsOf, toldOnly, defined}
 use Rattle.scopes.specs.Sound.{Sound, Sized}
@@ -43,14 +43,14 @@ withBindings s bindings count =
       size = s .size;
     }
 
-pub sized-with : (s : Scopes) → Sized s → (bindings : List ℕ) (count : ℕ) → length bindings ≡ 256 → Sized (withBindings s bindings count)
+pub sized-with : (s : Scopes) → Sized s → (bindings : List ℕ) (count : ℕ) → length bindings ≡ BINDINGS → Sized (withBindings s bindings count)
 sized-with s z bindings count l = record { halves = z .halves; links = z .links; owner = z .owner; live = z .live; dangled = z .dangled; parent = z .parent; number = z .number; bindings = l }
 
 abbrev pub Rebound : Scopes → ℕ → List ℕ → ℕ → Type 0
 Rebound s b bindings count = bindingsOf bindings count ≡ rule.rebound (binding b) (bindingsOf (s .bindings) (s .count))
 
 -- a binding of a live scope takes its place among the others
-pub rebound-sound : (s : Scopes) → Sound s → (b : ℕ) → getD (s .live) (binding b .scope) false ≡ true → (bindings : List ℕ) (count : ℕ) → count ≤ 256 → Rebound s b bindings count → ((j : ℕ) → count ≤ j → getD bindings j 0 ≡ 0)
+pub rebound-sound : (s : Scopes) → Sound s → (b : ℕ) → getD (s .live) (binding b .scope) false ≡ true → (bindings : List ℕ) (count : ℕ) → count ≤ BINDINGS → Rebound s b bindings count → ((j : ℕ) → count ≤ j → getD bindings j 0 ≡ 0)
     → Sound (withBindings s bindings count)
 rebound-sound s h b l bindings count most q clear =
     record {
@@ -74,7 +74,7 @@ module _ (s : Scopes) (name address handle : ℕ) where
   abbrev Told : Scopes → Type 0
   Told t = record { next = view t; says = Done } ≡ toldOnly (view s) (defined name address handle (view s))
 
-  pub define-no-top : s .top ≡ 64 → record { next = view s; says = Refused 3 } ≡ toldOnly (view s) (defined name address handle (view s))
+  pub define-no-top : s .top ≡ SCOPES → record { next = view s; says = Refused 3 } ≡ toldOnly (view s) (defined name address handle (view s))
   unfolding _>>=_ refuse_unless_
   define-no-top e = rw (no-top s e)
 
@@ -93,7 +93,7 @@ module _ (s : Scopes) (name address handle : ℕ) where
     alive = subst (λ (x : ℕ). getD (s .live) x false ≡ true) (sym for-scope) (t .live)
 
     abbrev noRoom : Bool
-    noRoom = leb 256 (length (bindingsOf (s .bindings) (s .count))) && not (isSome (rule.boundIn (s .top) name (bindingsOf (s .bindings) (s .count))))
+    noRoom = leb BINDINGS (length (bindingsOf (s .bindings) (s .count))) && not (isSome (rule.boundIn (s .top) name (bindingsOf (s .bindings) (s .count))))
 
     told : (bindings : List ℕ) (count : ℕ) → noRoom ≡ false → Rebound s b bindings count → Told (withBindings s bindings count)
     unfolding rule.bindIn base _>>=_ refuse_unless_ refuse_when_
@@ -104,7 +104,7 @@ module _ (s : Scopes) (name address handle : ℕ) where
           says = Done;
         })
 
-    pub define-there : r < 256 → Told (withBindings s (set (s .bindings) r b) (s .count)) × Whole (withBindings s (set (s .bindings) r b) (s .count))
+    pub define-there : r < BINDINGS → Told (withBindings s (set (s .bindings) r b) (s .count)) × Whole (withBindings s (set (s .bindings) r b) (s .count))
     define-there l =
         let f = p .there l in
         let q = f .replaced b for-scope for-name in (
@@ -115,15 +115,15 @@ module _ (s : Scopes) (name address handle : ℕ) where
           },
         )
 
-    at-end : 256 ≤ r → s .count < 256 → Rebound s b (set (s .bindings) (s .count) b) (s .count + 1)
+    at-end : BINDINGS ≤ r → s .count < BINDINGS → Rebound s b (set (s .bindings) (s .count) b) (s .count + 1)
     at-end l c =
         rw add-one
         (ap (map binding) (take-suc-set (s .bindings) (s .count) b (omega (arith, z .bindings))) ∙ map-append binding (take (s .count) (s .bindings)) (b ∷ []) ∙ sym (p .missing l .appended b for-scope for-name))
 
-    pub define-new : 256 ≤ r → s .count ≢ 256 → Told (withBindings s (set (s .bindings) (s .count) b) (s .count + 1)) × Whole (withBindings s (set (s .bindings) (s .count) b) (s .count + 1))
+    pub define-new : BINDINGS ≤ r → s .count ≢ BINDINGS → Told (withBindings s (set (s .bindings) (s .count) b) (s .count + 1)) × Whole (withBindings s (set (s .bindings) (s .count) b) (s .count + 1))
     define-new l n =
-        let c : s .count < 256 = omega (arith, h .named .most) in (
-          told (set (s .bindings) (s .count) b) (s .count + 1) (rw (len, lt-leb 256 (s .count) c)) (at-end l c),
+        let c : s .count < BINDINGS = omega (arith, h .named .most) in (
+          told (set (s .bindings) (s .count) b) (s .count + 1) (rw (len, lt-leb BINDINGS (s .count) c)) (at-end l c),
           record {
             sound = rebound-sound s h b alive (set (s .bindings) (s .count) b) (s .count + 1) (omega arith) (at-end l c)
                 (λ j a. getD-set-other (s .bindings) (s .count) j b 0 (omega arith) ∙ h .named .clear j (omega arith));
@@ -131,8 +131,8 @@ module _ (s : Scopes) (name address handle : ℕ) where
           },
         )
 
-    pub define-full : 256 ≤ r → s .count ≡ 256 → record { next = view s; says = Refused 9 } ≡ toldOnly (view s) (defined name address handle (view s))
+    pub define-full : BINDINGS ≤ r → s .count ≡ BINDINGS → record { next = view s; says = Refused 9 } ≡ toldOnly (view s) (defined name address handle (view s))
     unfolding rule.bindIn base _>>=_ refuse_unless_ refuse_when_
     define-full l e =
-        let q : leb 256 (length (bindingsOf (s .bindings) (s .count))) ≡ true = le-leb 256 (length (bindingsOf (s .bindings) (s .count))) (omega (arith, len)) in
+        let q : leb BINDINGS (length (bindingsOf (s .bindings) (s .count))) ≡ true = le-leb BINDINGS (length (bindingsOf (s .bindings) (s .count))) (omega (arith, len)) in
         rw (t .is, q, p .missing l .is)

@@ -9,6 +9,7 @@ use native.Mathlib.Omega.{arith}
 use lib.ListN.{length, getD, set, take, length-set}
 use lib.Seq.{getD-set-other, take-suc-set, append-snoc}
 use borrow.Author.Tests.{ne-eqb}
+use Rattle.rules.specs.Sizes.{LINKS, LISTS, SCOPES, SLOTS}
 use Rattle.rules.specs.Notation.{put}
 use Rattle.rules.specs.AddressSets.{without}
 use Rattle.rules.specs.Scopes as rule
@@ -31,7 +32,7 @@ lighter t a links =
     record {
       halves = t .halves;
       links = links;
-      owner = set (t .owner) a 65;
+      owner = set (t .owner) a LISTS;
       live = t .live;
       dangled = t .dangled;
       parent = t .parent;
@@ -47,32 +48,32 @@ lighter t a links =
 
 -- the loop: n addresses have gone from t₀ into `out`, and a is next
 pub record Draining (t₀ : Scopes) (out₀ : List ℕ) (t : Scopes) (a n : ℕ) (out : List ℕ) : Type 0 where
-  pub at : Ahead (nextIn (t .links)) a (held (t .links) 64) 1088
+  pub at : Ahead (nextIn (t .links)) a (held (t .links) SCOPES) (SLOTS + SCOPES)
   pub sound : Sound t
   pub sized : Sized t
   pub rest : rule.drainDangling (view t) .1 ≡ rule.drainDangling (view t₀) .1
   pub done : view t₀ .dangling ≡ take n out ++ view t .dangling
-  pub room : n + length (view t .dangling) ≤ 1024
-  pub long : length out ≡ 1024
+  pub room : n + length (view t .dangling) ≤ SLOTS
+  pub long : length out ≡ SLOTS
   pub kept : (k : ℕ) → n ≤ k → getD out k 0 ≡ getD out₀ k 0
 
-pub draining-none : (t : Scopes) (out : List ℕ) (a : ℕ) → Ahead (nextIn (t .links)) a (held (t .links) 64) 1088 → Sound t → Sized t → length out ≡ 1024 → Draining t out t a 0 out
+pub draining-none : (t : Scopes) (out : List ℕ) (a : ℕ) → Ahead (nextIn (t .links)) a (held (t .links) SCOPES) (SLOTS + SCOPES) → Sound t → Sized t → length out ≡ SLOTS → Draining t out t a 0 out
 draining-none t out a e h z l =
-    record { at = e; sound = h; sized = z; rest = refl; done = refl; room = omega (arith, walk 1024 65 (t .links) (held (t .links)) (h .ringed .rings) 64 (omega arith) .1); long = l; kept = λ k _. refl }
+    record { at = e; sound = h; sized = z; rest = refl; done = refl; room = omega (arith, walk SLOTS LISTS (t .links) (held (t .links)) (h .ringed .rings) SCOPES (omega arith) .1); long = l; kept = λ k _. refl }
 
-module _ (t₀ : Scopes) (out₀ : List ℕ) (t : Scopes) (a n : ℕ) (out : List ℕ) (g : Draining t₀ out₀ t a n out) (u : Turn t 64 a) where
-  pub on : On 65 (held (t .links)) a
-  on = told-on 1024 65 (owners (t .owner)) (held (t .links)) (g .sound .ringed .tells) a (u .small) (omega (arith, u .owner))
+module _ (t₀ : Scopes) (out₀ : List ℕ) (t : Scopes) (a n : ℕ) (out : List ℕ) (g : Draining t₀ out₀ t a n out) (u : Turn t SCOPES a) where
+  pub on : On LISTS (held (t .links)) a
+  on = told-on SLOTS LISTS (owners (t .owner)) (held (t .links)) (g .sound .ringed .tells) a (u .small) (omega (arith, u .owner))
 
-  pub has-room : n < 1024
+  pub has-room : n < SLOTS
   has-room = let e : length (view t .dangling) ≡ suc (length (u .zs)) = ap length (u .is) in omega (arith, g .room)
 
-  module _ (links : List ℕ) (ll : length links ≡ 2178) (c : Held 1024 65 links (leaves a (held (t .links)))) where
-    now : (j : ℕ) → j < 65 → held links j ≡ without a (held (t .links) j)
-    now j hj = chains-lists 1024 65 links (leaves a (held (t .links))) c j hj
+  module _ (links : List ℕ) (ll : length links ≡ LINKS) (c : Held SLOTS LISTS links (leaves a (held (t .links)))) where
+    now : (j : ℕ) → j < LISTS → held links j ≡ without a (held (t .links) j)
+    now j hj = chains-lists SLOTS LISTS links (leaves a (held (t .links))) c j hj
 
-    now-64 : held links 64 ≡ u .zs
-    now-64 = now 64 (omega arith) ∙ u .rest
+    now-64 : held links SCOPES ≡ u .zs
+    now-64 = now SCOPES (omega arith) ∙ u .rest
 
     slot : occ (t .halves) ≡ put (occ (t .halves)) a false
     slot = sym (put-nothing (occ (t .halves)) a false (g .sound .owned .taken a (u .small) ∙ rw (u .owner)))
@@ -81,9 +82,9 @@ module _ (t₀ : Scopes) (out₀ : List ℕ) (t : Scopes) (a n : ℕ) (out : Lis
     sound =
         record {
           slotted = g .sound .slotted;
-          ringed = ringed (t .links) (t .owner) links (leaves a (held (t .links))) a 65 (g .sound .ringed) (u .small) (g .sized .owner) (omega arith) c
-              (leaves-tells 1024 65 (owners (t .owner)) (held (t .links)) (g .sound .ringed .tells) a (u .small) 65 (omega arith));
-          owned = owned (t .halves) (t .owner) (t .live) (t .size) (t .halves) a 65 false (t .size) (g .sound .owned) (u .small) (g .sized .owner) slot refl (λ z. absurd (omega arith)) (λ z. absurd (omega arith)) (omega arith) (g .sound .owned .most);
+          ringed = ringed (t .links) (t .owner) links (leaves a (held (t .links))) a LISTS (g .sound .ringed) (u .small) (g .sized .owner) (omega arith) c
+              (leaves-tells SLOTS LISTS (owners (t .owner)) (held (t .links)) (g .sound .ringed .tells) a (u .small) LISTS (omega arith));
+          owned = owned (t .halves) (t .owner) (t .live) (t .size) (t .halves) a LISTS false (t .size) (g .sound .owned) (u .small) (g .sized .owner) slot refl (λ z. absurd (omega arith)) (λ z. absurd (omega arith)) (omega arith) (g .sound .owned .most);
           rooted = g .sound .rooted;
           named = g .sound .named;
         }
@@ -95,7 +96,7 @@ module _ (t₀ : Scopes) (out₀ : List ℕ) (t : Scopes) (a n : ℕ) (out : Lis
           slots = view t .slots;
           live = λ j.
               scopes-other (t .live) (t .dangled) (t .parent) (t .number) (held (t .links)) (held links) j
-              (λ lj. let hj : j < 64 = in-range t (g .sized .live) j lj in
+              (λ lj. let hj : j < SCOPES = in-range t (g .sized .live) j lj in
               now j (omega arith) ∙ without-none a (held (t .links) j) (g .sound .ringed .tells a j (u .small) (omega arith) ∙ ne-eqb (getD (t .owner) a 0) j (omega (arith, u .owner)))) v;
           top = index (t .top);
           counter = t .counter;
@@ -104,15 +105,15 @@ module _ (t₀ : Scopes) (out₀ : List ℕ) (t : Scopes) (a n : ℕ) (out : Lis
           size = t .size;
         }
 
-    pub draining-rings : Held 1024 65 links (held links)
+    pub draining-rings : Held SLOTS LISTS links (held links)
     draining-rings = sound .ringed .rings
 
-    pub draining-on : (b : ℕ) → Ahead (nextIn links) b (held links 64) 1088 → Draining t₀ out₀ (lighter t a links) b (n + 1) (set out n a)
+    pub draining-on : (b : ℕ) → Ahead (nextIn links) b (held links SCOPES) (SLOTS + SCOPES) → Draining t₀ out₀ (lighter t a links) b (n + 1) (set out n a)
     draining-on b at =
         record {
           at = at;
           sound = sound;
-          sized = record { halves = g .sized .halves; links = ll; owner = length-set (t .owner) a 65 ∙ g .sized .owner; live = g .sized .live; dangled = g .sized .dangled; parent = g .sized .parent; number = g .sized .number; bindings = g .sized .bindings };
+          sized = record { halves = g .sized .halves; links = ll; owner = length-set (t .owner) a LISTS ∙ g .sized .owner; live = g .sized .live; dangled = g .sized .dangled; parent = g .sized .parent; number = g .sized .number; bindings = g .sized .bindings };
           rest = rest ∙ g .rest;
           done = rw (add-one n, take-suc-set out n a (omega (arith, g .long, has-room)), append-snoc, now-64) (g .done ∙ ap (λ (l : List ℕ). take n out ++ l) (u .is));
           room = rw now-64 (let e : length (view t .dangling) ≡ suc (length (u .zs)) = ap length (u .is) in omega (arith, g .room));
@@ -120,10 +121,10 @@ module _ (t₀ : Scopes) (out₀ : List ℕ) (t : Scopes) (a n : ℕ) (out : Lis
           kept = λ k l. getD-set-other out n k a 0 (omega arith) ∙ g .kept k (omega arith);
         }
 
-    pub draining-less : length (held links 64) < length (held (t .links) 64)
+    pub draining-less : length (held links SCOPES) < length (held (t .links) SCOPES)
     draining-less = rw (now-64, u .is) (omega arith)
 
-pub drained : (t₀ : Scopes) (out₀ : List ℕ) (t : Scopes) (a n : ℕ) (out : List ℕ) → Draining t₀ out₀ t a n out → held (t .links) 64 ≡ []
+pub drained : (t₀ : Scopes) (out₀ : List ℕ) (t : Scopes) (a n : ℕ) (out : List ℕ) → Draining t₀ out₀ t a n out → held (t .links) SCOPES ≡ []
     → (view t ≡ rule.drainDangling (view t₀) .1) × (take n out ≡ rule.drainDangling (view t₀) .0)
 unfolding rule.drainDangling
 drained t₀ out₀ t a n out g e = (

@@ -9,6 +9,7 @@ use native.Mathlib.Decide.{decLt}
 use native.Mathlib.Omega.{arith}
 use lib.ListN.{length, getD, set, length-set}
 use borrow.Author.Tests.{lt-ltb, le-ltb, ne-eqb, eq-eqb}
+use Rattle.rules.specs.Sizes.{HALVES, LINKS, LISTS, SCOPES, SLOTS}
 use Rattle.rules.specs.Notation.{_>>=_, refuse_unless_, refuse_when_, put}
 use Rattle.rules.specs.AddressSets.{member, added, without}
 use Rattle.rules.specs.Slots.{remove}
@@ -49,16 +50,16 @@ released s a o halves links =
       size = s .size;
     }
 
-pub released-sized : (s : Scopes) → Sized s → (a o : ℕ) (halves links : List ℕ) → length halves ≡ 16 → length links ≡ 2178 → Sized (released s a o halves links)
+pub released-sized : (s : Scopes) → Sized s → (a o : ℕ) (halves links : List ℕ) → length halves ≡ HALVES → length links ≡ LINKS → Sized (released s a o halves links)
 released-sized s z a o halves links lh ll =
     record { halves = lh; links = ll; owner = length-set (s .owner) a o ∙ z .owner; live = z .live; dangled = z .dangled; parent = z .parent; number = z .number; bindings = z .bindings }
 
 -- a number that is no address is on no list
-pub far : (links owner : List ℕ) (a i : ℕ) → Ringed links owner → 1024 ≤ a → i < 65 → member a (held links i) ≡ false
+pub far : (links owner : List ℕ) (a i : ℕ) → Ringed links owner → SLOTS ≤ a → i < LISTS → member a (held links i) ≡ false
 far links owner a i h l hi = no-member a (held links i) (λ m. omega (arith, h .rings .ring i hi .addr a m))
 
 module _ (s : Scopes) (dangles : Bool) (a : ℕ) where
-  pub free-no-top : s .top ≡ 64 → record { next = view s; says = Refused 12 } ≡ toldOnly (view s) (giveBack dangles a (view s))
+  pub free-no-top : s .top ≡ SCOPES → record { next = view s; says = Refused 12 } ≡ toldOnly (view s) (giveBack dangles a (view s))
   unfolding giveBack _>>=_ refuse_unless_
   free-no-top e = rw (no-top s e)
 
@@ -67,23 +68,23 @@ module _ (s : Scopes) (dangles : Bool) (a : ℕ) where
   free-not-owned t e = rw (t .is, e)
 
 -- the slot a of scope k, which is a live one
-module _ (s : Scopes) (h : Sound s) (z : Sized s) (a k : ℕ) (ha : a < 1024) (hk : k < 64) (ek : getD (s .owner) a 0 ≡ k) where
+module _ (s : Scopes) (h : Sound s) (z : Sized s) (a k : ℕ) (ha : a < SLOTS) (hk : k < SCOPES) (ek : getD (s .owner) a 0 ≡ k) where
   pub lives : getD (s .live) k false ≡ true
   lives = subst (λ (x : ℕ). getD (s .live) x false ≡ true) ek (h .owned .alive a ha (omega arith))
 
   full : occ (s .halves) a ≡ true
-  full = h .owned .taken a ha ∙ rw ek (lt-ltb k 64 hk)
+  full = h .owned .taken a ha ∙ rw ek (lt-ltb k SCOPES hk)
 
   inside : a < 128 * s .segments
   inside = by-cases (decLt a (128 * s .segments)) (λ l. l) (λ n. clash full (h .slotted .none a (omega arith) ha))
 
-  pub on : On 65 (held (s .links)) a
-  on = told-on 1024 65 (owners (s .owner)) (held (s .links)) (h .ringed .tells) a ha (omega arith)
+  pub on : On LISTS (held (s .links)) a
+  on = told-on SLOTS LISTS (owners (s .owner)) (held (s .links)) (h .ringed .tells) a ha (omega arith)
 
   pub owns : member a (held (s .links) k) ≡ true
   owns = h .ringed .tells a k ha (omega arith) ∙ eq-eqb (getD (s .owner) a 0) k ek
 
-  unowned : (j : ℕ) → j < 65 → j ≢ k → without a (held (s .links) j) ≡ held (s .links) j
+  unowned : (j : ℕ) → j < LISTS → j ≢ k → without a (held (s .links) j) ≡ held (s .links) j
   unowned j hj n = without-none a (held (s .links) j) (h .ringed .tells a j ha hj ∙ ne-eqb (getD (s .owner) a 0) j (λ e. n (sym e ∙ ek)))
 
   module _ (halves : List ℕ) (slot : occ halves ≡ put (occ (s .halves)) a false) where
@@ -102,34 +103,34 @@ module _ (s : Scopes) (h : Sound s) (z : Sized s) (a k : ℕ) (ha : a < 1024) (h
         }
 
     -- the lists ys that are held then differ from the old ones at k, where a is gone, and at 64
-    module _ (links : List ℕ) (o : ℕ) (lo : 64 ≤ o) (ho : o ≤ 65) (ys : ℕ → List ℕ) (c : Held 1024 65 links ys) (t : Tells 1024 65 (put (owners (s .owner)) a o) ys)
-        (here : ys k ≡ without a (held (s .links) k)) (other : (j : ℕ) → j < 64 → j ≢ k → ys j ≡ held (s .links) j) where
-      pub now : (j : ℕ) → j < 65 → held links j ≡ ys j
-      now j hj = chains-lists 1024 65 links ys c j hj
+    module _ (links : List ℕ) (o : ℕ) (lo : SCOPES ≤ o) (ho : o ≤ LISTS) (ys : ℕ → List ℕ) (c : Held SLOTS LISTS links ys) (t : Tells SLOTS LISTS (put (owners (s .owner)) a o) ys)
+        (here : ys k ≡ without a (held (s .links) k)) (other : (j : ℕ) → j < SCOPES → j ≢ k → ys j ≡ held (s .links) j) where
+      pub now : (j : ℕ) → j < LISTS → held links j ≡ ys j
+      now j hj = chains-lists SLOTS LISTS links ys c j hj
 
       pub live-is : view (released s a o halves links) .live ≡ put (view s .live) k (some (rule.owned≔ (without a (held (s .links) k)) (scopeOf s k)))
       live-is =
           scopes-put (s .live) (s .dangled) (s .parent) (s .number) (held (s .links)) (held links) k (without a (held (s .links) k)) lives (now k (omega arith) ∙ here)
-          (λ j lj n. let hj : j < 64 = in-range s (z .live) j lj in now j (omega arith) ∙ other j hj n)
+          (λ j lj n. let hj : j < SCOPES = in-range s (z .live) j lj in now j (omega arith) ∙ other j hj n)
 
       pub sound : Sound (released s a o halves links)
       sound =
           record {
             slotted = slotted;
             ringed = ringed (s .links) (s .owner) links ys a o (h .ringed) ha (z .owner) ho c t;
-            owned = owned (s .halves) (s .owner) (s .live) (s .size) halves a o false (s .size) (h .owned) ha (z .owner) slot (sym (le-ltb o 64 lo)) (λ q. absurd (omega arith)) (λ q. absurd (omega arith)) (omega arith) (h .owned .most);
+            owned = owned (s .halves) (s .owner) (s .live) (s .size) halves a o false (s .size) (h .owned) ha (z .owner) slot (sym (le-ltb o SCOPES lo)) (λ q. absurd (omega arith)) (λ q. absurd (omega arith)) (omega arith) (h .owned .most);
             rooted = h .rooted;
             named = h .named;
           }
 
       -- where k is the top
-      rule-is : (dangles : Bool) → s .top ≡ k → Topped s → ys 64 ≡ elim dangles [ true ↦ added a (held (s .links) 64) | false ↦ held (s .links) 64 ]
+      rule-is : (dangles : Bool) → s .top ≡ k → Topped s → ys SCOPES ≡ elim dangles [ true ↦ added a (held (s .links) SCOPES) | false ↦ held (s .links) SCOPES ]
           → record { next = view (released s a o halves links); says = Done } ≡ toldOnly (view s) (giveBack dangles a (view s))
       unfolding giveBack rule.setScope _>>=_ refuse_unless_ refuse_when_
       rule-is dangles et top e64 =
           let l : view (released s a o halves links) .live ≡ put (view s .live) (s .top) (some (rule.owned≔ (without a (held (s .links) (s .top))) (scopeOf s (s .top)))) =
           subst (λ (x : ℕ). view (released s a o halves links) .live ≡ put (view s .live) x (some (rule.owned≔ (without a (held (s .links) x)) (scopeOf s x)))) (sym et) live-is in
-          let d : held links 64 ≡ elim dangles [ true ↦ added a (held (s .links) 64) | false ↦ held (s .links) 64 ] = now 64 (omega arith) ∙ e64 in
+          let d : held links SCOPES ≡ elim dangles [ true ↦ added a (held (s .links) SCOPES) | false ↦ held (s .links) SCOPES ] = now SCOPES (omega arith) ∙ e64 in
           let r : remove a (view s .slots) ≡ slotsOf halves (s .segments) (a / 128) = removed in
           let m : member a (held (s .links) (s .top)) ≡ true = ap (λ (x : ℕ). member a (held (s .links) x)) et ∙ owns in
           rw (top .is, m) (λ u. record {
@@ -139,45 +140,45 @@ module _ (s : Scopes) (h : Sound s) (z : Sized s) (a k : ℕ) (ha : a < 1024) (h
 
     -- ---- to the dangling list
 
-    module _ (links : List ℕ) (c : Held 1024 65 links (gains 64 a (leaves a (held (s .links))))) where
-      told-there : Tells 1024 65 (put (owners (s .owner)) a 64) (gains 64 a (leaves a (held (s .links))))
-      told-there = places-tells 1024 65 (owners (s .owner)) (held (s .links)) (h .ringed .tells) a ha 64 (omega arith)
+    module _ (links : List ℕ) (c : Held SLOTS LISTS links (gains SCOPES a (leaves a (held (s .links))))) where
+      told-there : Tells SLOTS LISTS (put (owners (s .owner)) a SCOPES) (gains SCOPES a (leaves a (held (s .links))))
+      told-there = places-tells SLOTS LISTS (owners (s .owner)) (held (s .links)) (h .ringed .tells) a ha SCOPES (omega arith)
 
-      pub back-k : gains 64 a (leaves a (held (s .links))) k ≡ without a (held (s .links) k)
-      back-k = put-other (leaves a (held (s .links))) 64 _ k (omega arith)
+      pub back-k : gains SCOPES a (leaves a (held (s .links))) k ≡ without a (held (s .links) k)
+      back-k = put-other (leaves a (held (s .links))) SCOPES _ k (omega arith)
 
-      pub back-64 : gains 64 a (leaves a (held (s .links))) 64 ≡ added a (held (s .links) 64)
-      back-64 = put-same (leaves a (held (s .links))) 64 _ ∙ ap (added a) (unowned 64 (omega arith) (omega arith))
+      pub back-64 : gains SCOPES a (leaves a (held (s .links))) SCOPES ≡ added a (held (s .links) SCOPES)
+      back-64 = put-same (leaves a (held (s .links))) SCOPES _ ∙ ap (added a) (unowned SCOPES (omega arith) (omega arith))
 
-      pub back-other : (j : ℕ) → j < 64 → j ≢ k → gains 64 a (leaves a (held (s .links))) j ≡ held (s .links) j
-      back-other j hj n = put-other (leaves a (held (s .links))) 64 _ j (omega arith) ∙ unowned j (omega arith) n
+      pub back-other : (j : ℕ) → j < SCOPES → j ≢ k → gains SCOPES a (leaves a (held (s .links))) j ≡ held (s .links) j
+      back-other j hj n = put-other (leaves a (held (s .links))) SCOPES _ j (omega arith) ∙ unowned j (omega arith) n
 
-      pub back-sound : Sound (released s a 64 halves links)
-      back-sound = sound links 64 (omega arith) (omega arith) _ c told-there back-k back-other
+      pub back-sound : Sound (released s a SCOPES halves links)
+      back-sound = sound links SCOPES (omega arith) (omega arith) _ c told-there back-k back-other
 
-      pub back-live : view (released s a 64 halves links) .live ≡ put (view s .live) k (some (rule.owned≔ (without a (held (s .links) k)) (scopeOf s k)))
-      back-live = live-is links 64 (omega arith) (omega arith) _ c told-there back-k back-other
+      pub back-live : view (released s a SCOPES halves links) .live ≡ put (view s .live) k (some (rule.owned≔ (without a (held (s .links) k)) (scopeOf s k)))
+      back-live = live-is links SCOPES (omega arith) (omega arith) _ c told-there back-k back-other
 
-      pub back-lists : (held links k ≡ without a (held (s .links) k)) × (held links 64 ≡ added a (held (s .links) 64))
+      pub back-lists : (held links k ≡ without a (held (s .links) k)) × (held links SCOPES ≡ added a (held (s .links) SCOPES))
       back-lists = (
-        now links 64 (omega arith) (omega arith) _ c told-there back-k back-other k (omega arith) ∙ back-k,
-        now links 64 (omega arith) (omega arith) _ c told-there back-k back-other 64 (omega arith) ∙ back-64,
+        now links SCOPES (omega arith) (omega arith) _ c told-there back-k back-other k (omega arith) ∙ back-k,
+        now links SCOPES (omega arith) (omega arith) _ c told-there back-k back-other SCOPES (omega arith) ∙ back-64,
       )
 
-      pub gives-back : length halves ≡ 16 → length links ≡ 2178 → (dangles : Bool) → dangles ≡ true → s .top ≡ k → Topped s
-          → (record { next = view (released s a 64 halves links); says = Done } ≡ toldOnly (view s) (giveBack dangles a (view s))) × Whole (released s a 64 halves links)
+      pub gives-back : length halves ≡ HALVES → length links ≡ LINKS → (dangles : Bool) → dangles ≡ true → s .top ≡ k → Topped s
+          → (record { next = view (released s a SCOPES halves links); says = Done } ≡ toldOnly (view s) (giveBack dangles a (view s))) × Whole (released s a SCOPES halves links)
       gives-back lh ll dangles e et top = (
-        rule-is links 64 (omega arith) (omega arith) _ c told-there back-k back-other dangles et top (back-64 ∙ rw e),
-        record { sound = back-sound; sized = released-sized s z a 64 halves links lh ll },
+        rule-is links SCOPES (omega arith) (omega arith) _ c told-there back-k back-other dangles et top (back-64 ∙ rw e),
+        record { sound = back-sound; sized = released-sized s z a SCOPES halves links lh ll },
       )
 
     -- ---- to none
 
-    pub gives-quietly : (links : List ℕ) → Held 1024 65 links (leaves a (held (s .links))) → length halves ≡ 16 → length links ≡ 2178 → (dangles : Bool) → dangles ≡ false → s .top ≡ k → Topped s
-        → (record { next = view (released s a 65 halves links); says = Done } ≡ toldOnly (view s) (giveBack dangles a (view s))) × Whole (released s a 65 halves links)
+    pub gives-quietly : (links : List ℕ) → Held SLOTS LISTS links (leaves a (held (s .links))) → length halves ≡ HALVES → length links ≡ LINKS → (dangles : Bool) → dangles ≡ false → s .top ≡ k → Topped s
+        → (record { next = view (released s a LISTS halves links); says = Done } ≡ toldOnly (view s) (giveBack dangles a (view s))) × Whole (released s a LISTS halves links)
     gives-quietly links c lh ll dangles e et top =
-        let t = leaves-tells 1024 65 (owners (s .owner)) (held (s .links)) (h .ringed .tells) a ha 65 (omega arith) in
-        let other : (j : ℕ) → j < 64 → j ≢ k → leaves a (held (s .links)) j ≡ held (s .links) j = λ j hj n. unowned j (omega arith) n in (
-          rule-is links 65 (omega arith) (omega arith) _ c t refl other dangles et top (unowned 64 (omega arith) (omega arith) ∙ rw e),
-          record { sound = sound links 65 (omega arith) (omega arith) _ c t refl other; sized = released-sized s z a 65 halves links lh ll },
+        let t = leaves-tells SLOTS LISTS (owners (s .owner)) (held (s .links)) (h .ringed .tells) a ha LISTS (omega arith) in
+        let other : (j : ℕ) → j < SCOPES → j ≢ k → leaves a (held (s .links)) j ≡ held (s .links) j = λ j hj n. unowned j (omega arith) n in (
+          rule-is links LISTS (omega arith) (omega arith) _ c t refl other dangles et top (unowned SCOPES (omega arith) (omega arith) ∙ rw e),
+          record { sound = sound links LISTS (omega arith) (omega arith) _ c t refl other; sized = released-sized s z a LISTS halves links lh ll },
         )

@@ -9,7 +9,7 @@ use native.Mathlib.Omega.{arith}
 use lib.ListN.{getD, set, length-set}
 use borrow.Author.Tests.{lt-ltb, le-ltb, eq-eqb, ne-eqb}
 use Rattle.rules.specs.Notation.{Answer, given, refused, _>>=_, refuse_unless_, refuse_when_}
-use Rattle.rules.specs.Sizes.{base}
+use Rattle.rules.specs.Sizes.{base, BINDINGS, SCOPES}
 use Rattle.rules.specs.Scopes as rule
 use Rattle.scopes.specs.View.{held, view, index, onlyIf, scopeAt, scopesFrom, binding, bindingsOf, bound, told}
 use Rattle.scopes.specs.Sound.{Sound, Sized}
@@ -23,11 +23,11 @@ use Rattle.scopes.proofs.Finds.{no-top, Topped}
 use Rattle.scopes.proofs.Bindings.{marked-moved, each-bound}
 use Rattle.scopes.proofs.Defines.{withBindings, sized-with, Rebound, rebound-sound, set-clear}
 
-spotted-some : (bindings : List ℕ) (r : ℕ) → r < 256 → spotted bindings r ≡ some (binding (getD bindings r 0))
-spotted-some bindings r l = rw (lt-ltb r 256 l, spotted)
+spotted-some : (bindings : List ℕ) (r : ℕ) → r < BINDINGS → spotted bindings r ≡ some (binding (getD bindings r 0))
+spotted-some bindings r l = rw (lt-ltb r BINDINGS l, spotted)
 
-spotted-none : (bindings : List ℕ) (r : ℕ) → 256 ≤ r → spotted bindings r ≡ none
-spotted-none bindings r l = rw (le-ltb r 256 l, spotted)
+spotted-none : (bindings : List ℕ) (r : ℕ) → BINDINGS ≤ r → spotted bindings r ≡ none
+spotted-none bindings r l = rw (le-ltb r BINDINGS l, spotted)
 
 -- ---- one scope, then its parent
 
@@ -36,63 +36,63 @@ module _ (live : List Bool) (parent bindings : List ℕ) (count name i : ℕ) wh
     scope-is : (b : Bool) → getD live i false ≡ b → c .live i ≡ onlyIf b (scopeAt dangled parent number owned i)
     scope-is b l = ap (λ (f : ℕ → Option rule.Scope). f i) e ∙ ap (λ (x : Bool). onlyIf x (scopeAt dangled parent number owned i)) l
 
-  no-spot : 256 < 256 → (k : ℕ) × There bindings count k name 256
+  no-spot : BINDINGS < BINDINGS → (k : ℕ) × There bindings count k name BINDINGS
   no-spot z = absurd (omega arith)
 
-  pub climb-zero : (left : ℕ) → left ≡ 0 → Climbs live parent bindings count name i left 256
+  pub climb-zero : (left : ℕ) → left ≡ 0 → Climbs live parent bindings count name i left BINDINGS
   unfolding rule.lookup
   climb-zero left q = record { is = λ c d n o e f. rw q; spot = no-spot }
 
-  pub climb-none : (left : ℕ) → 64 ≤ i → Climbs live parent bindings count name i left 256
+  pub climb-none : (left : ℕ) → SCOPES ≤ i → Climbs live parent bindings count name i left BINDINGS
   unfolding rule.lookup
   climb-none zero l = climb-zero zero refl
-  climb-none (suc k) l = record { is = λ c d n o e f. rw (le-ltb i 64 l, rule.lookup); spot = no-spot }
+  climb-none (suc k) l = record { is = λ c d n o e f. rw (le-ltb i SCOPES l, rule.lookup); spot = no-spot }
 
-  pub climb-dead : (left : ℕ) → i < 64 → getD live i false ≡ false → Climbs live parent bindings count name i left 256
+  pub climb-dead : (left : ℕ) → i < SCOPES → getD live i false ≡ false → Climbs live parent bindings count name i left BINDINGS
   unfolding rule.lookup
   climb-dead zero l a = climb-zero zero refl
-  climb-dead (suc k) l a = record { is = λ c d n o e f. rw (lt-ltb i 64 l, scope-is c d n o e false a, rule.lookup); spot = no-spot }
+  climb-dead (suc k) l a = record { is = λ c d n o e f. rw (lt-ltb i SCOPES l, scope-is c d n o e false a, rule.lookup); spot = no-spot }
 
-  pub climb-here : (left r : ℕ) → left ≢ 0 → i < 64 → getD live i false ≡ true → r < 256 → Spot bindings count i name r → Climbs live parent bindings count name i left r
+  pub climb-here : (left r : ℕ) → left ≢ 0 → i < SCOPES → getD live i false ≡ true → r < BINDINGS → Spot bindings count i name r → Climbs live parent bindings count name i left r
   unfolding rule.lookup
   climb-here zero r z l a h s = absurd (z refl)
   climb-here (suc k) r z l a h s =
       record {
-        is = λ c d n o e f. rw (lt-ltb i 64 l, scope-is c d n o e true a, ap (rule.boundIn i name) f ∙ s .there h .is, rule.lookup) (sym (spotted-some bindings r h));
+        is = λ c d n o e f. rw (lt-ltb i SCOPES l, scope-is c d n o e true a, ap (rule.boundIn i name) f ∙ s .there h .is, rule.lookup) (sym (spotted-some bindings r h));
         spot = λ _. (i, s .there h);
       }
 
-  pub climb-up : (left r p up : ℕ) → left ≢ 0 → i < 64 → getD live i false ≡ true → 256 ≤ p → Spot bindings count i name p → up ≡ getD parent i 0
+  pub climb-up : (left r p up : ℕ) → left ≢ 0 → i < SCOPES → getD live i false ≡ true → BINDINGS ≤ p → Spot bindings count i name p → up ≡ getD parent i 0
       → Climbs live parent bindings count name up (left - 1) r → Climbs live parent bindings count name i left r
   unfolding rule.lookup
   climb-up zero r p up z l a h s u g = absurd (z refl)
   climb-up (suc k) r p up z l a h s u g =
       let q : suc k - 1 ≡ k = omega arith in
       record {
-        is = λ c d n o e f. rw (lt-ltb i 64 l, scope-is c d n o e true a, ap (rule.boundIn i name) f ∙ s .missing h .is, rule.lookup) (rw (q, u) at (g .is c d n o e f));
+        is = λ c d n o e f. rw (lt-ltb i SCOPES l, scope-is c d n o e true a, ap (rule.boundIn i name) f ∙ s .missing h .is, rule.lookup) (rw (q, u) at (g .is c d n o e f));
         spot = g .spot;
       }
 
 -- ---- get
 
 module _ (s : Scopes) (name : ℕ) where
-  pub get-no-top : s .top ≡ 64 → rule.getName base name (view s) ≡ refused 3
+  pub get-no-top : s .top ≡ SCOPES → rule.getName base name (view s) ≡ refused 3
   unfolding rule.getName _>>=_ refuse_unless_
   get-no-top e = rw (no-top s e)
 
-  module _ (t : Topped s) (r : ℕ) (f : Climbs (s .live) (s .parent) (s .bindings) (s .count) name (s .top) 64 r) where
-    is : rule.lookup 64 (view s) name (index (s .top)) ≡ spotted (s .bindings) r
+  module _ (t : Topped s) (r : ℕ) (f : Climbs (s .live) (s .parent) (s .bindings) (s .count) name (s .top) SCOPES r) where
+    is : rule.lookup SCOPES (view s) name (index (s .top)) ≡ spotted (s .bindings) r
     is = f .is (view s) (s .dangled) (s .number) (held (s .links)) refl refl
 
-    pub get-missing : 256 ≤ r → rule.getName base name (view s) ≡ refused 10
+    pub get-missing : BINDINGS ≤ r → rule.getName base name (view s) ≡ refused 10
     unfolding rule.getName _>>=_ refuse_unless_ refuse_when_ base
     get-missing l = rw (t .is, is ∙ spotted-none (s .bindings) r l)
 
-    module _ (l : r < 256) where
+    module _ (l : r < BINDINGS) where
       abbrev b : ℕ
       b = getD (s .bindings) r 0
 
-      found : rule.lookup 64 (view s) name (index (s .top)) ≡ some (binding b)
+      found : rule.lookup SCOPES (view s) name (index (s .top)) ≡ some (binding b)
       found = is ∙ spotted-some (s .bindings) r l
 
       pub get-moved : b % 2 ≡ 1 → rule.getName base name (view s) ≡ refused 11

@@ -11,7 +11,7 @@ use lib.ListN.{length, getD, set, length-set}
 use lib.Seq.{getD-set-same, getD-set-other}
 use borrow.Author.Tests.{lt-ltb, ne-eqb}
 use Rattle.rules.specs.Notation.{_>>=_, refuse_unless_, refuse_when_, put}
-use Rattle.rules.specs.Sizes.{base}
+use Rattle.rules.specs.Sizes.{base, SCOPES}
 use Rattle.rules.specs.Scopes as rule
 use Rattle.rules.proofs.Tells.{clash}
 use Rattle.scopes.specs.View.{index, view, scopeOf, toldOnly}
@@ -48,7 +48,7 @@ leads-live (root l q) = l
 leads-live (up n l r) = l
 
 -- root is live where any scope is
-pub leads-root : {live : List Bool} {parent : List ℕ} {j : ℕ} → Leads live parent j → (getD live 0 false ≡ true) × (getD parent 0 0 ≡ 64)
+pub leads-root : {live : List Bool} {parent : List ℕ} {j : ℕ} → Leads live parent j → (getD live 0 false ≡ true) × (getD parent 0 0 ≡ SCOPES)
 leads-root (root l q) = (l, q)
 leads-root (up n l r) = leads-root r
 
@@ -60,14 +60,14 @@ parent-live s h i l nz = go i refl (h .rooted .leads i l)
     go j e (root _ _) = absurd (nz (sym e))
     go j e (up n _ r) = subst (λ (x : ℕ). getD (s .live) (getD (s .parent) x 0) false ≡ true) e (leads-live r)
 
-module _ (s : Scopes) (h : Sound s) (i : ℕ) (hi : i < 64) (li : getD (s .live) i false ≡ true) (ld : length (s .dangled) ≡ 64) (b : Bool) where
+module _ (s : Scopes) (h : Sound s) (i : ℕ) (hi : i < SCOPES) (li : getD (s .live) i false ≡ true) (ld : length (s .dangled) ≡ SCOPES) (b : Bool) where
   live-is : (top : ℕ) → view (marked s i b top) .live ≡ put (view s .live) i (some (rule.dangled≔ b (scopeOf s i)))
   live-is top =
       put-ext _ _ i _
       (rw (li, getD-set-same (s .dangled) i b false (omega arith)))
       (λ j n. rw (getD-set-other (s .dangled) i j b false n))
 
-  marked-sound : (top : ℕ) → top < 64 → getD (s .live) top false ≡ true → Sound (marked s i b top)
+  marked-sound : (top : ℕ) → top < SCOPES → getD (s .live) top false ≡ true → Sound (marked s i b top)
   marked-sound top ht lt =
       record {
         slotted = h .slotted;
@@ -118,7 +118,7 @@ module _ (s : Scopes) (o : Option rule.Found) where
       restore-unmarks d =
           let l = live-is s h i (k .small) (k .live) (z .dangled) false i in
           let y : (not (getD (s .dangled) i false) || eqb i 0) ≡ false = rw (d, ne-eqb i 0 nz) in
-          let x : index i ≡ some i = rw (lt-ltb i 64 (k .small), index) in (
+          let x : index i ≡ some i = rw (lt-ltb i SCOPES (k .small), index) in (
             rw (k .is, y) (λ u. record {
               next = record { slots = view s .slots; live = l u; top = x u; counter = s .counter; bindings = view s .bindings; dangling = view s .dangling; size = s .size };
               says = Done;

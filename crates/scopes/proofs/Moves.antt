@@ -10,6 +10,7 @@ use native.Mathlib.Omega.{arith}
 use lib.Dec.{eqb, ltb}
 use lib.ListN.{length, getD, set}
 use lib.Seq.{getD-set-same, getD-set-other}
+use Rattle.rules.specs.Sizes.{LISTS, SCOPES, SLOTS}
 use Rattle.rules.specs.Notation.{put}
 use Rattle.rules.specs.AddressSets.{member}
 use Rattle.rules.specs.Scopes as rule
@@ -29,22 +30,22 @@ owners owner a = getD owner a 0
 pub owners-put : (owner : List ℕ) (a o : ℕ) → a < length owner → owners (set owner a o) ≡ put (owners owner) a o
 owners-put owner a o h = put-ext (owners owner) (owners (set owner a o)) a o (getD-set-same owner a o 0 h) (λ j n. getD-set-other owner a j o 0 n)
 
-pub ringed : (links owner links′ : List ℕ) (ys : ℕ → List ℕ) (a o : ℕ) → Ringed links owner → a < 1024 → length owner ≡ 1024 → o ≤ 65
-    → Held 1024 65 links′ ys → Tells 1024 65 (put (owners owner) a o) ys → Ringed links′ (set owner a o)
+pub ringed : (links owner links′ : List ℕ) (ys : ℕ → List ℕ) (a o : ℕ) → Ringed links owner → a < SLOTS → length owner ≡ SLOTS → o ≤ LISTS
+    → Held SLOTS LISTS links′ ys → Tells SLOTS LISTS (put (owners owner) a o) ys → Ringed links′ (set owner a o)
 ringed links owner links′ ys a o h ha len ho c t =
     let e = owners-put owner a o (omega arith) in
     record {
-      rings = held-lists 1024 65 links′ ys c;
-      tells = subst (λ (f : ℕ → ℕ). Tells 1024 65 f (held links′)) (sym e) (lists-tell 1024 65 links′ _ ys c t);
+      rings = held-lists SLOTS LISTS links′ ys c;
+      tells = subst (λ (f : ℕ → ℕ). Tells SLOTS LISTS f (held links′)) (sym e) (lists-tell SLOTS LISTS links′ _ ys c t);
       most = λ b hb. most b hb (ℕ-discrete b a);
     }
   where
-    most : (b : ℕ) → b < 1024 → Dec (b ≡ a) → getD (set owner a o) b 0 ≤ 65
+    most : (b : ℕ) → b < SLOTS → Dec (b ≡ a) → getD (set owner a o) b 0 ≤ LISTS
     most b hb (yes q) = rw (q, getD-set-same owner a o 0 (omega arith)) ho
     most b hb (no n) = rw (getD-set-other owner a b o 0 n) (h .most b hb)
 
-pub owned : (hs owner : List ℕ) (live : List Bool) (size : ℕ) (hs′ : List ℕ) (a o : ℕ) (v : Bool) (size′ : ℕ) → Owned hs owner live size → a < 1024 → length owner ≡ 1024
-    → occ hs′ ≡ put (occ hs) a v → v ≡ ltb o 64 → (o < 64 → getD live o false ≡ true) → (o < 64 → a < size′) → size ≤ size′ → size′ ≤ 1024
+pub owned : (hs owner : List ℕ) (live : List Bool) (size : ℕ) (hs′ : List ℕ) (a o : ℕ) (v : Bool) (size′ : ℕ) → Owned hs owner live size → a < SLOTS → length owner ≡ SLOTS
+    → occ hs′ ≡ put (occ hs) a v → v ≡ ltb o SCOPES → (o < SCOPES → getD live o false ≡ true) → (o < SCOPES → a < size′) → size ≤ size′ → size′ ≤ SLOTS
     → Owned hs′ (set owner a o) live size′
 owned hs owner live size hs′ a o v size′ h ha len slot vo alive above grows most =
     record {
@@ -57,15 +58,15 @@ owned hs owner live size hs′ a o v size′ h ha len slot vo alive above grows 
     at : (b : ℕ) → occ hs′ b ≡ put (occ hs) a v b
     at b = ap (λ (f : ℕ → Bool). f b) slot
 
-    taken : (b : ℕ) → b < 1024 → Dec (b ≡ a) → occ hs′ b ≡ ltb (getD (set owner a o) b 0) 64
-    taken b hb (yes q) = at b ∙ ap (put (occ hs) a v) q ∙ put-same (occ hs) a v ∙ vo ∙ ap (λ (x : ℕ). ltb x 64) (sym (ap (λ (x : ℕ). getD (set owner a o) x 0) q ∙ getD-set-same owner a o 0 (omega arith)))
-    taken b hb (no n) = at b ∙ put-other (occ hs) a v b (λ e. n (sym e)) ∙ h .taken b hb ∙ ap (λ (x : ℕ). ltb x 64) (sym (getD-set-other owner a b o 0 n))
+    taken : (b : ℕ) → b < SLOTS → Dec (b ≡ a) → occ hs′ b ≡ ltb (getD (set owner a o) b 0) SCOPES
+    taken b hb (yes q) = at b ∙ ap (put (occ hs) a v) q ∙ put-same (occ hs) a v ∙ vo ∙ ap (λ (x : ℕ). ltb x SCOPES) (sym (ap (λ (x : ℕ). getD (set owner a o) x 0) q ∙ getD-set-same owner a o 0 (omega arith)))
+    taken b hb (no n) = at b ∙ put-other (occ hs) a v b (λ e. n (sym e)) ∙ h .taken b hb ∙ ap (λ (x : ℕ). ltb x SCOPES) (sym (getD-set-other owner a b o 0 n))
 
-    lives : (b : ℕ) → b < 1024 → Dec (b ≡ a) → getD (set owner a o) b 0 < 64 → getD live (getD (set owner a o) b 0) false ≡ true
+    lives : (b : ℕ) → b < SLOTS → Dec (b ≡ a) → getD (set owner a o) b 0 < SCOPES → getD live (getD (set owner a o) b 0) false ≡ true
     lives b hb (yes q) = rw (q, getD-set-same owner a o 0 (omega arith)) alive
     lives b hb (no n) = rw (getD-set-other owner a b o 0 n) (h .alive b hb)
 
-    up : (b : ℕ) → b < 1024 → Dec (b ≡ a) → getD (set owner a o) b 0 < 64 → b < size′
+    up : (b : ℕ) → b < SLOTS → Dec (b ≡ a) → getD (set owner a o) b 0 < SCOPES → b < size′
     up b hb (yes q) = rw (q, getD-set-same owner a o 0 (omega arith)) above
     up b hb (no n) = rw (getD-set-other owner a b o 0 n) (λ l. omega (arith, h .above b hb l))
 

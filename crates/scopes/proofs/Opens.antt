@@ -12,7 +12,7 @@ use lib.Seq.{getD-set-same, getD-set-other}
 use borrow.Author.Tests.{lt-ltb, ne-eqb, not-true}
 use Rattle.rules.specs.Notation.{_>>=_, refuse_unless_, isSome, put, first}
 use Rattle.rules.specs.AddressSets.{member}
-use Rattle.rules.specs.Sizes.{base}
+use Rattle.rules.specs.Sizes.{base, SCOPES, SLOTS, COUNTERS}
 use Rattle.rules.specs.Scopes as rule
 use Rattle.rules.proofs.Sets.{member-same}
 use Rattle.rules.proofs.Tells.{clash}
@@ -53,11 +53,11 @@ no-members [] h = refl
 no-members (x ∷ l) h = absurd (h x (member-same x l))
 
 -- a scope that is not live owns nothing
-pub owns-none : (s : Scopes) → Sound s → (i : ℕ) → i < 64 → getD (s .live) i false ≡ false → held (s .links) i ≡ []
+pub owns-none : (s : Scopes) → Sound s → (i : ℕ) → i < SCOPES → getD (s .live) i false ≡ false → held (s .links) i ≡ []
 owns-none s h i hi d =
     no-members (held (s .links) i)
     (λ a m.
-    let ha : a < 1024 = h .ringed .rings .ring i (omega arith) .addr a m in
+    let ha : a < SLOTS = h .ringed .rings .ring i (omega arith) .addr a m in
     clash m (h .ringed .tells a i ha (omega arith) ∙ ne-eqb (getD (s .owner) a 0) i (λ e. clash (h .owned .alive a ha (omega arith)) (rw e d))))
 
 free-is : (s : Scopes) → _≡_ {A = ℕ → Bool} (λ j. not (isSome (view s .live j))) (isFree (s .live))
@@ -82,7 +82,7 @@ module _ (live : List Bool) (parent : List ℕ) (i p : ℕ) (d : getD live i fal
       (subst (λ (x : ℕ). Leads (set live i true) (set parent i p) x) (sym (getD-set-other parent i j p 0 (differs j l))) (leads-on r))
 
 module _ (s : Scopes) where
-  pub child-no-top : s .top ≡ 64 → record { next = view s; says = Refused 3 } ≡ told opened (view s) (rule.openChild base (view s))
+  pub child-no-top : s .top ≡ SCOPES → record { next = view s; says = Refused 3 } ≡ told opened (view s) (rule.openChild base (view s))
   unfolding rule.openChild _>>=_ refuse_unless_
   child-no-top e = rw (no-top s e)
 
@@ -90,20 +90,20 @@ module _ (s : Scopes) where
     f : Low (isFree (s .live)) 1 (omega arith) i
     f = low (isFree (s .live)) 1 (omega arith) i ei
 
-    pub child-full : i ≡ 64 → record { next = view s; says = Refused 8 } ≡ told opened (view s) (rule.openChild base (view s))
+    pub child-full : i ≡ SCOPES → record { next = view s; says = Refused 8 } ≡ told opened (view s) (rule.openChild base (view s))
     unfolding rule.openChild _>>=_ refuse_unless_ base
     child-full e =
         let q : first (λ j. not (isSome (view s .live j))) 1 63 ≡ none = ap (λ (g : ℕ → Bool). first g 1 63) (free-is s) ∙ f .none (omega arith) in
         rw (t .is, q)
 
-    module _ (ne : i ≢ 64) where
-      pub below : i < 64
+    module _ (ne : i ≢ SCOPES) where
+      pub below : i < SCOPES
       below = omega (arith, f .most)
 
       dead : getD (s .live) i false ≡ false
       dead = not-true _ (f .at below)
 
-      module _ (n : ℕ) (en : n ≡ (s .counter + 1) % 4294967296) (z : Sized s) where
+      module _ (n : ℕ) (en : n ≡ (s .counter + 1) % COUNTERS) (z : Sized s) where
         new : view (withChild s i n) .live ≡ put (view s .live) i (some (rule.newScope (s .counter) (index (s .top))))
         new =
             put-ext _ _ i _
@@ -114,7 +114,7 @@ module _ (s : Scopes) where
         unfolding rule.openChild _>>=_ refuse_unless_ base
         child-rule =
             let q : first (λ j. not (isSome (view s .live j))) 1 63 ≡ some i = ap (λ (g : ℕ → Bool). first g 1 63) (free-is s) ∙ f .is below in
-            let x : index i ≡ some i = rw (lt-ltb i 64 below, index) in
+            let x : index i ≡ some i = rw (lt-ltb i SCOPES below, index) in
             rw (t .is, q) (λ u. record {
               next = record { slots = view s .slots; live = new u; top = x u; counter = en u; bindings = view s .bindings; dangling = view s .dangling; size = s .size };
               says = opened (record { index = i; number = s .counter });

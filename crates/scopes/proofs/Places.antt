@@ -8,6 +8,7 @@ use Prim.Native.Nat.{ℕ, _+_, _≤_, _<_}
 use native.Mathlib.Omega.{arith}
 use lib.ListN.{length, getD, set, length-set}
 use borrow.Author.Tests.{lt-ltb, ltb-false, ne-eqb}
+use Rattle.rules.specs.Sizes.{HALVES, LINKS, LISTS, SCOPES, SLOTS}
 use Rattle.rules.specs.Notation.{put}
 use Rattle.rules.specs.AddressSets.{member, added, without}
 use Rattle.rules.specs.Scopes as rule
@@ -43,39 +44,39 @@ taken s k a halves links segments head size =
       size = size;
     }
 
-module _ (s : Scopes) (h : Sound s) (z : Sized s) (k : ℕ) (hk : k < 64) (lk : getD (s .live) k false ≡ true) (a : ℕ) (ha : a < 1024) (clear : occ (s .halves) a ≡ false)
-    (halves links : List ℕ) (slot : occ halves ≡ put (occ (s .halves)) a true) (c : Held 1024 65 links (gains k a (leaves a (held (s .links))))) where
+module _ (s : Scopes) (h : Sound s) (z : Sized s) (k : ℕ) (hk : k < SCOPES) (lk : getD (s .live) k false ≡ true) (a : ℕ) (ha : a < SLOTS) (clear : occ (s .halves) a ≡ false)
+    (halves links : List ℕ) (slot : occ halves ≡ put (occ (s .halves)) a true) (c : Held SLOTS LISTS links (gains k a (leaves a (held (s .links))))) where
   -- no scope owns it
-  free : 64 ≤ getD (s .owner) a 0
+  free : SCOPES ≤ getD (s .owner) a 0
   free = ltb-false _ _ (sym (h .owned .taken a ha) ∙ clear)
 
-  unowned : (j : ℕ) → j < 64 → without a (held (s .links) j) ≡ held (s .links) j
+  unowned : (j : ℕ) → j < SCOPES → without a (held (s .links) j) ≡ held (s .links) j
   unowned j hj = without-none a (held (s .links) j) (h .ringed .tells a j ha (omega arith) ∙ ne-eqb (getD (s .owner) a 0) j (omega (arith, free)))
 
-  now : (j : ℕ) → j < 65 → held links j ≡ gains k a (leaves a (held (s .links))) j
-  now j hj = chains-lists 1024 65 links _ c j hj
+  now : (j : ℕ) → j < LISTS → held links j ≡ gains k a (leaves a (held (s .links))) j
+  now j hj = chains-lists SLOTS LISTS links _ c j hj
 
   pub at-k : held links k ≡ added a (held (s .links) k)
   at-k = now k (omega arith) ∙ put-same (leaves a (held (s .links))) k _ ∙ ap (added a) (unowned k hk)
 
-  pub at-64 : held links 64 ≡ without a (held (s .links) 64)
-  at-64 = now 64 (omega arith) ∙ put-other (leaves a (held (s .links))) k _ 64 (omega arith)
+  pub at-64 : held links SCOPES ≡ without a (held (s .links) SCOPES)
+  at-64 = now SCOPES (omega arith) ∙ put-other (leaves a (held (s .links))) k _ SCOPES (omega arith)
 
   pub live-is : (segments head size : ℕ) → view (taken s k a halves links segments head size) .live ≡ put (view s .live) k (some (rule.owned≔ (added a (held (s .links) k)) (scopeOf s k)))
   live-is segments head size =
       scopes-put (s .live) (s .dangled) (s .parent) (s .number) (held (s .links)) (held links) k (added a (held (s .links) k)) lk at-k
-      (λ j lj n. let hj : j < 64 = in-range s (z .live) j lj in now j (omega arith) ∙ put-other (leaves a (held (s .links))) k _ j (λ e. n (sym e)) ∙ unowned j hj)
+      (λ j lj n. let hj : j < SCOPES = in-range s (z .live) j lj in now j (omega arith) ∙ put-other (leaves a (held (s .links))) k _ j (λ e. n (sym e)) ∙ unowned j hj)
 
-  pub sound : (segments head size : ℕ) → Slotted halves segments head → a < size → s .size ≤ size → size ≤ 1024 → Sound (taken s k a halves links segments head size)
+  pub sound : (segments head size : ℕ) → Slotted halves segments head → a < size → s .size ≤ size → size ≤ SLOTS → Sound (taken s k a halves links segments head size)
   sound segments head size sl above grows most =
       record {
         slotted = sl;
-        ringed = ringed (s .links) (s .owner) links _ a k (h .ringed) ha (z .owner) (omega arith) c (places-tells 1024 65 (owners (s .owner)) (held (s .links)) (h .ringed .tells) a ha k (omega arith));
-        owned = owned (s .halves) (s .owner) (s .live) (s .size) halves a k true size (h .owned) ha (z .owner) slot (sym (lt-ltb k 64 hk)) (λ _. lk) (λ _. above) grows most;
+        ringed = ringed (s .links) (s .owner) links _ a k (h .ringed) ha (z .owner) (omega arith) c (places-tells SLOTS LISTS (owners (s .owner)) (held (s .links)) (h .ringed .tells) a ha k (omega arith));
+        owned = owned (s .halves) (s .owner) (s .live) (s .size) halves a k true size (h .owned) ha (z .owner) slot (sym (lt-ltb k SCOPES hk)) (λ _. lk) (λ _. above) grows most;
         rooted = h .rooted;
         named = h .named;
       }
 
-  pub sized : (segments head size : ℕ) → length halves ≡ 16 → length links ≡ 2178 → Sized (taken s k a halves links segments head size)
+  pub sized : (segments head size : ℕ) → length halves ≡ HALVES → length links ≡ LINKS → Sized (taken s k a halves links segments head size)
   sized segments head size lh ll =
       record { halves = lh; links = ll; owner = length-set (s .owner) a k ∙ z .owner; live = z .live; dangled = z .dangled; parent = z .parent; number = z .number; bindings = z .bindings }

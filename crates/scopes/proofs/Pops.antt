@@ -7,7 +7,7 @@ use lib.Dec.{eqb}
 use lib.ListN.{getD}
 use borrow.Author.Tests.{ne-eqb}
 use Rattle.rules.specs.Notation.{Answer, given, _>>=_, refuse_unless_, refuse_when_}
-use Rattle.rules.specs.Sizes.{base}
+use Rattle.rules.specs.Sizes.{base, SCOPES}
 use Rattle.rules.specs.Scopes as rule
 use Rattle.scopes.specs.View.{view, foundAt, toldOnly}
 use Rattle.scopes.specs.Sound.{Sound}
@@ -40,7 +40,7 @@ module _ (s : Scopes) (id : rule.Id) (r : ℕ) (e : r ≡ refusal (s .dangled) f
 -- ---- pop last
 
 module _ (s : Scopes) where
-  pub last-no-top : s .top ≡ 64 → record { next = view s; says = Refused 3 } ≡ toldOnly (view s) (rule.popLastScope base (view s))
+  pub last-no-top : s .top ≡ SCOPES → record { next = view s; says = Refused 3 } ≡ toldOnly (view s) (rule.popLastScope base (view s))
   unfolding rule.popLastScope rule.lastPoppable _>>=_ refuse_unless_
   last-no-top e = rw (no-top s e)
 
@@ -58,7 +58,7 @@ module _ (s : Scopes) where
 
 -- ---- what closing comes to
 
-module _ (s : Scopes) (i : ℕ) (hi : i < 64) (r : Bool) (e : r ≡ hasChild (s .live) (s .parent) i) where
+module _ (s : Scopes) (i : ℕ) (hi : i < SCOPES) (r : Bool) (e : r ≡ hasChild (s .live) (s .parent) i) where
   pub shut-child : r ≡ true → record { next = view s; says = Refused 6 } ≡ toldOnly (view s) (shut (foundAt s i) (view s))
   unfolding _>>=_ refuse_when_
   shut-child l = rw (has-child s i hi r e ∙ l)

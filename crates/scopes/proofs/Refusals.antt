@@ -11,7 +11,7 @@ use lib.Dec.{eqb, ltb}
 use lib.ListN.{getD}
 use borrow.Author.Tests.{eq-eqb, ne-eqb, ltb-true}
 use Rattle.rules.specs.Notation.{Answer, refused, _>>=_, refuse_unless_, refuse_when_}
-use Rattle.rules.specs.Sizes.{base}
+use Rattle.rules.specs.Sizes.{base, SCOPES}
 use Rattle.rules.specs.Scopes as rule
 use Rattle.scopes.specs.View.{view}
 use Rattle.scopes.specs.Leaves.{hasNumber, placeOf, differs, refusal}
@@ -22,11 +22,11 @@ use Rattle.scopes.proofs.Finds.{Known, known, unknown}
 -- ---- the leaf
 
 -- a scope that was found has the id's index
-pub placed : (live : List Bool) (number : List ℕ) (i n r : ℕ) → r ≡ placeOf live number i n → r ≢ 64 → (r ≡ i) × (i < 64)
-placed live number i n r e q = go (ltb i 64 && hasNumber live number n i) refl
+pub placed : (live : List Bool) (number : List ℕ) (i n r : ℕ) → r ≡ placeOf live number i n → r ≢ SCOPES → (r ≡ i) × (i < SCOPES)
+placed live number i n r e q = go (ltb i SCOPES && hasNumber live number n i) refl
   where
-    go : (b : Bool) → (ltb i 64 && hasNumber live number n i) ≡ b → (r ≡ i) × (i < 64)
-    go true t = (e ∙ rw (t, placeOf), ltb-true i 64 (and-left _ _ t))
+    go : (b : Bool) → (ltb i SCOPES && hasNumber live number n i) ≡ b → (r ≡ i) × (i < SCOPES)
+    go true t = (e ∙ rw (t, placeOf), ltb-true i SCOPES (and-left _ _ t))
     go false t = absurd (q (e ∙ rw (t, placeOf)))
 
 -- the code's test of a mark
@@ -37,18 +37,18 @@ differs-is false true = refl
 differs-is false false = refl
 
 module _ (dangled : List Bool) (mark : Bool) (i : ℕ) where
-  pub unmet : i ≡ 64 → 4 ≡ refusal dangled mark i
-  unmet e = rw (eq-eqb i 64 e, refusal)
+  pub unmet : i ≡ SCOPES → 4 ≡ refusal dangled mark i
+  unmet e = rw (eq-eqb i SCOPES e, refusal)
 
-  module _ (n : i ≢ 64) where
+  module _ (n : i ≢ SCOPES) where
     abbrev barred : Bool
     barred = differs mark (getD dangled i false) || eqb i 0
 
     refusal-5 : barred ≡ true → 5 ≡ refusal dangled mark i
-    refusal-5 e = rw (ne-eqb i 64 n, e, refusal)
+    refusal-5 e = rw (ne-eqb i SCOPES n, e, refusal)
 
     refusal-0 : barred ≡ false → 0 ≡ refusal dangled mark i
-    refusal-0 e = rw (ne-eqb i 64 n, e, refusal)
+    refusal-0 e = rw (ne-eqb i SCOPES n, e, refusal)
 
     -- as the code tests it
     pub at-root : i ≡ 0 → 5 ≡ refusal dangled mark i
@@ -86,24 +86,24 @@ module _ (s : Scopes) (id : rule.Id) (mark : Bool) where
     pub refused-by : {A : Type 0} (rest : rule.Found → Answer A) → r ≢ 0 → checked mark o rest ≡ refused r
     unfolding _>>=_ refuse_unless_ refuse_when_
     refused-by rest z =
-        by-cases (ℕ-discrete i 64)
+        by-cases (ℕ-discrete i SCOPES)
         (λ q. rw (unknown s id i refl q) (ap refused (unmet (s .dangled) mark i q ∙ sym e)))
         (λ q. go q (barred (s .dangled) mark i q) refl)
       where
-        go : (q : i ≢ 64) (b : Bool) → barred (s .dangled) mark i q ≡ b → checked mark o rest ≡ refused r
+        go : (q : i ≢ SCOPES) (b : Bool) → barred (s .dangled) mark i q ≡ b → checked mark o rest ≡ refused r
         go q true t = rw (known s id i refl q .is, t) (ap refused (refusal-5 (s .dangled) mark i q t ∙ sym e))
         go q false t = absurd (z (e ∙ sym (refusal-0 (s .dangled) mark i q t)))
 
     pub admitted : r ≡ 0 → (k : ℕ) → k ≡ id .index → Admitted k
     admitted z k ek =
-        by-cases (ℕ-discrete i 64)
+        by-cases (ℕ-discrete i SCOPES)
         (λ q. absurd (never 4 (omega arith) (unmet (s .dangled) mark i q)))
         (λ q. go q (differs mark (getD (s .dangled) i false)) refl)
       where
         never : (n : ℕ) → n ≢ 0 → n ≡ refusal (s .dangled) mark i → ⊥
         never n w p = w (p ∙ sym e ∙ z)
 
-        go : (q : i ≢ 64) (b : Bool) → differs mark (getD (s .dangled) i false) ≡ b → Admitted k
+        go : (q : i ≢ SCOPES) (b : Bool) → differs mark (getD (s .dangled) i false) ≡ b → Admitted k
         go q true t = absurd (never 5 (omega arith) (refusal-5 (s .dangled) mark i q (rw t)))
         go q false t =
             let x = placed (s .live) (s .number) (id .index) (id .number) i refl q .0 ∙ sym ek in

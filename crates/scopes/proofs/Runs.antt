@@ -8,6 +8,7 @@ use Prim.Native.Nat.{ℕ, zero, suc, _+_, _-_, _≤_, _<_, max}
 use native.Mathlib.Numerals.{add-one}
 use native.Mathlib.Omega.{arith}
 use lib.ListN.{length, getD}
+use Rattle.rules.specs.Sizes.{HALVES, LINKS, LISTS, SCOPES, SEGMENTS, SLOTS}
 use Rattle.rules.specs.Notation.{put}
 use Rattle.rules.specs.AddressSets.{added, without, addedAll, withoutAll, run}
 use Rattle.rules.specs.Scopes as rule
@@ -24,8 +25,8 @@ use Rattle.scopes.proofs.Places.{taken, at-k, at-64, live-is, sound, si
 
 -- ---- one slot
 
-module _ (t : Scopes) (h : Sound t) (z : Sized t) (k : ℕ) (hk : k < 64) (lk : getD (t .live) k false ≡ true) (a : ℕ) (ha : a < 1024) (clear : occ (t .halves) a ≡ false)
-    (halves links : List ℕ) (slot : occ halves ≡ put (occ (t .halves)) a true) (c : Held 1024 65 links (gains k a (leaves a (held (t .links))))) where
+module _ (t : Scopes) (h : Sound t) (z : Sized t) (k : ℕ) (hk : k < SCOPES) (lk : getD (t .live) k false ≡ true) (a : ℕ) (ha : a < SLOTS) (clear : occ (t .halves) a ≡ false)
+    (halves links : List ℕ) (slot : occ halves ≡ put (occ (t .halves)) a true) (c : Held SLOTS LISTS links (gains k a (leaves a (held (t .links))))) where
   abbrev then : Scopes
   then = taken t k a halves links (t .segments) (t .head) (t .size)
 
@@ -38,7 +39,7 @@ module _ (t : Scopes) (h : Sound t) (z : Sized t) (k : ℕ) (hk : k < 64) (lk : 
       ap (λ (f : ℕ → Option rule.Scope). put f k (some (rule.owned≔ (addedAll (run (suc a) m) (held links k)) (scopeOf t k)))) (live-is t h z k hk lk a ha clear halves links slot c (t .segments) (t .head) (t .size))
       ∙ put-again (view t .live) k _ _
       ∙ ap (λ (x : List ℕ). put (view t .live) k (some (rule.owned≔ x (scopeOf t k)))) o in
-      let d : withoutAll (run (suc a) m) (held links 64) ≡ withoutAll (run (suc a) m) (without a (held (t .links) 64)) = ap (withoutAll (run (suc a) m)) (at-64 t h z k hk lk a ha clear halves links slot c) in
+      let d : withoutAll (run (suc a) m) (held links SCOPES) ≡ withoutAll (run (suc a) m) (without a (held (t .links) SCOPES)) = ap (withoutAll (run (suc a) m)) (at-64 t h z k hk lk a ha clear halves links slot c) in
       let e : max (t .size) (suc a + m) ≡ max (t .size) (a + suc m) = omega arith in
       λ u. record {
         slots = record { occupied = filled (suc a) m (slot u); segments = t .segments; head = t .head };
@@ -59,13 +60,13 @@ pub record Running (s : Scopes) (k g n : ℕ) (t : Scopes) (a : ℕ) : Type 0 wh
   pub low : g ≤ a
   pub high : a ≤ g + n
   pub clear : (b : ℕ) → a ≤ b → b < g + n → occ (t .halves) b ≡ false
-  pub whole : t .segments ≡ 8
+  pub whole : t .segments ≡ SEGMENTS
   pub above : g + n ≤ t .size
   pub same : runFor t k a (g + n - a) ≡ runFor s k g n
 
-module _ (s : Scopes) (k g n : ℕ) (hk : k < 64) (fits : g + n ≤ 1024) (t : Scopes) (a : ℕ) (r : Running s k g n t a) where
-  pub running-on : (lt : a < g + n) (halves links : List ℕ) → length halves ≡ 16 → length links ≡ 2178 → occ halves ≡ put (occ (t .halves)) a true
-      → Held 1024 65 links (gains k a (leaves a (held (t .links))))
+module _ (s : Scopes) (k g n : ℕ) (hk : k < SCOPES) (fits : g + n ≤ SLOTS) (t : Scopes) (a : ℕ) (r : Running s k g n t a) where
+  pub running-on : (lt : a < g + n) (halves links : List ℕ) → length halves ≡ HALVES → length links ≡ LINKS → occ halves ≡ put (occ (t .halves)) a true
+      → Held SLOTS LISTS links (gains k a (leaves a (held (t .links))))
       → Running s k g n (taken t k a halves links (t .segments) (t .head) (t .size)) (a + 1)
   running-on lt halves links lh ll slot c =
       record {
@@ -85,7 +86,7 @@ module _ (s : Scopes) (k g n : ℕ) (hk : k < 64) (fits : g + n ≤ 1024) (t : S
             ∙ ap (runFor t k a) f ∙ r .same);
       }
     where
-      ha : a < 1024
+      ha : a < SLOTS
       ha = omega arith
 
       clear : occ (t .halves) a ≡ false
@@ -128,5 +129,5 @@ running-none s k g n w l v size es =
     }
 
 -- all are given
-pub handed : (s : Scopes) (k g n : ℕ) → k < 64 → g + n ≤ 1024 → (t : Scopes) (a size : ℕ) → Running (roomy s size) k g n (roomy t size) a → g + n ≤ a → Handed s k g n t size
+pub handed : (s : Scopes) (k g n : ℕ) → k < SCOPES → g + n ≤ SLOTS → (t : Scopes) (a size : ℕ) → Running (roomy s size) k g n (roomy t size) a → g + n ≤ a → Handed s k g n t size
 handed s k g n hk fits t a size r l = record { is = running-done (roomy s size) k g n hk fits (roomy t size) a r l; whole = record { sound = r .sound; sized = r .sized } }

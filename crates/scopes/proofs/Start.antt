@@ -8,6 +8,7 @@ use Prim.Native.Nat.{ℕ, zero, suc, _≤_, _<_}
 use native.Mathlib.Omega.{arith}
 use lib.ListN.{length, getD, set, replicate, getD-replicate}
 use borrow.Author.Tests.{ne-eqb}
+use Rattle.rules.specs.Sizes.{BINDINGS, HALVES, LISTS, SCOPES, SLOTS}
 use Rattle.rules.specs.AddressSets.{member}
 use Rattle.rules.specs.Slots.{freshSlots}
 use Rattle.rules.specs.Scopes as rule
@@ -22,14 +23,14 @@ use Rattle.scopes.specs.declared.Scopes.{Scopes}
 abbrev pub freshState : List ℕ → Scopes
 freshState links =
     record {
-      halves = replicate 16 0;
+      halves = replicate HALVES 0;
       links = links;
-      owner = replicate 1024 65;
-      live = set (replicate 64 false) 0 true;
-      dangled = replicate 64 false;
-      parent = replicate 64 64;
-      number = replicate 64 0;
-      bindings = replicate 256 0;
+      owner = replicate SLOTS LISTS;
+      live = set (replicate SCOPES false) 0 true;
+      dangled = replicate SCOPES false;
+      parent = replicate SCOPES SCOPES;
+      number = replicate SCOPES 0;
+      bindings = replicate BINDINGS 0;
       count = 0;
       segments = 0;
       head = 0;
@@ -43,26 +44,26 @@ all-same zero i d = refl
 all-same (suc n) zero d = refl
 all-same (suc n) (suc i) d = all-same n i d
 
-none-taken : (a : ℕ) → occ (replicate 16 0) a ≡ false
-none-taken a = ap (λ (f : ℕ → Bool). f a) (none-occupied 16)
+none-taken : (a : ℕ) → occ (replicate HALVES 0) a ≡ false
+none-taken a = ap (λ (f : ℕ → Bool). f a) (none-occupied HALVES)
 
-live-is : (i : ℕ) → getD (set (replicate 64 false) 0 true) (suc i) false ≡ false
+live-is : (i : ℕ) → getD (set (replicate SCOPES false) 0 true) (suc i) false ≡ false
 live-is i = all-same 63 i false
 
-module _ (links : List ℕ) (c : Held 1024 65 links (λ i. [])) where
-  empty : (i : ℕ) → i < 65 → held links i ≡ []
-  empty i hi = chains-lists 1024 65 links (λ i. []) c i hi
+module _ (links : List ℕ) (c : Held SLOTS LISTS links (λ i. [])) where
+  empty : (i : ℕ) → i < LISTS → held links i ≡ []
+  empty i hi = chains-lists SLOTS LISTS links (λ i. []) c i hi
 
   pub fresh-view : view (freshState links) ≡ rule.freshScopes
   unfolding rule.freshScopes freshSlots
   fresh-view =
       λ t. record {
-        slots = record { occupied = none-occupied 16 t; segments = 0; head = 0 };
+        slots = record { occupied = none-occupied HALVES t; segments = 0; head = 0 };
         live = λ i. lives i t;
         top = some 0;
         counter = 1;
         bindings = [];
-        dangling = empty 64 (omega arith) t;
+        dangling = empty SCOPES (omega arith) t;
         size = 0;
       }
     where
@@ -76,25 +77,25 @@ module _ (links : List ℕ) (c : Held 1024 65 links (λ i. [])) where
       record {
         slotted = record { most = omega arith; front = omega arith; none = λ j _ _. none-taken j };
         ringed = record {
-          rings = held-lists 1024 65 links (λ i. []) c;
-          tells = λ a i ha hi. rw (empty i hi, getD-replicate {A = ℕ} 1024 a 65 0 ha) (sym (ne-eqb 65 i (λ e. (omega arith))));
-          most = λ a ha. rw (getD-replicate {A = ℕ} 1024 a 65 0 ha) (omega arith);
+          rings = held-lists SLOTS LISTS links (λ i. []) c;
+          tells = λ a i ha hi. rw (empty i hi, getD-replicate {A = ℕ} SLOTS a LISTS 0 ha) (sym (ne-eqb LISTS i (λ e. (omega arith))));
+          most = λ a ha. rw (getD-replicate {A = ℕ} SLOTS a LISTS 0 ha) (omega arith);
         };
         owned = record {
-          taken = λ a ha. rw (none-taken a, getD-replicate {A = ℕ} 1024 a 65 0 ha);
-          alive = λ a ha. rw (getD-replicate {A = ℕ} 1024 a 65 0 ha) (λ l. absurd (omega arith));
-          above = λ a ha. rw (getD-replicate {A = ℕ} 1024 a 65 0 ha) (λ l. absurd (omega arith));
+          taken = λ a ha. rw (none-taken a, getD-replicate {A = ℕ} SLOTS a LISTS 0 ha);
+          alive = λ a ha. rw (getD-replicate {A = ℕ} SLOTS a LISTS 0 ha) (λ l. absurd (omega arith));
+          above = λ a ha. rw (getD-replicate {A = ℕ} SLOTS a LISTS 0 ha) (λ l. absurd (omega arith));
           most = omega arith;
         };
         rooted = record {
           topped = inl (omega arith, refl);
           leads = leads;
-          dead = λ i hi _. (all-same 64 i false, getD-replicate {A = ℕ} 64 i 64 0 hi, all-same {A = ℕ} 64 i 0);
+          dead = λ i hi _. (all-same SCOPES i false, getD-replicate {A = ℕ} SCOPES i SCOPES 0 hi, all-same {A = ℕ} SCOPES i 0);
           first = refl;
         };
-        named = record { most = omega arith; alive = tt; once = tt; clear = λ j _. all-same {A = ℕ} 256 j 0 };
+        named = record { most = omega arith; alive = tt; once = tt; clear = λ j _. all-same {A = ℕ} BINDINGS j 0 };
       }
     where
-      leads : (i : ℕ) → getD (set (replicate 64 false) 0 true) i false ≡ true → Leads (set (replicate 64 false) 0 true) (replicate 64 64) i
+      leads : (i : ℕ) → getD (set (replicate SCOPES false) 0 true) i false ≡ true → Leads (set (replicate SCOPES false) 0 true) (replicate SCOPES SCOPES) i
       leads zero h = root refl refl
       leads (suc i) h = absurd (true≢false (sym h ∙ live-is i))

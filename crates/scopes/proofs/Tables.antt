@@ -6,6 +6,7 @@ use mathlib.Core.Option.{Option, none, some}
 use Prim.Native.Nat.{ℕ, _+_, _-_, _≤_, _<_}
 use native.Mathlib.Decide.{ℕ-discrete}
 use native.Mathlib.Omega.{arith}
+use Rattle.rules.specs.Sizes.{SCOPES}
 use Rattle.rules.specs.Notation.{put, first, orElse, isSome}
 use Rattle.rules.proofs.Tables as rules
 use Rattle.rules.proofs.Tables.{put-same, put-other}
@@ -44,39 +45,39 @@ put-again f i x y = put-ext f (put (put f i x) i y) i y (put-same (put f i x) i 
 pub more : (f : ℕ → Bool) (i : ℕ) (k : ℕ) → ((j : ℕ) → k ≤ j → j < i → f j ≡ false) → f i ≡ false → (j : ℕ) → k ≤ j → j < i + 1 → f j ≡ false
 more f i k h e j a l = by-cases (ℕ-discrete j i) (λ q. rw q e) (λ q. h j a (omega arith))
 
-module _ (f : ℕ → Bool) (k : ℕ) (hk : k ≤ 64) where
-  pub lowest-here : (i : ℕ) → k ≤ i → i < 64 → ((j : ℕ) → k ≤ j → j < i → f j ≡ false) → f i ≡ true → i ≡ lowest f k
-  lowest-here i l h before e = sym (ap (λ (o : Option ℕ). orElse o 64) (first-is f k (64 - k) i (record { low = l; high = omega arith; before = before; passes = e })))
+module _ (f : ℕ → Bool) (k : ℕ) (hk : k ≤ SCOPES) where
+  pub lowest-here : (i : ℕ) → k ≤ i → i < SCOPES → ((j : ℕ) → k ≤ j → j < i → f j ≡ false) → f i ≡ true → i ≡ lowest f k
+  lowest-here i l h before e = sym (ap (λ (o : Option ℕ). orElse o SCOPES) (first-is f k (SCOPES - k) i (record { low = l; high = omega arith; before = before; passes = e })))
 
-  pub lowest-none : ((j : ℕ) → k ≤ j → j < 64 → f j ≡ false) → 64 ≡ lowest f k
-  lowest-none before = sym (ap (λ (o : Option ℕ). orElse o 64) (first-is-none f k (64 - k) (λ j a b. before j a (omega arith))))
+  pub lowest-none : ((j : ℕ) → k ≤ j → j < SCOPES → f j ≡ false) → SCOPES ≡ lowest f k
+  lowest-none before = sym (ap (λ (o : Option ℕ). orElse o SCOPES) (first-is-none f k (SCOPES - k) (λ j a b. before j a (omega arith))))
 
   -- what the answer says of the rules' search
   pub record Low (r : ℕ) : Type 0 where
-    pub most : r ≤ 64
+    pub most : r ≤ SCOPES
     pub above : k ≤ r
     pub before : (j : ℕ) → k ≤ j → j < r → f j ≡ false
-    pub at : r < 64 → f r ≡ true
-    pub is : r < 64 → first f k (64 - k) ≡ some r
-    pub none : 64 ≤ r → first f k (64 - k) ≡ none
+    pub at : r < SCOPES → f r ≡ true
+    pub is : r < SCOPES → first f k (SCOPES - k) ≡ some r
+    pub none : SCOPES ≤ r → first f k (SCOPES - k) ≡ none
 
   pub low : (r : ℕ) → r ≡ lowest f k → Low r
-  low r e = go (first f k (64 - k)) refl
+  low r e = go (first f k (SCOPES - k)) refl
     where
-      go : (o : Option ℕ) → first f k (64 - k) ≡ o → Low r
+      go : (o : Option ℕ) → first f k (SCOPES - k) ≡ o → Low r
       go none q =
-          let d : r ≡ 64 = e ∙ ap (λ (o : Option ℕ). orElse o 64) q in
+          let d : r ≡ SCOPES = e ∙ ap (λ (o : Option ℕ). orElse o SCOPES) q in
           record {
             most = omega arith;
             above = omega arith;
-            before = λ j a b. first-none f k (64 - k) q j a (omega arith);
+            before = λ j a b. first-none f k (SCOPES - k) q j a (omega arith);
             at = λ l. absurd (omega arith);
             is = λ l. absurd (omega arith);
             none = λ l. q;
           }
       go (some a) q =
-          let d : r ≡ a = e ∙ ap (λ (o : Option ℕ). orElse o 64) q in
-          let l = first-found f k (64 - k) a q in
+          let d : r ≡ a = e ∙ ap (λ (o : Option ℕ). orElse o SCOPES) q in
+          let l = first-found f k (SCOPES - k) a q in
           record {
             most = omega (arith, l .high);
             above = omega (arith, l .low);

@@ -11,13 +11,14 @@ use lib.Dec.{eqb}
 use lib.ListN.{length, getD, take, length-map}
 use lib.Seq.{ext-getD, getD-take, length-take-le}
 use borrow.Author.Tests.{lt-ltb, le-ltb, eq-eqb, ne-eqb, eqb-true}
+use Rattle.rules.specs.Sizes.{LISTS, SCOPES, SLOTS, WORD}
 use Rattle.rules.specs.AddressSets.{member}
 use Rattle.rules.specs.Scopes as rule
 use Rattle.slots.proofs.Occupied.{halves-ext}
 use Rattle.links.specs.Links.{Held}
 use Rattle.links.proofs.Rings.{chains-alike}
 use Rattle.links.proofs.Same.{same-cells}
-use Rattle.scopes.specs.View.{held, view, index, binding, bindingsOf, Seen, seen}
+use Rattle.scopes.specs.View.{held, view, index, binding, bindingsOf, Seen, seen, ADDRESS_PART, HANDLE_PART, NAME_PART, SCOPE_PART}
 use Rattle.scopes.specs.Sound.{Sound, Sized, Typed}
 use Rattle.scopes.specs.declared.Scopes.{Scopes}
 use Rattle.scopes.specs.declared.Outcome.{Outcome}
@@ -28,12 +29,12 @@ use Rattle.scopes.proofs.Closes.{parent-fits}
 -- ---- what the arrays hold, read off the view
 
 fromIndex : Option ℕ → ℕ
-fromIndex none = 64
+fromIndex none = SCOPES
 fromIndex (some n) = n
 
-from-index : (n : ℕ) → n ≤ 64 → fromIndex (index n) ≡ n
+from-index : (n : ℕ) → n ≤ SCOPES → fromIndex (index n) ≡ n
 unfolding fromIndex
-from-index n h = by-cases (decLt n 64) (λ l. rw (lt-ltb n 64 l, fromIndex)) (λ l. rw (le-ltb n 64 (omega arith), fromIndex) (omega arith))
+from-index n h = by-cases (decLt n SCOPES) (λ l. rw (lt-ltb n SCOPES l, fromIndex)) (λ l. rw (le-ltb n SCOPES (omega arith), fromIndex) (omega arith))
 
 liveOf : Option rule.Scope → Bool
 liveOf none = false
@@ -44,7 +45,7 @@ danglesOf none = false
 danglesOf (some k) = k .dangled
 
 parentOf : Option rule.Scope → ℕ
-parentOf none = 64
+parentOf none = SCOPES
 parentOf (some k) = fromIndex (k .parent)
 
 numberOf : Option rule.Scope → ℕ
@@ -62,7 +63,7 @@ record Read (s : Scopes) (i : ℕ) : Type 0 where
   number : getD (s .number) i 0 ≡ numberOf (view s .live i)
   owned : held (s .links) i ≡ ownedOf (view s .live i)
 
-read : (s : Scopes) → Sound s → Sized s → (i : ℕ) → i < 64 → Read s i
+read : (s : Scopes) → Sound s → Sized s → (i : ℕ) → i < SCOPES → Read s i
 unfolding liveOf danglesOf parentOf numberOf ownedOf
 read s h z i hi = go (getD (s .live) i false) refl
   where
@@ -74,24 +75,24 @@ read s h z i hi = go (getD (s .live) i false) refl
 
 -- a binding says its number
 pack : rule.Binding → ℕ
-pack b = (((b .scope * 65536 + b .name) * 65536 + b .address) * 65536 + b .handle) * 2 + elim (b .moved) [ true ↦ 1 | false ↦ 0 ]
+pack b = (((b .scope * WORD + b .name) * WORD + b .address) * WORD + b .handle) * 2 + elim (b .moved) [ true ↦ 1 | false ↦ 0 ]
 
 pack-binding : (b : ℕ) → pack (binding b) ≡ b
 unfolding pack
 pack-binding b =
-    let x : b / 562949953421312 * 65536 + b / 8589934592 % 65536 ≡ b / 8589934592 = omega arith in
-    let y : b / 8589934592 * 65536 + b / 131072 % 65536 ≡ b / 131072 = omega arith in
-    let w : b / 131072 * 65536 + b / 2 % 65536 ≡ b / 2 = omega arith in
+    let x : b / SCOPE_PART * WORD + b / NAME_PART % WORD ≡ b / NAME_PART = omega arith in
+    let y : b / NAME_PART * WORD + b / ADDRESS_PART % WORD ≡ b / ADDRESS_PART = omega arith in
+    let w : b / ADDRESS_PART * WORD + b / HANDLE_PART % WORD ≡ b / 2 = omega arith in
     by-cases (ℕ-discrete (b % 2) 1) (λ e. rw (eq-eqb (b % 2) 1 e, x, y, w) (omega arith)) (λ n. rw (ne-eqb (b % 2) 1 n, x, y, w) (omega arith))
 
 packs : (l : List ℕ) → map pack (map binding l) ≡ l
 packs [] = refl
 packs (b ∷ l) = λ t. pack-binding b t ∷ packs l t
 
-same-owner : (o p : ℕ) → o ≤ 65 → p ≤ 65 → ((i : ℕ) → i < 65 → eqb o i ≡ eqb p i) → o ≡ p
+same-owner : (o p : ℕ) → o ≤ LISTS → p ≤ LISTS → ((i : ℕ) → i < LISTS → eqb o i ≡ eqb p i) → o ≡ p
 same-owner o p ho hp f =
-    by-cases (decLt o 65) (λ l. sym (eqb-true p o (sym (f o l) ∙ eq-eqb o o refl)))
-    (λ n. by-cases (decLt p 65) (λ l. eqb-true o p (f p l ∙ eq-eqb p p refl)) (λ q. omega arith))
+    by-cases (decLt o LISTS) (λ l. sym (eqb-true p o (sym (f o l) ∙ eq-eqb o o refl)))
+    (λ n. by-cases (decLt p LISTS) (λ l. eqb-true o p (f p l ∙ eq-eqb p p refl)) (λ q. omega arith))
 
 -- ---- equal views are equal states
 
@@ -105,22 +106,22 @@ module _ (s t : Scopes) (h : Sound s) (k : Sound t) (ts : Typed s) (tt′ : Type
   at : (i : ℕ) → view s .live i ≡ view t .live i
   at i = ap (λ (c : rule.Scopes). c .live i) e
 
-  lists : (i : ℕ) → i < 65 → held (s .links) i ≡ held (t .links) i
+  lists : (i : ℕ) → i < LISTS → held (s .links) i ≡ held (t .links) i
   lists i hi =
-      by-cases (decLt i 64)
+      by-cases (decLt i SCOPES)
       (λ l. read s h z i l .owned ∙ ap ownedOf (at i) ∙ sym (read t k y i l .owned))
-      (λ n. let q : i ≡ 64 = omega arith in rw q (ap (λ (c : rule.Scopes). c .dangling) e))
+      (λ n. let q : i ≡ SCOPES = omega arith in rw q (ap (λ (c : rule.Scopes). c .dangling) e))
 
   links : s .links ≡ t .links
   links =
-      same-cells 1024 65 (s .links) (t .links) (held (t .links)) (z .links) (y .links)
-      (chains-alike 1024 65 _ _ (held (s .links)) (held (t .links)) (λ i hi. sym (lists i hi)) (h .ringed .rings)) (k .ringed .rings)
+      same-cells SLOTS LISTS (s .links) (t .links) (held (t .links)) (z .links) (y .links)
+      (chains-alike SLOTS LISTS _ _ (held (s .links)) (held (t .links)) (λ i hi. sym (lists i hi)) (h .ringed .rings)) (k .ringed .rings)
 
   owner : s .owner ≡ t .owner
   owner =
       ext-getD 0 (s .owner) (t .owner) (z .owner ∙ sym (y .owner))
       (λ a l.
-      let ha : a < 1024 = omega (arith, z .owner) in
+      let ha : a < SLOTS = omega (arith, z .owner) in
       same-owner (getD (s .owner) a 0) (getD (t .owner) a 0) (h .ringed .most a ha) (k .ringed .most a ha)
       (λ i hi. sym (h .ringed .tells a i ha hi) ∙ ap (member a) (lists i hi) ∙ k .ringed .tells a i ha hi))
 
@@ -128,9 +129,9 @@ module _ (s t : Scopes) (h : Sound s) (k : Sound t) (ts : Typed s) (tt′ : Type
   halves = halves-ext (s .halves) (t .halves) (z .halves ∙ sym (y .halves)) (ts .halves) (tt′ .halves) (ap (λ (c : rule.Scopes). c .slots .occupied) e)
 
   -- an array of 64 that is read off the scopes
-  by-scope : {A : Type 0} (d : A) (f g : List A) (p : Option rule.Scope → A) → length f ≡ 64 → length g ≡ 64
-      → ((i : ℕ) → i < 64 → getD f i d ≡ p (view s .live i)) → ((i : ℕ) → i < 64 → getD g i d ≡ p (view t .live i)) → f ≡ g
-  by-scope d f g p lf lg rf rg = ext-getD d f g (lf ∙ sym lg) (λ i l. let hi : i < 64 = omega arith in rf i hi ∙ ap p (at i) ∙ sym (rg i hi))
+  by-scope : {A : Type 0} (d : A) (f g : List A) (p : Option rule.Scope → A) → length f ≡ SCOPES → length g ≡ SCOPES
+      → ((i : ℕ) → i < SCOPES → getD f i d ≡ p (view s .live i)) → ((i : ℕ) → i < SCOPES → getD g i d ≡ p (view t .live i)) → f ≡ g
+  by-scope d f g p lf lg rf rg = ext-getD d f g (lf ∙ sym lg) (λ i l. let hi : i < SCOPES = omega arith in rf i hi ∙ ap p (at i) ∙ sym (rg i hi))
 
   len : (u : Scopes) → Sound u → Sized u → length (bindingsOf (u .bindings) (u .count)) ≡ u .count
   len u g x = length-map (take (u .count) (u .bindings)) binding ∙ length-take-le (u .count) (u .bindings) (omega (arith, g .named .most, x .bindings))
@@ -148,7 +149,7 @@ module _ (s t : Scopes) (h : Sound s) (k : Sound t) (ts : Typed s) (tt′ : Type
       (λ q. sym (getD-take (s .count) (s .bindings) i 0 q) ∙ ap (λ (x : List ℕ). getD x i 0) taken ∙ getD-take (t .count) (t .bindings) i 0 (omega (arith, count)))
       (λ q. h .named .clear i (omega arith) ∙ sym (k .named .clear i (omega (arith, count)))))
 
-  top-most : (u : Scopes) → Sound u → u .top ≤ 64
+  top-most : (u : Scopes) → Sound u → u .top ≤ SCOPES
   top-most u g = ⊎-elim (λ x. omega (arith, x .0)) (λ x. omega (arith, x .0)) (g .rooted .topped)
 
   top : s .top ≡ t .top
@@ -194,8 +195,8 @@ fresh-one c r q tr tq hr hq = same-state r q (hr .1) (hq .1) tr tq (hr .0 ∙ sy
 pub record DrainPromise (s : Scopes) (lent : List ℕ) (r : Drained) (out : List ℕ) : Type 0 where
   pub promise : (view (r .state) ≡ rule.drainDangling (view s) .1) × (take (r .count) out ≡ rule.drainDangling (view s) .0) × Sound (r .state)
   pub kept : (k : ℕ) → r .count ≤ k → getD out k 0 ≡ getD lent k 0
-  pub long : length out ≡ 1024
-  pub fits : r .count ≤ 1024
+  pub long : length out ≡ SLOTS
+  pub fits : r .count ≤ SLOTS
 
 pub drain-one : (s : Scopes) (lent : List ℕ) (r q : Drained) (out other : List ℕ) → Typed (r .state) → Typed (q .state) → DrainPromise s lent r out → DrainPromise s lent q other → (r ≡ q) × (out ≡ other)
 drain-one s lent r q out other tr tq hr hq =

@@ -7,6 +7,7 @@ use mathlib.Core.List.{List, [], _∷_, _++_}
 use Prim.Native.Nat.{ℕ, _-_, _≤_, _<_}
 use lib.ListN.{length, getD, set, take}
 use lib.Dec.{ltb, eqb}
+use Rattle.rules.specs.Sizes.{BINDINGS, SCOPES}
 use Rattle.rules.specs.Notation.{orElse, first, isSome}
 use Rattle.rules.specs.Scopes as rule
 use Rattle.scopes.specs.View.{index, scopesFrom, binding, bindingsOf}
@@ -15,7 +16,7 @@ use Rattle.scopes.specs.View.{index, scopesFrom, binding, bindingsOf}
 
 -- the first below 64, from i on, that passes, or 64
 abbrev pub lowest : (ℕ → Bool) → ℕ → ℕ
-lowest f i = orElse (first f i (64 - i)) 64
+lowest f i = orElse (first f i (SCOPES - i)) SCOPES
 
 abbrev pub isFree : List Bool → ℕ → Bool
 isFree live j = not (getD live j false)
@@ -28,7 +29,7 @@ childOf live parent i j = getD live j false && eqb (getD parent j 0) i
 
 -- a live scope has i as its parent
 abbrev pub hasChild : List Bool → List ℕ → ℕ → Bool
-hasChild live parent i = isSome (first (childOf live parent i) 0 64)
+hasChild live parent i = isSome (first (childOf live parent i) 0 SCOPES)
 
 -- no live scope has i as its parent
 abbrev pub NoChild : List Bool → List ℕ → ℕ → Type 0
@@ -36,7 +37,7 @@ NoChild live parent i = (j : ℕ) → getD live j false ≡ true → getD parent
 
 -- the index of the live scope that has this id, or 64
 abbrev pub placeOf : List Bool → List ℕ → ℕ → ℕ → ℕ
-placeOf live number i n = elim (ltb i 64 && hasNumber live number n i) [ true ↦ i | false ↦ 64 ]
+placeOf live number i n = elim (ltb i SCOPES && hasNumber live number n i) [ true ↦ i | false ↦ SCOPES ]
 
 abbrev pub differs : Bool → Bool → Bool
 differs true b = not b
@@ -44,7 +45,7 @@ differs false b = b
 
 -- why the scope at index i, or 64, is refused: 4 where there is none, 5 where it is root or its mark differs; 0 where it isn't
 abbrev pub refusal : List Bool → Bool → ℕ → ℕ
-refusal dangled mark i = elim (eqb i 64) [ true ↦ 4 | false ↦ elim (differs mark (getD dangled i false) || eqb i 0) [ true ↦ 5 | false ↦ 0 ] ]
+refusal dangled mark i = elim (eqb i SCOPES) [ true ↦ 4 | false ↦ elim (differs mark (getD dangled i false) || eqb i 0) [ true ↦ 5 | false ↦ 0 ] ]
 
 -- ---- which binding
 
@@ -62,13 +63,13 @@ pub record Missing (bindings : List ℕ) (count i name : ℕ) : Type 0 where
 
 -- r is the place of the binding, or 256
 pub record Spot (bindings : List ℕ) (count i name r : ℕ) : Type 0 where
-  pub most : r ≤ 256
-  pub there : r < 256 → There bindings count i name r
-  pub missing : 256 ≤ r → Missing bindings count i name
+  pub most : r ≤ BINDINGS
+  pub there : r < BINDINGS → There bindings count i name r
+  pub missing : BINDINGS ≤ r → Missing bindings count i name
 
 -- for each scope, the list has the place of the binding of `name` there, or 256
 abbrev pub Placed : List ℕ → ℕ → ℕ → List ℕ → Type 0
-Placed bindings count name places = (i : ℕ) → i < 64 → Spot bindings count i name (getD places i 0)
+Placed bindings count name places = (i : ℕ) → i < SCOPES → Spot bindings count i name (getD places i 0)
 
 -- the binding at j is of `name`, in the scope at index i
 abbrev pub binds : List ℕ → ℕ → ℕ → ℕ → Bool
@@ -76,26 +77,26 @@ binds bindings name i j = rule.isFor i name (binding (getD bindings j 0))
 
 -- r is the first place from `from` up to `to` that passes, or 256
 pub record Earliest (f : ℕ → Bool) (from to r : ℕ) : Type 0 where
-  pub most : r ≤ 256
-  pub inside : r < 256 → (from ≤ r) × (r < to) × (f r ≡ true)
+  pub most : r ≤ BINDINGS
+  pub inside : r < BINDINGS → (from ≤ r) × (r < to) × (f r ≡ true)
   pub before : (j : ℕ) → from ≤ j → j < to → j < r → f j ≡ false
 
 -- for each scope, the list has the first place from `from` up to `to` of a binding of `name`, or 256
 abbrev pub Noted : List ℕ → ℕ → ℕ → ℕ → List ℕ → Type 0
-Noted bindings name from to places = (i : ℕ) → i < 64 → Earliest (binds bindings name i) from to (getD places i 0)
+Noted bindings name from to places = (i : ℕ) → i < SCOPES → Earliest (binds bindings name i) from to (getD places i 0)
 
 abbrev pub spotted : List ℕ → ℕ → Option rule.Binding
-spotted bindings r = elim (ltb r 256) [ true ↦ some (binding (getD bindings r 0)) | false ↦ none ]
+spotted bindings r = elim (ltb r BINDINGS) [ true ↦ some (binding (getD bindings r 0)) | false ↦ none ]
 
 -- from the scope at index i upwards, over `left` scopes at most, the nearest binding is at r (256: there is none), whatever else the state has
 pub record Climbs (live : List Bool) (parent bindings : List ℕ) (count name i left r : ℕ) : Type 0 where
   pub is : (c : rule.Scopes) (dangled : List Bool) (number : List ℕ) (owned : ℕ → List ℕ) → c .live ≡ scopesFrom live dangled parent number owned → c .bindings ≡ bindingsOf bindings count
       → rule.lookup left c name (index i) ≡ spotted bindings r
-  pub spot : r < 256 → (k : ℕ) × There bindings count k name r
+  pub spot : r < BINDINGS → (k : ℕ) × There bindings count k name r
 
 -- the places from `from` up to `to` hold 0, and the others what they held
 pub record Wiped (old : List ℕ) (from to : ℕ) (new : List ℕ) : Type 0 where
-  pub long : length new ≡ 256
+  pub long : length new ≡ BINDINGS
   pub front : take from new ≡ take from old
   pub zeros : (k : ℕ) → from ≤ k → k < to → getD new k 0 ≡ 0
   pub ahead : (k : ℕ) → to ≤ k → getD new k 0 ≡ getD old k 0

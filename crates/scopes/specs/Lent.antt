@@ -7,7 +7,7 @@ use lib.ListN.{getD, take}
 use denote.Ref.{RefT, now}
 use denote.Triple.Both.{Both}
 use Rattle.rules.specs.Notation.{Answer, given, _>>=_, refuse_when_}
-use Rattle.rules.specs.Sizes.{base}
+use Rattle.rules.specs.Sizes.{base, SCOPES, SEGMENTS, SLOTS}
 use Rattle.rules.specs.Slots.{Placement}
 use Rattle.rules.specs.Scopes as rule
 use Rattle.slots.specs.Halves.{occ}
@@ -82,13 +82,13 @@ LentBecomes halves links owner n r f = (s : Scopes) → Becomes (slotsIn s halve
 
 -- scope k is live
 abbrev pub Lives : Scopes → ℕ → Type 0
-Lives s k = (k < 64) × (getD (s .live) k false ≡ true)
+Lives s k = (k < SCOPES) × (getD (s .live) k false ≡ true)
 
 -- s with all segments, and this size: as long as slots are handed out
 abbrev pub roomy : Scopes → ℕ → Scopes
 roomy s size =
     made (s .halves) (s .links) (s .owner) (s .live) (s .dangled) (s .parent) (s .number) (s .bindings)
-    (record { count = s .count; segments = 8; head = s .head; top = s .top; counter = s .counter; size = size })
+    (record { count = s .count; segments = SEGMENTS; head = s .head; top = s .top; counter = s .counter; size = size })
 
 -- the n slots from a on, which were clear, went to scope k; L and H have still to be set
 pub record Handed (s : Scopes) (k a n : ℕ) (t : Scopes) (size : ℕ) : Type 0 where
@@ -119,7 +119,7 @@ AllotsIn halves links owner live number n id place r =
 
 -- the top owns the slot a
 abbrev pub TopOwns : Scopes → ℕ → Type 0
-TopOwns s a = (a < 1024) × (s .top < 64) × (getD (s .owner) a 0 ≡ s .top)
+TopOwns s a = (a < SLOTS) × (s .top < SCOPES) × (getD (s .owner) a 0 ≡ s .top)
 
 -- ---- closing
 

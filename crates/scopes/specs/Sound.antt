@@ -7,6 +7,7 @@ use mathlib.Core.List.{List, [], _∷_}
 use Prim.Native.Nat.{ℕ, _*_, _^_, _≤_, _<_}
 use lib.ListN.{length, getD}
 use lib.Dec.{eqb, ltb}
+use Rattle.rules.specs.Sizes.{BINDINGS, HALVES, LINKS, LISTS, SCOPES, SEGMENTS, SLOTS}
 use Rattle.rules.specs.AddressSets.{member}
 use Rattle.rules.specs.Scopes as rule
 use Rattle.slots.specs.Halves.{occ}
@@ -16,33 +17,33 @@ use Rattle.scopes.specs.declared.Scopes.{Scopes}
 
 -- "L is at most 8 and H below 8; no slot from segment L on is occupied"
 pub record Slotted (halves : List ℕ) (segments head : ℕ) : Type 0 where
-  pub most : segments ≤ 8
-  pub front : head < 8
-  pub none : (a : ℕ) → 128 * segments ≤ a → a < 1024 → occ halves a ≡ false
+  pub most : segments ≤ SEGMENTS
+  pub front : head < SEGMENTS
+  pub none : (a : ℕ) → 128 * segments ≤ a → a < SLOTS → occ halves a ≡ false
 
 -- the cells hold the lists, and each address is on the list that its owner says (65: on none)
 pub record Ringed (links owner : List ℕ) : Type 0 where
-  pub rings : Held 1024 65 links (held links)
-  pub tells : (a i : ℕ) → a < 1024 → i < 65 → member a (held links i) ≡ eqb (getD owner a 0) i
-  pub most : (a : ℕ) → a < 1024 → getD owner a 0 ≤ 65
+  pub rings : Held SLOTS LISTS links (held links)
+  pub tells : (a i : ℕ) → a < SLOTS → i < LISTS → member a (held links i) ≡ eqb (getD owner a 0) i
+  pub most : (a : ℕ) → a < SLOTS → getD owner a 0 ≤ LISTS
 
 -- "each occupied slot is once on one live scope's list and no other slot is on any"; "size is above every occupied slot"
 pub record Owned (halves owner : List ℕ) (live : List Bool) (size : ℕ) : Type 0 where
-  pub taken : (a : ℕ) → a < 1024 → occ halves a ≡ ltb (getD owner a 0) 64
-  pub alive : (a : ℕ) → a < 1024 → getD owner a 0 < 64 → getD live (getD owner a 0) false ≡ true
-  pub above : (a : ℕ) → a < 1024 → getD owner a 0 < 64 → a < size
-  pub most : size ≤ 1024
+  pub taken : (a : ℕ) → a < SLOTS → occ halves a ≡ ltb (getD owner a 0) SCOPES
+  pub alive : (a : ℕ) → a < SLOTS → getD owner a 0 < SCOPES → getD live (getD owner a 0) false ≡ true
+  pub above : (a : ℕ) → a < SLOTS → getD owner a 0 < SCOPES → a < size
+  pub most : size ≤ SLOTS
 
 -- from i over live scopes to root, which has no parent
 pub data Leads (live : List Bool) (parent : List ℕ) : ℕ → Type 0 where
-  root : getD live 0 false ≡ true → getD parent 0 0 ≡ 64 → Leads live parent 0
+  root : getD live 0 false ≡ true → getD parent 0 0 ≡ SCOPES → Leads live parent 0
   up : {i : ℕ} → i ≢ 0 → getD live i false ≡ true → Leads live parent (getD parent i 0) → Leads live parent i
 
 -- "top is live, or nothing is; every live scope's parents are live and lead to root"; root is (0, 0)
 pub record Rooted (live dangled : List Bool) (parent number : List ℕ) (top : ℕ) : Type 0 where
-  pub topped : ((top < 64) × (getD live top false ≡ true)) ⊎ ((top ≡ 64) × ((i : ℕ) → i < 64 → getD live i false ≡ false))
+  pub topped : ((top < SCOPES) × (getD live top false ≡ true)) ⊎ ((top ≡ SCOPES) × ((i : ℕ) → i < SCOPES → getD live i false ≡ false))
   pub leads : (i : ℕ) → getD live i false ≡ true → Leads live parent i
-  pub dead : (i : ℕ) → i < 64 → getD live i false ≡ false → (getD dangled i false ≡ false) × (getD parent i 0 ≡ 64) × (getD number i 0 ≡ 0)
+  pub dead : (i : ℕ) → i < SCOPES → getD live i false ≡ false → (getD dangled i false ≡ false) × (getD parent i 0 ≡ SCOPES) × (getD number i 0 ≡ 0)
   pub first : getD number 0 0 ≡ 0
 
 -- P of each binding
@@ -57,7 +58,7 @@ BoundOnce (b ∷ l) = Each (λ x. rule.isFor (b .scope) (b .name) x ≡ false) l
 
 -- the bindings are those of live scopes; places from `count` on hold 0
 pub record Named (bindings : List ℕ) (live : List Bool) (count : ℕ) : Type 0 where
-  pub most : count ≤ 256
+  pub most : count ≤ BINDINGS
   pub alive : Each (λ b. getD live (b .scope) false ≡ true) (bindingsOf bindings count)
   pub once : BoundOnce (bindingsOf bindings count)
   pub clear : (j : ℕ) → count ≤ j → getD bindings j 0 ≡ 0
@@ -73,14 +74,14 @@ pub record Sound (s : Scopes) : Type 0 where
 
 -- their lengths
 pub record Sized (s : Scopes) : Type 0 where
-  pub halves : length (s .halves) ≡ 16
-  pub links : length (s .links) ≡ 2178
-  pub owner : length (s .owner) ≡ 1024
-  pub live : length (s .live) ≡ 64
-  pub dangled : length (s .dangled) ≡ 64
-  pub parent : length (s .parent) ≡ 64
-  pub number : length (s .number) ≡ 64
-  pub bindings : length (s .bindings) ≡ 256
+  pub halves : length (s .halves) ≡ HALVES
+  pub links : length (s .links) ≡ LINKS
+  pub owner : length (s .owner) ≡ SLOTS
+  pub live : length (s .live) ≡ SCOPES
+  pub dangled : length (s .dangled) ≡ SCOPES
+  pub parent : length (s .parent) ≡ SCOPES
+  pub number : length (s .number) ≡ SCOPES
+  pub bindings : length (s .bindings) ≡ BINDINGS
 
 -- and that a half has 64 bits
 pub record Typed (s : Scopes) : Type 0 where

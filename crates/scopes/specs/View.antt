@@ -2,11 +2,11 @@
 use mathlib.Core.Bool.{Bool, true, false}
 use mathlib.Core.Option.{Option, none, some}
 use mathlib.Core.List.{List, map}
-use Prim.Native.Nat.{ℕ, _+_, _/_, _%_, max}
+use Prim.Native.Nat.{ℕ, _+_, _*_, _/_, _%_, max}
 use lib.ListN.{getD, take}
 use lib.Dec.{ltb, eqb}
 use Rattle.rules.specs.Notation.{Answer, given, refused, _>>=_, refuse_unless_, _▹_}
-use Rattle.rules.specs.Sizes.{base}
+use Rattle.rules.specs.Sizes.{base, SCOPES, SLOTS, DANGLING, WORD}
 use Rattle.rules.specs.AddressSets.{addedAll, withoutAll, run}
 use Rattle.rules.specs.Scopes as rule
 use Rattle.slots.specs.Halves.{occ, slotsOf}
@@ -20,13 +20,13 @@ use Rattle.scopes.specs.declared.Outcome.{Outcome}
 
 -- ---- the state
 
--- the 65 lists: those of the scopes, and at 64 the dangling list
+-- the lists: those of the scopes, and at DANGLING the dangling list
 abbrev pub held : List ℕ → ℕ → List ℕ
-held links = lists 1024 links
+held links = lists SLOTS links
 
--- an index below 64, or none
+-- an index below SCOPES, or none
 abbrev pub index : ℕ → Option ℕ
-index n = elim (ltb n 64) [ true ↦ some n | false ↦ none ]
+index n = elim (ltb n SCOPES) [ true ↦ some n | false ↦ none ]
 
 abbrev pub onlyIf : Bool → rule.Scope → Option rule.Scope
 onlyIf true k = some k
@@ -39,14 +39,26 @@ scopeAt dangled parent number owned i =
 abbrev pub scopesFrom : List Bool → List Bool → List ℕ → List ℕ → (ℕ → List ℕ) → ℕ → Option rule.Scope
 scopesFrom live dangled parent number owned i = onlyIf (getD live i false) (scopeAt dangled parent number owned i)
 
--- a binding in one number: scope, name, address, handle, moved, from the top
+-- A binding in one number, from the low end: moved 1 bit, then handle, address and name, 16 bits each, then the scope. What each part is counted in:
+abbrev pub HANDLE_PART : ℕ
+HANDLE_PART = 2
+
+abbrev pub ADDRESS_PART : ℕ
+ADDRESS_PART = WORD * HANDLE_PART
+
+abbrev pub NAME_PART : ℕ
+NAME_PART = WORD * ADDRESS_PART
+
+abbrev pub SCOPE_PART : ℕ
+SCOPE_PART = WORD * NAME_PART
+
 abbrev pub binding : ℕ → rule.Binding
 binding b =
     record {
-      scope = b / 562949953421312;
-      name = b / 8589934592 % 65536;
-      address = b / 131072 % 65536;
-      handle = b / 2 % 65536;
+      scope = b / SCOPE_PART;
+      name = b / NAME_PART % WORD;
+      address = b / ADDRESS_PART % WORD;
+      handle = b / HANDLE_PART % WORD;
       moved = eqb (b % 2) 1;
     }
 
@@ -61,7 +73,7 @@ view s =
       top = index (s .top);
       counter = s .counter;
       bindings = bindingsOf (s .bindings) (s .count);
-      dangling = held (s .links) 64;
+      dangling = held (s .links) DANGLING;
       size = s .size;
     }
 
@@ -126,5 +138,5 @@ runFor s k a n =
     view s
     ▹ rule.slots≔ (record { occupied = filled a n (occ (s .halves)); segments = s .segments; head = s .head })
     ▹ rule.setScope (foundAt s k) (rule.owned≔ (addedAll (run a n) (held (s .links) k)) (scopeOf s k))
-    ▹ rule.dangling≔ (withoutAll (run a n) (held (s .links) 64))
+    ▹ rule.dangling≔ (withoutAll (run a n) (held (s .links) DANGLING))
     ▹ rule.size≔ (max (s .size) (a + n))

@@ -1,7 +1,7 @@
 // Scopes are closed: by id, and root at the end: `lent::close` by value.
 ghost use mathlib.Core.Path.{_≡_};
 ghost use Prim.Native.Nat.{_<_};
-ghost use Rattle.rules.specs.Sizes.{base};
+ghost use Rattle.rules.specs.Sizes.{base, SCOPES};
 ghost use Rattle.rules.specs.Scopes as rule;
 ghost use Rattle.scopes.specs.View.{view, idOf, foundAt, seen, toldOnly};
 ghost use Rattle.scopes.specs.Sound.{Sound};
@@ -15,16 +15,21 @@ use crate::Scopes;
 use crate::lent::close as lent;
 use crate::numbers_of;
 use crate::open;
+use rules::BINDINGS;
+use rules::HALVES;
+use rules::LINKS;
+use rules::SCOPES;
+use rules::SLOTS;
 
 // Whether a live scope has i as its parent; all are looked at, so that they are compared side by side.
-pub fn has_child<'a>(live: &'a [bool; 64], parent: &'a [u8; 64], i: usize) -> bool
-    requires { ⌜ i < 64 ⌝ }
+pub fn has_child<'a>(live: &'a [bool; SCOPES], parent: &'a [u8; SCOPES], i: usize) -> bool
+    requires { ⌜ i < SCOPES ⌝ }
     ensures { λ r. ⌜ r ≡ hasChild (now (live .entry)) (now (parent .entry)) i ⌝ }
 {
     let up = i as u8;
     let mut hit = false;
     let mut j: usize = 0;
-    while j < 64 {
+    while j < SCOPES {
         hit = hit | (live[j] & (parent[j] == up));
         j += 1;
     }
@@ -74,14 +79,14 @@ fn close(s: Scopes, i: usize) -> Outcome
 
 // The outcome for the whole state, where all its arrays were lent.
 fn made(
-    halves: [u64; 16],
-    links: [u16; 2178],
-    owner: [u8; 1024],
-    live: [bool; 64],
-    dangled: [bool; 64],
-    parent: [u8; 64],
-    number: [u32; 64],
-    bindings: [u64; 256],
+    halves: [u64; HALVES],
+    links: [u16; LINKS],
+    owner: [u8; SLOTS],
+    live: [bool; SCOPES],
+    dangled: [bool; SCOPES],
+    parent: [u8; SCOPES],
+    number: [u32; SCOPES],
+    bindings: [u64; BINDINGS],
     o: LentOutcome,
 ) -> Outcome
     ensures { λ r. ⌜ r ≡ record { state = made halves links owner live dangled parent number bindings (o .numbers); reply = o .reply } ⌝ }
@@ -129,7 +134,7 @@ pub fn pop_last(s: Scopes) -> Outcome
     requires { ⌜ Sound s ⌝ }
     ensures { λ r. ⌜ (seen r ≡ toldOnly (view s) (rule.popLastScope base (view s))) × Sound (r .state) ⌝ }
 {
-    if s.top == 64 {
+    if s.top == SCOPES {
         return Outcome {
             state: s,
             reply: Reply::Refused(3),

@@ -2,11 +2,13 @@
 ghost use mathlib.Core.Path.{_≡_};
 ghost use Prim.Native.Nat.{ℕ, _≤_};
 ghost use lib.ListN.{length, getD, take};
+ghost use Rattle.rules.specs.Sizes.{SLOTS};
 ghost use Rattle.rules.specs.Scopes as rule;
 ghost use Rattle.scopes.specs.View.{view};
 ghost use Rattle.scopes.specs.Sound.{Sound};
 use crate::Scopes;
 use crate::lent::drain as lent;
+use rules::SLOTS;
 
 pub struct Drained {
     pub state: Scopes,
@@ -14,10 +16,10 @@ pub struct Drained {
 }
 
 // The dangling list goes into `out`, in order, and is empty then; `out` stays as it was from `count` on.
-pub fn drain(s: Scopes, out: &mut [u16; 1024]) -> Drained
-    requires { ⌜ Sound s × (length (now out) ≡ 1024) ⌝ }
+pub fn drain(s: Scopes, out: &mut [u16; SLOTS]) -> Drained
+    requires { ⌜ Sound s × (length (now out) ≡ SLOTS) ⌝ }
     ensures { λ r. ⌜ (view (r .state) ≡ rule.drainDangling (view s) .1) × (take (r .count) (now (out .exit)) ≡ rule.drainDangling (view s) .0) × Sound (r .state) ⌝ }
-    ensures { λ r. ⌜ ((k : ℕ) → r .count ≤ k → getD (now (out .exit)) k 0 ≡ getD (now (out .entry)) k 0) × (length (now (out .exit)) ≡ 1024) × (r .count ≤ 1024) ⌝ }
+    ensures { λ r. ⌜ ((k : ℕ) → r .count ≤ k → getD (now (out .exit)) k 0 ≡ getD (now (out .entry)) k 0) × (length (now (out .exit)) ≡ SLOTS) × (r .count ≤ SLOTS) ⌝ }
 {
     let mut links = s.links;
     let mut owner = s.owner;

@@ -14,7 +14,21 @@ ghost use Rattle.rules.specs.Scopes.{freshScopes};
 ghost use Rattle.scopes.specs.View.{view};
 ghost use Rattle.scopes.specs.Sound.{Sound};
 ghost use Rattle.scopes.specs.Lent.{numbersOf};
+use rules::BINDINGS;
+use rules::DANGLING;
+use rules::HALVES;
+use rules::LINKS;
+use rules::LISTS;
+use rules::SCOPES;
+use rules::SLOTS;
 use slots::SlotAddress;
+
+// Whose a slot is that no scope owns.
+pub const OF_DANGLING: u8 = DANGLING as u8;
+
+pub const OF_NOBODY: u8 = LISTS as u8;
+
+pub const NO_PARENT: u8 = SCOPES as u8;
 
 pub struct HandleNumber(pub u16);
 
@@ -25,18 +39,18 @@ pub struct ScopeId {
 }
 
 pub struct Scopes {
-    pub halves: [u64; 16], // slots: bit a % 64 of half a / 64
-    pub links: [u16; 2178], // 65 lists: those of the scopes, and at 64 the dangling list
-    pub owner: [u8; 1024], // the scope that owns the slot; 64: it is dangling, 65: neither
-    pub live: [bool; 64],
-    pub dangled: [bool; 64],
-    pub parent: [u8; 64], // 64: none
-    pub number: [u32; 64],
-    pub bindings: [u64; 256], // in order of definition, each in one number: scope, name, address, handle, moved
+    pub halves: [u64; HALVES], // slots: bit a % 64 of half a / 64
+    pub links: [u16; LINKS], // the lists of the scopes, and at DANGLING the dangling list
+    pub owner: [u8; SLOTS], // the scope that owns the slot; OF_DANGLING: it is dangling, OF_NOBODY: neither
+    pub live: [bool; SCOPES],
+    pub dangled: [bool; SCOPES],
+    pub parent: [u8; SCOPES], // or NO_PARENT
+    pub number: [u32; SCOPES],
+    pub bindings: [u64; BINDINGS], // in order of definition, each in one number: scope, name, address, handle, moved
     pub count: usize, // of bindings
     pub segments: usize, // L
     pub head: usize, // H
-    pub top: usize, // 64: no top
+    pub top: usize, // SCOPES: no top
     pub counter: u32,
     pub size: usize,
 }
@@ -95,17 +109,17 @@ pub fn fresh() -> Scopes
     ensures { λ r. ⌜ (view r ≡ freshScopes) × Sound r ⌝ }
 {
     let links = links::fresh();
-    let mut live = [false; 64];
+    let mut live = [false; SCOPES];
     live[0] = true;
     Scopes {
-        halves: [0u64; 16],
+        halves: [0u64; HALVES],
         links: links,
-        owner: [65u8; 1024],
+        owner: [OF_NOBODY; SLOTS],
         live: live,
-        dangled: [false; 64],
-        parent: [64u8; 64],
-        number: [0u32; 64],
-        bindings: [0u64; 256],
+        dangled: [false; SCOPES],
+        parent: [NO_PARENT; SCOPES],
+        number: [0u32; SCOPES],
+        bindings: [0u64; BINDINGS],
         count: 0,
         segments: 0,
         head: 0,

@@ -5,7 +5,7 @@ ghost use mathlib.Core.Logic.{_≢_};
 ghost use mathlib.Core.List.{List};
 ghost use Prim.Native.Nat.{ℕ, _+_, _%_, _≤_, _<_};
 ghost use lib.ListN.{length, getD};
-ghost use Rattle.rules.specs.Sizes.{base};
+ghost use Rattle.rules.specs.Sizes.{base, BINDINGS, SCOPES};
 ghost use Rattle.rules.specs.Scopes as rule;
 ghost use Rattle.scopes.specs.View.{view, binding, bindingsOf, bound, defined, seen, told, toldOnly, replied};
 ghost use Rattle.scopes.specs.Sound.{Sound};
@@ -20,34 +20,53 @@ use crate::Scopes;
 use crate::lent::names as lent;
 use crate::numbers_of;
 use crate::open::wide8;
+use rules::BINDINGS;
+use rules::SCOPES;
+use rules::WORD;
 use slots::SlotAddress;
 
-// The place of the binding of `name` in scope i, or 256.
-pub fn find(bindings: &[u64; 256], count: usize, i: usize, name: u16) -> usize
-    requires { ⌜ (count ≤ 256) × (i < 64) × (length (now bindings) ≡ 256) ⌝ }
+// ---- a binding in one number
+
+// From the low end: moved 1 bit, then handle, address and name, 16 bits each, then the scope. What each part is counted in:
+pub const HANDLE_PART: u64 = 2;
+
+pub const ADDRESS_PART: u64 = WORD * HANDLE_PART;
+
+pub const NAME_PART: u64 = WORD * ADDRESS_PART;
+
+pub const SCOPE_PART: u64 = WORD * NAME_PART;
+
+// No place among the bindings.
+const NO_PLACE: u16 = BINDINGS as u16;
+
+const WIDE_SCOPES: u64 = SCOPES as u64;
+
+// The place of the binding of `name` in scope i, or BINDINGS.
+pub fn find(bindings: &[u64; BINDINGS], count: usize, i: usize, name: u16) -> usize
+    requires { ⌜ (count ≤ BINDINGS) × (i < SCOPES) × (length (now bindings) ≡ BINDINGS) ⌝ }
     ensures { λ r. ⌜ Spot (now (bindings .entry)) count i name r ⌝ }
 {
-    let key = (i as u64) * 65536 + (name as u64);
+    let key = (i as u64) * WORD + (name as u64);
     let mut j: usize = 0;
     while j < count {
-        if bindings[j] / 8589934592 == key {
+        if bindings[j] / NAME_PART == key {
             return j;
         }
         j += 1;
     }
-    256
+    BINDINGS
 }
 
 // Whether one of the eight bindings from `from` on is of `name`; all eight are looked at, so that they are compared side by side.
-fn named(bindings: &[u64; 256], from: usize, name: u16) -> bool
-    requires { ⌜ (from + 8 ≤ 256) × (length (now bindings) ≡ 256) ⌝ }
+fn named(bindings: &[u64; BINDINGS], from: usize, name: u16) -> bool
+    requires { ⌜ (from + 8 ≤ BINDINGS) × (length (now bindings) ≡ BINDINGS) ⌝ }
     ensures { λ r. ⌜ (r ≡ false → (i j : ℕ) → from ≤ j → j < from + 8 → binds (now (bindings .entry)) name i j ≡ false) ⌝ }
 {
     let key = name as u64;
     let mut hit = false;
     let mut k: usize = 0;
     while k < 8 {
-        if bindings[from + k] / 8589934592 % 65536 == key {
+        if bindings[from + k] / NAME_PART % WORD == key {
             hit = true;
         }
         k += 1;
@@ -56,18 +75,18 @@ fn named(bindings: &[u64; 256], from: usize, name: u16) -> bool
 }
 
 // Where `places` has each scope's first place from `to` on, it has that from `from` on then.
-fn note(places: &mut [u16; 64], bindings: &[u64; 256], from: usize, to: usize, name: u16)
-    requires { ⌜ (from ≤ to) × (to ≤ 256) × (length (now bindings) ≡ 256) × (length (now places) ≡ 64) ⌝ }
-    ensures { λ r. ⌜ (length (now (places .exit)) ≡ 64) × ((count : ℕ) → to ≤ count → count ≤ 256 → Noted (now (bindings .entry)) name to count (now (places .entry)) → Noted (now (bindings .entry)) name from count (now (places .exit))) ⌝ }
+fn note(places: &mut [u16; SCOPES], bindings: &[u64; BINDINGS], from: usize, to: usize, name: u16)
+    requires { ⌜ (from ≤ to) × (to ≤ BINDINGS) × (length (now bindings) ≡ BINDINGS) × (length (now places) ≡ SCOPES) ⌝ }
+    ensures { λ r. ⌜ (length (now (places .exit)) ≡ SCOPES) × ((count : ℕ) → to ≤ count → count ≤ BINDINGS → Noted (now (bindings .entry)) name to count (now (places .entry)) → Noted (now (bindings .entry)) name from count (now (places .exit))) ⌝ }
 {
     let key = name as u64;
     let mut j = to;
     while from < j {
         j -= 1;
         let b = bindings[j];
-        let i = b / 562949953421312;
-        if b / 8589934592 % 65536 == key {
-            if i < 64 {
+        let i = b / SCOPE_PART;
+        if b / NAME_PART % WORD == key {
+            if i < WIDE_SCOPES {
                 places[i as usize] = j as u16;
             }
         }
@@ -82,25 +101,25 @@ fn wide16(x: u16) -> usize
 
 // Looked for in scope i, then in its parent, `left` scopes at most; `places` has the place in each.
 fn climb<'a>(
-    live: &'a [bool; 64],
-    parent: &'a [u8; 64],
-    places: &'a [u16; 64],
+    live: &'a [bool; SCOPES],
+    parent: &'a [u8; SCOPES],
+    places: &'a [u16; SCOPES],
     i: usize,
     left: usize,
 ) -> usize
     ensures { λ r. ⌜ ((bindings : List ℕ) (count name : ℕ) → Placed bindings count name (now (places .entry)) → Climbs (now (live .entry)) (now (parent .entry)) bindings count name i left r) ⌝ }
 {
     if left == 0 {
-        return 256;
+        return BINDINGS;
     }
-    if 64 <= i {
-        return 256;
+    if SCOPES <= i {
+        return BINDINGS;
     }
     if !live[i] {
-        return 256;
+        return BINDINGS;
     }
     let j = wide16(places[i]);
-    if j < 256 {
+    if j < BINDINGS {
         return j;
     }
     climb(live, parent, places, wide8(parent[i]), left - 1)
@@ -109,18 +128,18 @@ fn climb<'a>(
 // The nearest binding of `name`: looked for in scope i, then in its parent, `left` scopes at most.
 // One walk over the bindings serves all scopes, the last binding first, so that a scope's first place stays.
 pub fn lookup<'a>(
-    live: &'a [bool; 64],
-    parent: &'a [u8; 64],
-    bindings: &'a [u64; 256],
+    live: &'a [bool; SCOPES],
+    parent: &'a [u8; SCOPES],
+    bindings: &'a [u64; BINDINGS],
     count: usize,
     name: u16,
     i: usize,
     left: usize,
 ) -> usize
-    requires { ⌜ (count ≤ 256) × (length (now bindings) ≡ 256) × (length (now live) ≡ 64) ⌝ }
+    requires { ⌜ (count ≤ BINDINGS) × (length (now bindings) ≡ BINDINGS) × (length (now live) ≡ SCOPES) ⌝ }
     ensures { λ r. ⌜ Climbs (now (live .entry)) (now (parent .entry)) (now (bindings .entry)) count name i left r ⌝ }
 {
-    let mut places: [u16; 64] = [256; 64];
+    let mut places: [u16; SCOPES] = [NO_PLACE; SCOPES];
     let mut j = count;
     while 8 <= j {
         j -= 8;
@@ -137,8 +156,8 @@ pub fn bound_of(b: u64) -> Bound
     ensures { λ r. ⌜ (r .address .0 ≡ binding b .address) × (r .handle .0 ≡ binding b .handle) ⌝ }
 {
     Bound {
-        address: SlotAddress((b / 131072 % 65536) as u16),
-        handle: HandleNumber((b / 2 % 65536) as u16),
+        address: SlotAddress((b / ADDRESS_PART % WORD) as u16),
+        handle: HandleNumber((b / HANDLE_PART % WORD) as u16),
     }
 }
 
@@ -152,25 +171,25 @@ pub fn moved(b: u64) -> u64
 
 // A binding in one number.
 pub fn packed(i: usize, name: u16, address: SlotAddress, handle: HandleNumber) -> u64
-    requires { ⌜ i < 64 ⌝ }
+    requires { ⌜ i < SCOPES ⌝ }
     ensures { λ r. ⌜ binding r ≡ record { scope = i; name = name; address = address .0; handle = handle .0; moved = false } ⌝ }
 {
-    let key = (i as u64) * 65536 + (name as u64);
-    let place = (address.0 as u64) * 131072 + (handle.0 as u64) * 2;
-    key * 8589934592 + place
+    let key = (i as u64) * WORD + (name as u64);
+    let place = (address.0 as u64) * ADDRESS_PART + (handle.0 as u64) * HANDLE_PART;
+    key * NAME_PART + place
 }
 
 // The bindings of scope i go; the others keep their order. How many are left.
-pub fn forget_names(bindings: &mut [u64; 256], count: usize, i: usize) -> usize
-    requires { ⌜ (count ≤ 256) × (length (now bindings) ≡ 256) ⌝ }
-    ensures { λ r. ⌜ (r ≤ count) × (bindingsOf (now (bindings .exit)) r ≡ rule.unbound i (bindingsOf (now (bindings .entry)) count)) × (length (now (bindings .exit)) ≡ 256) ⌝ }
+pub fn forget_names(bindings: &mut [u64; BINDINGS], count: usize, i: usize) -> usize
+    requires { ⌜ (count ≤ BINDINGS) × (length (now bindings) ≡ BINDINGS) ⌝ }
+    ensures { λ r. ⌜ (r ≤ count) × (bindingsOf (now (bindings .exit)) r ≡ rule.unbound i (bindingsOf (now (bindings .entry)) count)) × (length (now (bindings .exit)) ≡ BINDINGS) ⌝ }
     ensures { λ r. ⌜ (((j : ℕ) → count ≤ j → getD (now (bindings .entry)) j 0 ≡ 0) → (j : ℕ) → r ≤ j → getD (now (bindings .exit)) j 0 ≡ 0) ⌝ }
 {
     let mut w: usize = 0;
     let mut j: usize = 0;
     while j < count {
         let b = bindings[j];
-        if b / 562949953421312 != i as u64 {
+        if b / SCOPE_PART != i as u64 {
             bindings[w] = b;
             w += 1;
         }
@@ -181,8 +200,8 @@ pub fn forget_names(bindings: &mut [u64; 256], count: usize, i: usize) -> usize
 }
 
 // The places from `from` up to `to` hold 0 then.
-fn wipe(bindings: &mut [u64; 256], from: usize, to: usize)
-    requires { ⌜ (from ≤ to) × (to ≤ 256) × (length (now bindings) ≡ 256) ⌝ }
+fn wipe(bindings: &mut [u64; BINDINGS], from: usize, to: usize)
+    requires { ⌜ (from ≤ to) × (to ≤ BINDINGS) × (length (now bindings) ≡ BINDINGS) ⌝ }
     ensures { λ r. ⌜ Wiped (now (bindings .entry)) from to (now (bindings .exit)) ⌝ }
 {
     let mut j = from;
@@ -195,7 +214,7 @@ fn wipe(bindings: &mut [u64; 256], from: usize, to: usize)
 // ---- by value
 
 // The outcome for the whole state, where its bindings were lent.
-fn with_names(s: Scopes, bindings: [u64; 256], o: LentOutcome) -> Outcome
+fn with_names(s: Scopes, bindings: [u64; BINDINGS], o: LentOutcome) -> Outcome
     ensures { λ r. ⌜ r ≡ record { state = withNames s bindings (o .numbers); reply = o .reply } ⌝ }
 {
     let n = o.numbers;

@@ -15,6 +15,7 @@ use crate::ScopeId;
 use crate::Scopes;
 use crate::lent::open as lent;
 use crate::numbers_of;
+use rules::SCOPES;
 
 pub fn wide8(x: u8) -> usize
     ensures { λ r. ⌜ r ≡ x ⌝ }
@@ -23,25 +24,25 @@ pub fn wide8(x: u8) -> usize
 }
 
 // The lowest scope from 1 on that is not live, or 64.
-pub fn free_index(live: &[bool; 64]) -> usize
+pub fn free_index(live: &[bool; SCOPES]) -> usize
     ensures { λ r. ⌜ r ≡ lowest (isFree (now (live .entry))) 1 ⌝ }
 {
     let mut i: usize = 1;
-    while i < 64 {
+    while i < SCOPES {
         if !live[i] {
             return i;
         }
         i += 1;
     }
-    64
+    SCOPES
 }
 
 // The lowest live scope with this number, or 64.
-pub fn with_number<'a>(live: &'a [bool; 64], number: &'a [u32; 64], n: u32) -> usize
+pub fn with_number<'a>(live: &'a [bool; SCOPES], number: &'a [u32; SCOPES], n: u32) -> usize
     ensures { λ r. ⌜ r ≡ lowest (hasNumber (now (live .entry)) (now (number .entry)) n) 0 ⌝ }
 {
     let mut i: usize = 0;
-    while i < 64 {
+    while i < SCOPES {
         if live[i] {
             if number[i] == n {
                 return i;
@@ -49,36 +50,36 @@ pub fn with_number<'a>(live: &'a [bool; 64], number: &'a [u32; 64], n: u32) -> u
         }
         i += 1;
     }
-    64
+    SCOPES
 }
 
 // The index of the live scope with this id, or 64.
-pub fn place_of<'a>(live: &'a [bool; 64], number: &'a [u32; 64], id: ScopeId) -> usize
+pub fn place_of<'a>(live: &'a [bool; SCOPES], number: &'a [u32; SCOPES], id: ScopeId) -> usize
     ensures { λ r. ⌜ r ≡ placeOf (now (live .entry)) (now (number .entry)) (id .index) (id .number) ⌝ }
 {
     let i = wide8(id.index);
-    if i < 64 {
+    if i < SCOPES {
         if live[i] {
             if number[i] == id.number {
                 return i;
             }
         }
     }
-    64
+    SCOPES
 }
 
 // Why pop and dangle (`mark` false) or restore (`mark` true) refuse a scope: 4 or 5, and 0 where they don't.
 pub fn refusal<'a>(
-    live: &'a [bool; 64],
-    dangled: &'a [bool; 64],
-    number: &'a [u32; 64],
+    live: &'a [bool; SCOPES],
+    dangled: &'a [bool; SCOPES],
+    number: &'a [u32; SCOPES],
     id: ScopeId,
     mark: bool,
 ) -> u8
     ensures { λ r. ⌜ r ≡ refusal (now (dangled .entry)) mark (placeOf (now (live .entry)) (now (number .entry)) (id .index) (id .number)) ⌝ }
 {
     let i = place_of(live, number, id);
-    if i == 64 {
+    if i == SCOPES {
         return 4;
     }
     if i == 0 {
@@ -95,10 +96,10 @@ pub fn refusal<'a>(
 // The outcome for the whole state, where the arrays of its scopes were lent.
 fn with_scopes(
     s: Scopes,
-    live: [bool; 64],
-    dangled: [bool; 64],
-    parent: [u8; 64],
-    number: [u32; 64],
+    live: [bool; SCOPES],
+    dangled: [bool; SCOPES],
+    parent: [u8; SCOPES],
+    number: [u32; SCOPES],
     o: LentOutcome,
 ) -> Outcome
     ensures { λ r. ⌜ r ≡ record { state = withScopes s live dangled parent number (o .numbers); reply = o .reply } ⌝ }

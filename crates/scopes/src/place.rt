@@ -13,15 +13,18 @@ use crate::ScopeId;
 use crate::Scopes;
 use crate::lent::place as lent;
 use crate::numbers_of;
+use rules::HALVES;
+use rules::LINKS;
+use rules::SLOTS;
 use slots::Place;
 use slots::SlotAddress;
 
 // The outcome for the whole state, where the arrays of its slots were lent.
 fn with_slots(
     s: Scopes,
-    halves: [u64; 16],
-    links: [u16; 2178],
-    owner: [u8; 1024],
+    halves: [u64; HALVES],
+    links: [u16; LINKS],
+    owner: [u8; SLOTS],
     o: LentOutcome,
 ) -> Outcome
     ensures { λ r. ⌜ r ≡ record { state = withSlots s halves links owner (o .numbers); reply = o .reply } ⌝ }

@@ -9,7 +9,7 @@ use native.Mathlib.Omega.{arith}
 use lib.Dec.{ltb}
 use borrow.Author.Tests.{ne-eqb, lt-ltb, le-ltb}
 use Rattle.rules.specs.Notation.{given, put, first, pastLast}
-use Rattle.rules.specs.Sizes.{base}
+use Rattle.rules.specs.Sizes.{base, SEGMENTS, SLOTS}
 use Rattle.rules.specs.Sound.{soundSlots}
 use Rattle.rules.specs.Slots.{Slots, placed, Placement, pastGreatest, pushAt, pushes, pushRun, edition1, lowestOfAll, takeAt, insertLowest, edition2, vacant, takeRun, exactly, Place, byHead, lowest, placing}
 use Rattle.rules.specs.Tells.{Tells}
@@ -24,10 +24,10 @@ use Rattle.slots.specs.Promises.{refusing, placedOr7}
 use Rattle.slots.specs.declared.Spot.{Spot}
 use Rattle.slots.proofs.Steps.{grown-new, grown-stays, insert-none, insert-some}
 
-pub goes-none : {place : Placement} {n : ℕ} {s : Slots} {r : Spot} → place n s ≡ none → r .address ≡ 1024 → Goes place n s r
+pub goes-none : {place : Placement} {n : ℕ} {s : Slots} {r : Spot} → place n s ≡ none → r .address ≡ SLOTS → Goes place n s r
 goes-none e q = record { nowhere = λ _. e; there = λ ne. absurd (ne q) }
 
-pub goes-some : {place : Placement} {n : ℕ} {s : Slots} {r : Spot} → place n s ≡ placed (r .address) (after s n r) → r .address < 1024 → Goes place n s r
+pub goes-some : {place : Placement} {n : ℕ} {s : Slots} {r : Spot} → place n s ≡ placed (r .address) (after s n r) → r .address < SLOTS → Goes place n s r
 goes-some e l = record { nowhere = λ q. absurd (omega arith); there = λ _. e }
 
 -- two placements that put n slots of s alike
@@ -71,15 +71,15 @@ pushes-after (suc n) g s =
     pushes-after n (suc g) (pushAt g s)
     ∙ (λ u. record { occupied = filled (suc g) (suc n) (put (s .occupied) g true); segments = pushed-more (s .segments) g n u; head = s .head })
 
-module _ (s : Slots) (n g : ℕ) (e : g ≡ pastLast (s .occupied) 1024) where
-  pub run-none : 1024 < g + n → pushRun 8 n s ≡ none
+module _ (s : Slots) (n g : ℕ) (e : g ≡ pastLast (s .occupied) SLOTS) where
+  pub run-none : SLOTS < g + n → pushRun SEGMENTS n s ≡ none
   unfolding pushRun pastGreatest
-  run-none l = rw (lt-ltb 1024 (pastLast (s .occupied) 1024 + n) (omega arith), pushRun)
+  run-none l = rw (lt-ltb SLOTS (pastLast (s .occupied) SLOTS + n) (omega arith), pushRun)
 
-  pub run-some : 0 < n → g + n ≤ 1024 → pushRun 8 n s ≡ placed g (after s n (pushedFrom (s .segments) (s .head) g n))
+  pub run-some : 0 < n → g + n ≤ SLOTS → pushRun SEGMENTS n s ≡ placed g (after s n (pushedFrom (s .segments) (s .head) g n))
   unfolding pushRun pastGreatest
   run-some pos l =
-      rw (le-ltb 1024 (pastLast (s .occupied) 1024 + n) (omega arith), pushRun)
+      rw (le-ltb SLOTS (pastLast (s .occupied) SLOTS + n) (omega arith), pushRun)
       (ap (λ (x : ℕ). placed x (pushes x n s)) (sym e) ∙ ap (placed g) (go n pos))
     where
       go : (m : ℕ) → 0 < m → pushes g m s ≡ after s m (pushedFrom (s .segments) (s .head) g m)
@@ -94,30 +94,30 @@ unfolding takeAt filled
 one-after s a = refl
 
 module _ (s : Slots) (n : ℕ) (r : Spot) where
-  pub goes-by-head : soundSlots 8 s ≡ true → (m : ℕ) → m ≡ min (s .head) (s .segments) → GoesFrom m n s r → Goes (placing 8 byHead) n s r
+  pub goes-by-head : soundSlots SEGMENTS s ≡ true → (m : ℕ) → m ≡ min (s .head) (s .segments) → GoesFrom m n s r → Goes (placing SEGMENTS byHead) n s r
   unfolding placing edition1 takeAt
   goes-by-head y m em g =
       by-cases (ℕ-discrete n 1)
-      (λ z. subst (λ (x : ℕ). Goes (placing 8 byHead) x s r) (sym z) (subst (Goes (placing 8 byHead) 1 s) (sym (g .one z)) (one (firstClear (s .occupied) (128 * m) (1024 - 128 * m)) refl)))
+      (λ z. subst (λ (x : ℕ). Goes (placing SEGMENTS byHead) x s r) (sym z) (subst (Goes (placing SEGMENTS byHead) 1 s) (sym (g .one z)) (one (firstClear (s .occupied) (128 * m) (SLOTS - 128 * m)) refl)))
       (λ ne. goes-as (rw (ne-eqb n 1 ne, edition1)) (g .run ne))
     where
-      one : (a : ℕ) → a ≡ firstClear (s .occupied) (128 * m) (1024 - 128 * m) → Goes (placing 8 byHead) 1 s (takenAt (s .segments) a)
+      one : (a : ℕ) → a ≡ firstClear (s .occupied) (128 * m) (SLOTS - 128 * m) → Goes (placing SEGMENTS byHead) 1 s (takenAt (s .segments) a)
       one a e =
           record {
-            nowhere = λ z. insert-none 8 s y m a em e z;
-            there = λ ne. insert-some 8 s y m a em e ne ∙ ap (placed a) (one-after s a);
+            nowhere = λ z. insert-none SEGMENTS s y m a em e z;
+            there = λ ne. insert-some SEGMENTS s y m a em e ne ∙ ap (placed a) (one-after s a);
           }
 
-  pub goes-lowest : GoesFrom 0 n s r → Goes (placing 8 lowest) n s r
+  pub goes-lowest : GoesFrom 0 n s r → Goes (placing SEGMENTS lowest) n s r
   unfolding placing edition2 insertLowest lowestOfAll
   goes-lowest g =
       by-cases (ℕ-discrete n 1)
-      (λ z. subst (λ (x : ℕ). Goes (placing 8 lowest) x s r) (sym z) (subst (Goes (placing 8 lowest) 1 s) (sym (g .one z)) (one (first (λ a. not (s .occupied a)) 0 1024) refl)))
+      (λ z. subst (λ (x : ℕ). Goes (placing SEGMENTS lowest) x s r) (sym z) (subst (Goes (placing SEGMENTS lowest) 1 s) (sym (g .one z)) (one (first (λ a. not (s .occupied a)) 0 SLOTS) refl)))
       (λ ne. goes-as (rw (ne-eqb n 1 ne, edition2)) (g .run ne))
     where
-      one : (o : Option ℕ) → first (λ a. not (s .occupied a)) 0 1024 ≡ o → Goes (placing 8 lowest) 1 s (takenAt (s .segments) (firstClear (s .occupied) 0 1024))
+      one : (o : Option ℕ) → first (λ a. not (s .occupied a)) 0 SLOTS ≡ o → Goes (placing SEGMENTS lowest) 1 s (takenAt (s .segments) (firstClear (s .occupied) 0 SLOTS))
       one none e = rw e (goes-none (rw (e, insertLowest, lowestOfAll)) refl)
-      one (some a) e = rw e (goes-some (rw (e, insertLowest, lowestOfAll) (ap (placed a) (one-after s a))) (first-found (λ a. not (s .occupied a)) 0 1024 a e .high))
+      one (some a) e = rw e (goes-some (rw (e, insertLowest, lowestOfAll) (ap (placed a) (one-after s a))) (first-found (λ a. not (s .occupied a)) 0 SLOTS a e .high))
 
 -- ---- exactly at an address
 
@@ -140,14 +140,14 @@ pub clear-on : (f : ℕ → Bool) (a i : ℕ) → ((j : ℕ) → j < i → f (a 
 clear-on f a i all here j l = by-cases (decLt j i) (all j) (λ n. let e : i ≡ j = omega arith in subst (λ (x : ℕ). f (a + x) ≡ false) e here)
 
 module _ (s : Slots) (n a : ℕ) where
-  tells-vacant : Tells (vacant 8 a n s) (Vacant (s .occupied) a n)
-  tells-vacant = vacant-tells 8 a n s
+  tells-vacant : Tells (vacant SEGMENTS a n s) (Vacant (s .occupied) a n)
+  tells-vacant = vacant-tells SEGMENTS a n s
 
-  pub at-none : (b : Bool) → Tells b (Vacant (s .occupied) a n) → b ≡ false → exactly 8 a n s ≡ none
+  pub at-none : (b : Bool) → Tells b (Vacant (s .occupied) a n) → b ≡ false → exactly SEGMENTS a n s ≡ none
   unfolding exactly
-  at-none b t e = rw (is-false (vacant 8 a n s) (λ y. clash (t .shows (tells-vacant .holds y)) e), exactly)
+  at-none b t e = rw (is-false (vacant SEGMENTS a n s) (λ y. clash (t .shows (tells-vacant .holds y)) e), exactly)
 
-  at-some : Vacant (s .occupied) a n → 0 < n → exactly 8 a n s ≡ placed a (after s n (takenFrom (s .segments) a n))
+  at-some : Vacant (s .occupied) a n → 0 < n → exactly SEGMENTS a n s ≡ placed a (after s n (takenFrom (s .segments) a n))
   unfolding exactly
   at-some v pos = rw (tells-vacant .shows v, exactly) (ap (placed a) (go n pos))
     where
@@ -155,29 +155,29 @@ module _ (s : Slots) (n a : ℕ) where
       go zero z = absurd (omega arith)
       go (suc m) z = takes-after m a s
 
-  pub at-there : (r : Spot) → Vacant (s .occupied) a n → 0 < n → r ≡ takenFrom (s .segments) a n → Goes (exactly 8 a) n s r
-  at-there r v pos q = subst (Goes (exactly 8 a) n s) (sym q) (goes-some (at-some v pos) (omega (arith, v .0)))
+  pub at-there : (r : Spot) → Vacant (s .occupied) a n → 0 < n → r ≡ takenFrom (s .segments) a n → Goes (exactly SEGMENTS a) n s r
+  at-there r v pos q = subst (Goes (exactly SEGMENTS a) n s) (sym q) (goes-some (at-some v pos) (omega (arith, v .0)))
 
 -- ---- what `from_on` returns
 
 module _ (s : Slots) (n : ℕ) (r : Spot) where
-  pub from-one : (from a : ℕ) → n ≡ 1 → a ≡ firstClear (s .occupied) (128 * from) (1024 - 128 * from) → r ≡ takenAt (s .segments) a → GoesFrom from n s r
+  pub from-one : (from a : ℕ) → n ≡ 1 → a ≡ firstClear (s .occupied) (128 * from) (SLOTS - 128 * from) → r ≡ takenAt (s .segments) a → GoesFrom from n s r
   from-one from a z e q = record { one = λ _. q ∙ ap (λ (x : ℕ). takenAt (s .segments) x) e; run = λ ne. absurd (ne z) }
 
-  pub from-run : (from : ℕ) → (n ≡ 1 → ⊥) → Goes (pushRun 8) n s r → GoesFrom from n s r
+  pub from-run : (from : ℕ) → (n ≡ 1 → ⊥) → Goes (pushRun SEGMENTS) n s r → GoesFrom from n s r
   from-run from ne g = record { one = λ z. absurd (ne z); run = λ _. g }
 
-  pub run-there : (g : ℕ) → g ≡ pastLast (s .occupied) 1024 → 0 < n → g + n ≤ 1024 → r ≡ pushedFrom (s .segments) (s .head) g n → Goes (pushRun 8) n s r
-  run-there g e pos l q = subst (Goes (pushRun 8) n s) (sym q) (goes-some (run-some s n g e pos l) (omega arith))
+  pub run-there : (g : ℕ) → g ≡ pastLast (s .occupied) SLOTS → 0 < n → g + n ≤ SLOTS → r ≡ pushedFrom (s .segments) (s .head) g n → Goes (pushRun SEGMENTS) n s r
+  run-there g e pos l q = subst (Goes (pushRun SEGMENTS) n s) (sym q) (goes-some (run-some s n g e pos l) (omega arith))
 
 -- ---- where it goes, the slots are clear and below the room, and the state stays in order
 
-module _ (p : Place) (n : ℕ) (s : Slots) (r : Spot) (y : soundSlots 8 s ≡ true) (g : Goes (placing 8 p) n s r) (ne : r .address ≡ 1024 → ⊥) where
-  fair : InOrder 8 (after s n r) × Gives n s (record { address = r .address; next = after s n r }) × (r .address + n ≤ 1024)
+module _ (p : Place) (n : ℕ) (s : Slots) (r : Spot) (y : soundSlots SEGMENTS s ≡ true) (g : Goes (placing SEGMENTS p) n s r) (ne : r .address ≡ SLOTS → ⊥) where
+  fair : InOrder SEGMENTS (after s n r) × Gives n s (record { address = r .address; next = after s n r }) × (r .address + n ≤ SLOTS)
   unfolding base
-  fair = placing-fair base p .placed n s _ (g .there ne) (sound-in-order 8 s (tells-slots 8 s .holds y))
+  fair = placing-fair base p .placed n s _ (g .there ne) (sound-in-order SEGMENTS s (tells-slots SEGMENTS s .holds y))
 
-  pub goes-in-order : InOrder 8 (after s n r)
+  pub goes-in-order : InOrder SEGMENTS (after s n r)
   goes-in-order = fair .0
 
   pub goes-vacant : Vacant (s .occupied) (r .address) n
@@ -186,10 +186,10 @@ module _ (p : Place) (n : ℕ) (s : Slots) (r : Spot) (y : soundSlots 8 s ≡ tr
 -- ---- one slot, as an answer
 
 module _ {place : Placement} {s : Slots} {r : Spot} (g : Goes place 1 s r) where
-  pub one-refused : r .address ≡ 1024 → refusing 7 s ≡ placedOr7 s (place 1 s)
+  pub one-refused : r .address ≡ SLOTS → refusing 7 s ≡ placedOr7 s (place 1 s)
   one-refused z = ap (placedOr7 s) (sym (g .nowhere z))
 
-  pub one-placed : {f : ℕ → Bool} → (r .address ≡ 1024 → ⊥) → f ≡ put (s .occupied) (r .address) true
+  pub one-placed : {f : ℕ → Bool} → (r .address ≡ SLOTS → ⊥) → f ≡ put (s .occupied) (r .address) true
       → record { next = record { occupied = f; segments = r .segments; head = r .head }; says = given (r .address) } ≡ placedOr7 s (place 1 s)
   unfolding filled
   one-placed ne e = (λ i. record { next = record { occupied = e i; segments = r .segments; head = r .head }; says = given (r .address) }) ∙ ap (placedOr7 s) (sym (g .there ne))

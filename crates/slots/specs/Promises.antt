@@ -6,7 +6,7 @@ use mathlib.Core.List.{List}
 use Prim.Native.Nat.{ℕ, _^_, _<_}
 use lib.ListN.{length, getD}
 use Rattle.rules.specs.Notation.{Answer, given, refused}
-use Rattle.rules.specs.Sizes.{base}
+use Rattle.rules.specs.Sizes.{base, HALVES}
 use Rattle.rules.specs.Sound.{soundSlots}
 use Rattle.rules.specs.Slots as rule
 use Rattle.slots.specs.Halves.{slotsOf}
@@ -70,7 +70,7 @@ checked n s x = elim (soundSlots n s) [ true ↦ x | false ↦ refusing 29 s ]
 
 -- what the type `[u64; 16]` says of the halves
 pub record Typed (halves : List ℕ) : Type 0 where
-  pub long : length halves ≡ 16
+  pub long : length halves ≡ HALVES
   pub wide : (i : ℕ) → getD halves i 0 < 2 ^ 64
 
 -- A call with these halves in its next state shows x, where the rules say y.

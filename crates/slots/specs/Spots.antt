@@ -5,7 +5,7 @@ use mathlib.Core.Option.{Option, none, some}
 use Prim.Native.Nat.{ℕ, zero, suc, _+_, _*_, _-_, _/_, _%_, max, _≤_, _<_}
 use lib.Dec.{ltb}
 use Rattle.rules.specs.Notation.{put}
-use Rattle.rules.specs.Sizes.{base}
+use Rattle.rules.specs.Sizes.{base, SEGMENTS, SLOTS}
 use Rattle.rules.specs.Slots as rule
 use Rattle.slots.specs.Halves.{firstClear}
 use Rattle.slots.specs.declared.Place.{Place}
@@ -24,7 +24,7 @@ placementOf p = rule.placing (base .segments) (placeOf p)
 
 -- the n slots from a on are below the room and clear
 abbrev pub Vacant : (ℕ → Bool) → ℕ → ℕ → Type 0
-Vacant occupied a n = (a + n ≤ 1024) × ((i : ℕ) → i < n → occupied (a + i) ≡ false)
+Vacant occupied a n = (a + n ≤ SLOTS) × ((i : ℕ) → i < n → occupied (a + i) ≡ false)
 
 -- the n slots from a on become occupied
 unfoldable pub filled : ℕ → ℕ → (ℕ → Bool) → ℕ → Bool
@@ -46,10 +46,10 @@ after s n r = record { occupied = filled (r .address) n (s .occupied); segments 
 
 -- r is where the placement puts n slots of s; 1,024: nowhere
 pub record Goes (place : rule.Placement) (n : ℕ) (s : rule.Slots) (r : Spot) : Type 0 where
-  pub nowhere : r .address ≡ 1024 → place n s ≡ none
-  pub there : (r .address ≡ 1024 → ⊥) → place n s ≡ rule.placed (r .address) (after s n r)
+  pub nowhere : r .address ≡ SLOTS → place n s ≡ none
+  pub there : (r .address ≡ SLOTS → ⊥) → place n s ≡ rule.placed (r .address) (after s n r)
 
 -- one slot goes to the least clear one from segment `from` on, two or more past the greatest
 pub record GoesFrom (from n : ℕ) (s : rule.Slots) (r : Spot) : Type 0 where
-  pub one : n ≡ 1 → r ≡ takenAt (s .segments) (firstClear (s .occupied) (128 * from) (1024 - 128 * from))
-  pub run : (n ≡ 1 → ⊥) → Goes (rule.pushRun 8) n s r
+  pub one : n ≡ 1 → r ≡ takenAt (s .segments) (firstClear (s .occupied) (128 * from) (SLOTS - 128 * from))
+  pub run : (n ≡ 1 → ⊥) → Goes (rule.pushRun SEGMENTS) n s r

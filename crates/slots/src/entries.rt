@@ -14,13 +14,15 @@ use crate::SlotAddress;
 use crate::Slots;
 use crate::halves;
 use crate::spots;
+use rules::HALVES;
+use rules::SLOTS;
 
 // No slot, no segment.
 pub fn fresh() -> Slots
     ensures { λ r. ⌜ FreshPromise r ⌝ }
 {
     Slots {
-        halves: [0; 16],
+        halves: [0; HALVES],
         segments: 0,
         head: 0,
     }
@@ -60,7 +62,7 @@ fn insert_sound(s: Slots, place: Place) -> Placing
     let mut t = s;
     let spot = spots::choose(&t.halves, t.segments, t.head, place, 1);
     let a = spot.address;
-    if a == 1024 {
+    if a == SLOTS {
         return Placing {
             state: t,
             answer: PlaceAnswer::Refused(7),
@@ -95,7 +97,7 @@ fn push_sound(s: Slots) -> Placing
 {
     let mut t = s;
     let g = halves::past_greatest(&t.halves);
-    if g == 1024 {
+    if g == SLOTS {
         return Placing {
             state: t,
             answer: PlaceAnswer::Refused(7),

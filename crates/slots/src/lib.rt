@@ -11,13 +11,14 @@ pub use entries::insert;
 pub use entries::insert_lowest;
 pub use entries::push;
 pub use entries::remove;
+use rules::HALVES;
 
 // The address of a slot. A handle number is another type, so that neither passes for the other.
 pub struct SlotAddress(pub u16);
 
 // The state, by value: the occupied slots, segment count L, head segment H.
 pub struct Slots {
-    pub halves: [u64; 16],
+    pub halves: [u64; HALVES],
     pub segments: usize,
     pub head: usize,
 }

@@ -11,7 +11,7 @@ use native.Mathlib.Omega.{arith}
 use lib.ListN.{length, getD}
 use borrow.Author.Tests.{eq-eqb, eqb-true, lt-ltb, le-ltb, ltb-true}
 use Rattle.rules.specs.Notation.{isSome}
-use Rattle.rules.specs.Sizes.{base}
+use Rattle.rules.specs.Sizes.{base, BINDINGS, CELLS, LISTS, SCOPES, SLOTS}
 use Rattle.rules.specs.AddressSets.{member}
 use Rattle.rules.specs.Scopes.{Scope, Binding, isFor, boundIn}
 use Rattle.rules.specs.Sound.{sound}
@@ -80,7 +80,7 @@ live-is : (b : Bool) (k : Scope) → isSome (onlyIf b k) ≡ b
 live-is true k = refl
 live-is false k = refl
 
-module _ (s : Scopes) (long : length (s .live) ≡ 64) (room : length (s .bindings) ≡ 256) where
+module _ (s : Scopes) (long : length (s .live) ≡ SCOPES) (room : length (s .bindings) ≡ BINDINGS) where
   abbrev seen : ℕ → Option Scope
   seen = view s .live
 
@@ -101,65 +101,65 @@ module _ (s : Scopes) (long : length (s .live) ≡ 64) (room : length (s .bindin
 
   -- ---- the lists: those of closed scopes are empty
 
-  module _ (cells : Ringed (s .links) (s .owner)) (none : (i : ℕ) → i < 64 → live i ≡ false → held (s .links) i ≡ []) where
-    same : (i : ℕ) → i < 64 → rule.listsOf seen i ≡ held (s .links) i
+  module _ (cells : Ringed (s .links) (s .owner)) (none : (i : ℕ) → i < SCOPES → live i ≡ false → held (s .links) i ≡ []) where
+    same : (i : ℕ) → i < SCOPES → rule.listsOf seen i ≡ held (s .links) i
     same i h = decided (live i) (list-live i) (λ d. list-dead i d ∙ sym (none i h d))
 
     -- a member's owner
-    owner-is : (i a : ℕ) → i < 65 → member a (held (s .links) i) ≡ true → (a < 1024) × (owner a ≡ i)
+    owner-is : (i a : ℕ) → i < LISTS → member a (held (s .links) i) ≡ true → (a < SLOTS) × (owner a ≡ i)
     owner-is i a h p =
-        let ha : a < 1024 = cells .rings .ring i h .addr a p in
+        let ha : a < SLOTS = cells .rings .ring i h .addr a p in
         (ha, eqb-true (owner a) i (sym (cells .tells a i ha h) ∙ p))
 
-    seen-owner : (i a : ℕ) → i < 64 → member a (rule.listsOf seen i) ≡ true → (a < 1024) × (owner a ≡ i)
+    seen-owner : (i a : ℕ) → i < SCOPES → member a (rule.listsOf seen i) ≡ true → (a < SLOTS) × (owner a ≡ i)
     seen-owner i a h p = owner-is i a (omega arith) (ap (member a) (sym (same i h)) ∙ p)
 
-    owner-has : (a : ℕ) → a < 1024 → owner a < 64 → member a (rule.listsOf seen (owner a)) ≡ true
+    owner-has : (a : ℕ) → a < SLOTS → owner a < SCOPES → member a (rule.listsOf seen (owner a)) ≡ true
     owner-has a ha h = ap (member a) (same (owner a) h) ∙ cells .tells a (owner a) ha (omega arith) ∙ eq-eqb (owner a) (owner a) refl
 
-    once : (i : ℕ) → i < 65 → Once (held (s .links) i)
-    once i h = ring-once 1024 65 (nextIn (s .links)) (prevIn 1089 (s .links)) (1024 + i) (held (s .links) i) (omega arith) (cells .rings .ring i h)
+    once : (i : ℕ) → i < LISTS → Once (held (s .links) i)
+    once i h = ring-once SLOTS LISTS (nextIn (s .links)) (prevIn CELLS (s .links)) (SLOTS + i) (held (s .links) i) (omega arith) (cells .rings .ring i h)
 
-    owned-rule : Owned (s .halves) (s .owner) (s .live) (s .size) → rule.OwnedSound 1024 64 (occ (s .halves)) (rule.listsOf seen)
+    owned-rule : Owned (s .halves) (s .owner) (s .live) (s .size) → rule.OwnedSound SLOTS SCOPES (occ (s .halves)) (rule.listsOf seen)
     owned-rule h =
         record {
           once = λ i l. rw (same i l) (once i (omega arith));
           within = λ i l a p. seen-owner i a l p .0;
-          taken = λ i a l p. let w = seen-owner i a l p in h .taken a (w .0) ∙ lt-ltb (owner a) 64 (omega (arith, w .1, l));
+          taken = λ i a l p. let w = seen-owner i a l p in h .taken a (w .0) ∙ lt-ltb (owner a) SCOPES (omega (arith, w .1, l));
           apart = λ i j a l k p q. sym (seen-owner i a l p .1) ∙ seen-owner j a k q .1;
-          owner = λ a l o. let b : owner a < 64 = ltb-true (owner a) 64 (sym (h .taken a l) ∙ o) in record { index = owner a; below = b; has = owner-has a l b };
+          owner = λ a l o. let b : owner a < SCOPES = ltb-true (owner a) SCOPES (sym (h .taken a l) ∙ o) in record { index = owner a; below = b; has = owner-has a l b };
         }
 
-    rule-owned : rule.OwnedSound 1024 64 (occ (s .halves)) (rule.listsOf seen) → rule.SizeSound 1024 1024 (occ (s .halves)) (s .size) → Owned (s .halves) (s .owner) (s .live) (s .size)
+    rule-owned : rule.OwnedSound SLOTS SCOPES (occ (s .halves)) (rule.listsOf seen) → rule.SizeSound SLOTS SLOTS (occ (s .halves)) (s .size) → Owned (s .halves) (s .owner) (s .live) (s .size)
     rule-owned h z =
         record {
           taken = λ a l. decided (occ (s .halves) a)
-              (λ o. let w = h .owner a l o in o ∙ sym (lt-ltb (owner a) 64 (omega (arith, seen-owner (w .index) a (w .below) (w .has) .1, w .below))))
-              (λ o. o ∙ sym (le-ltb (owner a) 64 (by-cases (decLt (owner a) 64) (λ b. clash (h .taken (owner a) a b (owner-has a l b)) o) (λ b. omega arith))));
+              (λ o. let w = h .owner a l o in o ∙ sym (lt-ltb (owner a) SCOPES (omega (arith, seen-owner (w .index) a (w .below) (w .has) .1, w .below))))
+              (λ o. o ∙ sym (le-ltb (owner a) SCOPES (by-cases (decLt (owner a) SCOPES) (λ b. clash (h .taken (owner a) a b (owner-has a l b)) o) (λ b. omega arith))));
           alive = λ a l b. decided (live (owner a)) (λ e. e) (λ e. clash (owner-has a l b) (ap (member a) (list-dead (owner a) e) ∙ no-one a));
           above = λ a l b. z .above a l (h .taken (owner a) a b (owner-has a l b));
           most = z .fits;
         }
 
-    dangling-rule : Owned (s .halves) (s .owner) (s .live) (s .size) → rule.DanglingSound 1024 (occ (s .halves)) (held (s .links) 64)
+    dangling-rule : Owned (s .halves) (s .owner) (s .live) (s .size) → rule.DanglingSound SLOTS (occ (s .halves)) (held (s .links) SCOPES)
     dangling-rule h =
         record {
-          once = once 64 (omega arith);
-          within = λ a p. owner-is 64 a (omega arith) p .0;
-          clear = λ a p. let w = owner-is 64 a (omega arith) p in h .taken a (w .0) ∙ le-ltb (owner a) 64 (omega (arith, w .1));
+          once = once SCOPES (omega arith);
+          within = λ a p. owner-is SCOPES a (omega arith) p .0;
+          clear = λ a p. let w = owner-is SCOPES a (omega arith) p in h .taken a (w .0) ∙ le-ltb (owner a) SCOPES (omega (arith, w .1));
         }
 
   -- ---- from the record to the rules
 
   module _ (h : Sound s) where
-    closed-list : (i : ℕ) → i < 64 → live i ≡ false → held (s .links) i ≡ []
+    closed-list : (i : ℕ) → i < SCOPES → live i ≡ false → held (s .links) i ≡ []
     closed-list i l d =
         empty (held (s .links) i) (λ a p.
-        let ha : a < 1024 = h .ringed .rings .ring i (omega arith) .addr a p in
+        let ha : a < SLOTS = h .ringed .rings .ring i (omega arith) .addr a p in
         let e : owner a ≡ i = eqb-true (owner a) i (sym (h .ringed .tells a i ha (omega arith)) ∙ p) in
         clash (subst (λ (j : ℕ). live j ≡ true) e (h .owned .alive a ha (omega arith))) d)
 
-    parent-most : (i : ℕ) → Leads (s .live) (s .parent) i → getD (s .parent) i 0 ≤ 64
+    parent-most : (i : ℕ) → Leads (s .live) (s .parent) i → getD (s .parent) i 0 ≤ SCOPES
     parent-most i (root l q) = omega (arith, q)
     parent-most i (up n l r) = omega (arith, live-below (s .live) long (getD (s .parent) i 0) (leads-live (s .live) (s .parent) (getD (s .parent) i 0) r))
 
@@ -174,11 +174,11 @@ module _ (s : Scopes) (long : length (s .live) ≡ 64) (room : length (s .bindin
           past = h .named .clear;
         }
 
-    top-rule : rule.TopSound 64 seen (index (s .top))
+    top-rule : rule.TopSound SCOPES seen (index (s .top))
     top-rule =
         record {
           is-live = λ i q. let w = index-is (s .top) i q in
-              subst (rule.IsLive 64 seen) (w .0) (w .1, is-live (s .top) ∙ ⊎-elim (λ x. x .1) (λ x. absurd (omega (arith, x .0, w .1))) (h .rooted .topped));
+              subst (rule.IsLive SCOPES seen) (w .0) (w .1, is-live (s .top) ∙ ⊎-elim (λ x. x .1) (λ x. absurd (omega (arith, x .0, w .1))) (h .rooted .topped));
           no-live = λ q i l. is-live i ∙ ⊎-elim (λ x. absurd (omega (arith, x .0, index-over (s .top) q))) (λ x. x .1 i l) (h .rooted .topped);
         }
 
@@ -193,10 +193,10 @@ module _ (s : Scopes) (long : length (s .live) ≡ 64) (room : length (s .bindin
           dangling = dangling-rule (h .ringed) closed-list (h .owned);
           bindings = record {
             once = binds-of (view s .bindings) (h .named .once);
-            of-live = every-of (λ b. live (b .scope) ≡ true) (λ b. rule.IsLive 64 seen (b .scope)) (λ b e. (live-below (s .live) long (b .scope) e, is-live (b .scope) ∙ e)) (view s .bindings) (h .named .alive);
-            few = few (s .count) 256 (s .bindings) room;
+            of-live = every-of (λ b. live (b .scope) ≡ true) (λ b. rule.IsLive SCOPES seen (b .scope)) (λ b e. (live-below (s .live) long (b .scope) e, is-live (b .scope) ∙ e)) (view s .bindings) (h .named .alive);
+            few = few (s .count) BINDINGS (s .bindings) room;
           };
-          size = record { above = λ a l o. h .owned .above a l (ltb-true (owner a) 64 (sym (h .owned .taken a l) ∙ o)); fits = h .owned .most };
+          size = record { above = λ a l o. h .owned .above a l (ltb-true (owner a) SCOPES (sym (h .owned .taken a l) ∙ o)); fits = h .owned .most };
         }
 
     pub passes : sound base (view s) ≡ true
@@ -212,9 +212,9 @@ module _ (s : Scopes) (long : length (s .live) ≡ 64) (room : length (s .bindin
         ringed = c .cells;
         owned = rule-owned (c .cells) (λ i l d. c .closed i l d .no-list) (h .owned) (h .size);
         rooted = record {
-          topped = by-cases (decLt (s .top) 64)
+          topped = by-cases (decLt (s .top) SCOPES)
               (λ l. inl (l, sym (is-live (s .top)) ∙ h .top .is-live (s .top) (index-some (s .top) l) .1))
-              (λ l. inr ((let m : s .top ≤ 64 = c .top in omega arith), λ i b. sym (is-live i) ∙ h .top .no-live (index-none (s .top) (omega arith)) i b));
+              (λ l. inr ((let m : s .top ≤ SCOPES = c .top in omega arith), λ i b. sym (is-live i) ∙ h .top .no-live (index-none (s .top) (omega arith)) i b));
           leads = λ i l. of-rule (s .live) (s .dangled) (s .parent) (s .number) (held (s .links)) (c .parents 0 (omega arith)) i (h .rooted i (live-below (s .live) long i l) (is-live i ∙ l));
           dead = λ i l d. let z = c .closed i l d in (z .unmarked, z .no-parent, z .no-number);
           first = decided (live 0)
@@ -223,7 +223,7 @@ module _ (s : Scopes) (long : length (s .live) ≡ 64) (room : length (s .bindin
         };
         named = record {
           most = c .count;
-          alive = of-every (λ b. live (b .scope) ≡ true) (λ b. rule.IsLive 64 seen (b .scope)) (λ b e. sym (is-live (b .scope)) ∙ e .1) (view s .bindings) (h .bindings .of-live);
+          alive = of-every (λ b. live (b .scope) ≡ true) (λ b. rule.IsLive SCOPES seen (b .scope)) (λ b e. sym (is-live (b .scope)) ∙ e .1) (view s .bindings) (h .bindings .of-live);
           once = of-binds (view s .bindings) (h .bindings .once);
           clear = c .past;
         };

@@ -12,6 +12,7 @@ use lib.Dec.{eqb}
 use lib.ListN.{length, getD, set, replicate, length-replicate, length-set, List·getD-eq-default}
 use lib.Seq.{getD-set-other}
 use borrow.Author.Tests.{eq-eqb, ne-eqb, eqb-true, lt-ltb, le-ltb}
+use Rattle.rules.specs.Sizes.{SCOPES}
 use Rattle.rules.specs.Scopes.{Scope}
 use Rattle.rules.specs.Tells.{Tells}
 use Rattle.rules.proofs.Tables.{by-eqb}
@@ -25,32 +26,32 @@ use Rattle.soundness.specs.Parts.{climb, Known}
 
 -- ---- an index below 64, or none
 
-pub index-some : (n : ℕ) → n < 64 → index n ≡ some n
-index-some n h = rw (lt-ltb n 64 h, index)
+pub index-some : (n : ℕ) → n < SCOPES → index n ≡ some n
+index-some n h = rw (lt-ltb n SCOPES h, index)
 
-pub index-none : (n : ℕ) → 64 ≤ n → index n ≡ none
-index-none n h = rw (le-ltb n 64 h, index)
+pub index-none : (n : ℕ) → SCOPES ≤ n → index n ≡ none
+index-none n h = rw (le-ltb n SCOPES h, index)
 
-pub index-is : (n p : ℕ) → index n ≡ some p → (n ≡ p) × (n < 64)
+pub index-is : (n p : ℕ) → index n ≡ some p → (n ≡ p) × (n < SCOPES)
 index-is n p e =
-    by-cases (decLt n 64)
+    by-cases (decLt n SCOPES)
     (λ l. (let q : some n ≡ some p = sym (index-some n l) ∙ e in cc, l))
     (λ l. none-some (sym (index-none n (omega arith)) ∙ e))
 
-pub index-over : (n : ℕ) → index n ≡ none → 64 ≤ n
-index-over n e = by-cases (decLt n 64) (λ l. none-some (sym e ∙ index-some n l)) (λ l. omega arith)
+pub index-over : (n : ℕ) → index n ≡ none → SCOPES ≤ n
+index-over n e = by-cases (decLt n SCOPES) (λ l. none-some (sym e ∙ index-some n l)) (λ l. omega arith)
 
 -- ---- which scopes are live
 
-pub live-below : (live : List Bool) → length live ≡ 64 → (i : ℕ) → getD live i false ≡ true → i < 64
-live-below live len i l = by-cases (decLt i 64) (λ h. h) (λ h. clash l (List·getD-eq-default live false (omega arith)))
+pub live-below : (live : List Bool) → length live ≡ SCOPES → (i : ℕ) → getD live i false ≡ true → i < SCOPES
+live-below live len i l = by-cases (decLt i SCOPES) (λ h. h) (λ h. clash l (List·getD-eq-default live false (omega arith)))
 
 pub leads-live : (live : List Bool) (parent : List ℕ) (i : ℕ) → Leads live parent i → getD live i false ≡ true
 leads-live live parent i (root l q) = l
 leads-live live parent i (up n l r) = l
 
 -- root has no parent
-pub leads-root : (live : List Bool) (parent : List ℕ) (i : ℕ) → Leads live parent i → getD parent 0 0 ≡ 64
+pub leads-root : (live : List Bool) (parent : List ℕ) (i : ℕ) → Leads live parent i → getD parent 0 0 ≡ SCOPES
 leads-root live parent i (root l q) = q
 leads-root live parent i (up n l r) = leads-root live parent (getD parent i 0) r
 
@@ -70,28 +71,28 @@ module _ (live dangled : List Bool) (parent number : List ℕ) (owned : ℕ → 
   pub seen-live : (i : ℕ) → getD live i false ≡ true → seen i ≡ some (scope i)
   seen-live i l = ap (λ (b : Bool). onlyIf b (scope i)) l
 
-  pub to-rule : length live ≡ 64 → getD number 0 0 ≡ 0 → (i : ℕ) → Leads live parent i → rule.Leads 64 seen i
+  pub to-rule : length live ≡ SCOPES → getD number 0 0 ≡ 0 → (i : ℕ) → Leads live parent i → rule.Leads SCOPES seen i
   to-rule len z i (root l q) = rule.root (scope 0) (seen-live 0 l) (index-none (getD parent 0 0) (omega (arith, q))) refl z
   to-rule len z i (up n l r) =
-      let below : getD parent i 0 < 64 = live-below live len (getD parent i 0) (leads-live live parent (getD parent i 0) r) in
+      let below : getD parent i 0 < SCOPES = live-below live len (getD parent i 0) (leads-live live parent (getD parent i 0) r) in
       rule.up (scope i) (getD parent i 0) (seen-live i l) (index-some (getD parent i 0) below) n below (to-rule len z (getD parent i 0) r)
 
-  pub of-rule : getD parent 0 0 ≤ 64 → (i : ℕ) → rule.Leads 64 seen i → Leads live parent i
+  pub of-rule : getD parent 0 0 ≤ SCOPES → (i : ℕ) → rule.Leads SCOPES seen i → Leads live parent i
   of-rule most i (rule.root k e p z q) =
       let w : (getD live i false ≡ true) × (scope i ≡ k) = some-live (getD live i false) (scope i) k e in
-      let over : 64 ≤ getD parent i 0 = index-over (getD parent i 0) (ap (λ (x : Scope). x .parent) (w .1) ∙ p) in
+      let over : SCOPES ≤ getD parent i 0 = index-over (getD parent i 0) (ap (λ (x : Scope). x .parent) (w .1) ∙ p) in
       subst (Leads live parent) (sym z)
-      (root (subst (λ (j : ℕ). getD live j false ≡ true) z (w .0)) (omega (arith, subst (λ (j : ℕ). 64 ≤ getD parent j 0) z over, most)))
+      (root (subst (λ (j : ℕ). getD live j false ≡ true) z (w .0)) (omega (arith, subst (λ (j : ℕ). SCOPES ≤ getD parent j 0) z over, most)))
   of-rule most i (rule.up k p e q z l d) =
       let w : (getD live i false ≡ true) × (scope i ≡ k) = some-live (getD live i false) (scope i) k e in
       let to : getD parent i 0 ≡ p = index-is (getD parent i 0) p (ap (λ (x : Scope). x .parent) (w .1) ∙ q) .0 in
       up z (w .0) (subst (Leads live parent) (sym to) (of-rule most p d))
 
   -- root's number
-  pub root-number : rule.Leads 64 seen 0 → getD number 0 0 ≡ 0
+  pub root-number : rule.Leads SCOPES seen 0 → getD number 0 0 ≡ 0
   root-number d = go 0 refl d
     where
-      go : (i : ℕ) → i ≡ 0 → rule.Leads 64 seen i → getD number 0 0 ≡ 0
+      go : (i : ℕ) → i ≡ 0 → rule.Leads SCOPES seen i → getD number 0 0 ≡ 0
       go i e (rule.root k f p z q) =
           subst (λ (j : ℕ). getD number j 0 ≡ 0) z (ap (λ (x : Scope). x .number) (some-live (getD live i false) (scope i) k f .1) ∙ q)
       go i e (rule.up k p f q z l d) = absurd (z e)
@@ -104,7 +105,7 @@ module _ (live : List Bool) (parent : List ℕ) where
   climb-dead zero i e = refl
   climb-dead (suc k) i e = rw (e, climb)
 
-  climb-root : (k i : ℕ) → getD live i false ≡ true → i ≡ 0 → climb live parent (suc k) i ≡ eqb (getD parent i 0) 64
+  climb-root : (k i : ℕ) → getD live i false ≡ true → i ≡ 0 → climb live parent (suc k) i ≡ eqb (getD parent i 0) SCOPES
   unfolding climb
   climb-root k i e z = rw (e, eq-eqb i 0 z, climb)
 
@@ -121,37 +122,37 @@ module _ (live : List Bool) (parent : List ℕ) where
       on ih l =
           by-eqb i 0
           (λ z. subst (Leads live parent) (sym z)
-          (root (subst (λ (j : ℕ). getD live j false ≡ true) z l) (subst (λ (j : ℕ). getD parent j 0 ≡ 64) z (eqb-true _ _ (sym (climb-root k i l z) ∙ e)))))
+          (root (subst (λ (j : ℕ). getD live j false ≡ true) z l) (subst (λ (j : ℕ). getD parent j 0 ≡ SCOPES) z (eqb-true _ _ (sym (climb-root k i l z) ∙ e)))))
           (λ z. up z l (ih (sym (climb-up k i l z) ∙ e)))
 
   -- the rules' way up, of which the height is known
   abbrev Way : ℕ → Type 0
-  Way i = rule.Leads 64 (scopesFrom live [] parent [] (λ j. [])) i
+  Way i = rule.Leads SCOPES (scopesFrom live [] parent [] (λ j. [])) i
 
-  climbs : getD parent 0 0 ≡ 64 → (k : ℕ) (i : ℕ) (d : Way i) → height d < k → climb live parent k i ≡ true
+  climbs : getD parent 0 0 ≡ SCOPES → (k : ℕ) (i : ℕ) (d : Way i) → height d < k → climb live parent k i ≡ true
   unfolding height
   climbs z zero i d h = absurd (omega arith)
   climbs z (suc k) i (rule.root x e p q m) h =
-      climb-root k i (some-live (getD live i false) _ x e .0) q ∙ eq-eqb (getD parent i 0) 64 (subst (λ (j : ℕ). getD parent j 0 ≡ 64) (sym q) z)
+      climb-root k i (some-live (getD live i false) _ x e .0) q ∙ eq-eqb (getD parent i 0) SCOPES (subst (λ (j : ℕ). getD parent j 0 ≡ SCOPES) (sym q) z)
   climbs z (suc k) i (rule.up x p e q n l d) h =
       let w = some-live (getD live i false) _ x e in
       climb-up k i (w .0) n
       ∙ ap (climb live parent k) (index-is (getD parent i 0) p (ap (λ (y : Scope). y .parent) (w .1) ∙ q) .0)
       ∙ climbs z k p d (omega arith)
 
-  pub climb-tells : length live ≡ 64 → (r : Bool) (i : ℕ) → r ≡ climb live parent 64 i → Tells r (Leads live parent i)
+  pub climb-tells : length live ≡ SCOPES → (r : Bool) (i : ℕ) → r ≡ climb live parent SCOPES i → Tells r (Leads live parent i)
   climb-tells len r i e =
       record {
-        holds = λ t. climb-leads 64 i (sym e ∙ t);
+        holds = λ t. climb-leads SCOPES i (sym e ∙ t);
         shows = λ h.
             let d : Way i = to-rule live [] parent [] (λ j. []) len refl i h in
-            e ∙ climbs (leads-root live parent i h) 64 i d (height-below (live-below live len i (leads-live live parent i h)) d);
+            e ∙ climbs (leads-root live parent i h) SCOPES i d (height-below (live-below live len i (leads-live live parent i h)) d);
       }
 
   -- ---- the steps as the code takes them
 
-  pub root-at : (k i p : ℕ) → 0 < k → getD live i false ≡ true → i ≡ 0 → p ≡ getD parent i 0 → climb live parent k i ≡ eqb p 64
-  root-at k i p h l z q = let e : k ≡ suc (k - 1) = omega arith in ap (λ (m : ℕ). climb live parent m i) e ∙ climb-root (k - 1) i l z ∙ ap (λ (x : ℕ). eqb x 64) (sym q)
+  pub root-at : (k i p : ℕ) → 0 < k → getD live i false ≡ true → i ≡ 0 → p ≡ getD parent i 0 → climb live parent k i ≡ eqb p SCOPES
+  root-at k i p h l z q = let e : k ≡ suc (k - 1) = omega arith in ap (λ (m : ℕ). climb live parent m i) e ∙ climb-root (k - 1) i l z ∙ ap (λ (x : ℕ). eqb x SCOPES) (sym q)
 
   pub up-at : (k i p : ℕ) → 0 < k → getD live i false ≡ true → i ≢ 0 → p ≡ getD parent i 0 → climb live parent k i ≡ climb live parent (k - 1) p
   up-at k i p h l z q = let e : k ≡ suc (k - 1) = omega arith in ap (λ (m : ℕ). climb live parent m i) e ∙ climb-up (k - 1) i l z ∙ ap (climb live parent (k - 1)) (sym q)
@@ -166,7 +167,7 @@ module _ (live : List Bool) (parent : List ℕ) where
 
   -- ---- a way, scope by scope, and what is known of the scopes
 
-  pub leads-below : length live ≡ 64 → (i : ℕ) → Leads live parent i → i < 64
+  pub leads-below : length live ≡ SCOPES → (i : ℕ) → Leads live parent i → i < SCOPES
   leads-below len i h = live-below live len i (leads-live live parent i h)
 
   pub further : (i p : ℕ) → getD live i false ≡ true → i ≢ 0 → p ≡ getD parent i 0 → Leads live parent p → Leads live parent i
@@ -176,8 +177,8 @@ module _ (live : List Bool) (parent : List ℕ) where
   nearer i p z q (root l e) = absurd (z refl)
   nearer i p z q (up n l h) = subst (Leads live parent) (sym q) h
 
-  pub known-none : Known live parent (replicate 64 false)
-  known-none = record { long = length-replicate 64 false; leads = λ k e. clash e (none 64 k) }
+  pub known-none : Known live parent (replicate SCOPES false)
+  known-none = record { long = length-replicate SCOPES false; leads = λ k e. clash e (none SCOPES k) }
     where
       none : (n k : ℕ) → getD (replicate n false) k false ≡ false
       none zero k = refl

@@ -6,6 +6,7 @@ use mathlib.Core.List.{List, [], _∷_}
 use Prim.Native.Nat.{ℕ, zero, suc, _≤_}
 use native.Mathlib.Omega.{arith}
 use lib.ListN.{length, getD}
+use Rattle.rules.specs.Sizes.{BINDINGS}
 use Rattle.rules.specs.Scopes.{Binding, isFor}
 use Rattle.rules.specs.Tells.{Tells}
 use Rattle.rules.proofs.Tells.{is-false, clash, tells-and, tells-eq}
@@ -47,8 +48,8 @@ of-once (suc n) (b ∷ l) le h zero (suc k) jk kn s q =
     clash (for-tells (getD l k 0) b .shows (s, q)) (of-each (λ x. isFor (binding b .scope) (binding b .name) x ≡ false) n l (omega arith) (h .0) k (omega arith))
 of-once (suc n) (b ∷ l) le h (suc j) (suc k) jk kn s q = of-once n l (omega arith) (h .1) j k (omega arith) (omega arith) s q
 
-module _ (bindings : List ℕ) (live : List Bool) (count : ℕ) (len : length bindings ≡ 256) where
-  pub named-of : count ≤ 256 → ((j : ℕ) → count ≤ j → getD bindings j 0 ≡ 0) → Below count (LiveAt bindings live) → Distinct bindings count → Named bindings live count
+module _ (bindings : List ℕ) (live : List Bool) (count : ℕ) (len : length bindings ≡ BINDINGS) where
+  pub named-of : count ≤ BINDINGS → ((j : ℕ) → count ≤ j → getD bindings j 0 ≡ 0) → Below count (LiveAt bindings live) → Distinct bindings count → Named bindings live count
   named-of le z h d =
       record {
         most = le;

@@ -11,6 +11,7 @@ use lib.Dec.{eqb}
 use lib.ListN.{length, getD, set, length-set}
 use lib.Seq.{getD-set-same, getD-set-other}
 use borrow.Author.Tests.{eq-eqb, ne-eqb, eqb-true}
+use Rattle.rules.specs.Sizes.{LISTS, SLOTS}
 use Rattle.rules.specs.AddressSets.{member}
 use Rattle.rules.specs.Tells.{Tells}
 use Rattle.rules.proofs.Tables.{by-eqb}
@@ -152,17 +153,17 @@ module _ (n m : ℕ) (links owner : List ℕ) where
 
 -- ---- the part of soundness
 
-pub ringed-from : (links owner : List ℕ) → Below 65 (λ i. round 1024 65 links owner i ≡ true) → Below 1024 (MarkedAt 1024 65 links owner) → Ringed links owner
+pub ringed-from : (links owner : List ℕ) → Below LISTS (λ i. round SLOTS LISTS links owner i ≡ true) → Below SLOTS (MarkedAt SLOTS LISTS links owner) → Ringed links owner
 ringed-from links owner h k =
-    let at : Below 1024 (RingedAt 1024 65 links owner) = λ a l. marked-ringed 1024 65 links owner a (k a l) in
-    record { rings = held-of 1024 65 links owner h at; tells = tells-of 1024 65 links owner h at; most = λ a l. at a l .most }
+    let at : Below SLOTS (RingedAt SLOTS LISTS links owner) = λ a l. marked-ringed SLOTS LISTS links owner a (k a l) in
+    record { rings = held-of SLOTS LISTS links owner h at; tells = tells-of SLOTS LISTS links owner h at; most = λ a l. at a l .most }
 
 module _ (links owner : List ℕ) (s : Ringed links owner) where
-  pub rounds-of : Below 65 (λ i. round 1024 65 links owner i ≡ true)
-  rounds-of = goes-round 1024 65 links owner (s .rings) (s .tells)
+  pub rounds-of : Below LISTS (λ i. round SLOTS LISTS links owner i ≡ true)
+  rounds-of = goes-round SLOTS LISTS links owner (s .rings) (s .tells)
 
-  pub marks-of : Below 1024 (MarkedAt 1024 65 links owner)
-  marks-of a ha = ringed-marked 1024 65 links owner (s .tells) a ha (ringed-at 1024 65 links owner (s .rings) (s .tells) (s .most) a ha)
+  pub marks-of : Below SLOTS (MarkedAt SLOTS LISTS links owner)
+  marks-of a ha = ringed-marked SLOTS LISTS links owner (s .tells) a ha (ringed-at SLOTS LISTS links owner (s .rings) (s .tells) (s .most) a ha)
 
 -- ---- an address, as the code tests it
 

@@ -8,6 +8,7 @@ use native.Mathlib.Nat.{zero-div}
 use native.Mathlib.Omega.{arith}
 use lib.ListN.{length, getD, set, replicate}
 use lib.Seq.{getD-set-same, getD-set-other}
+use Rattle.rules.specs.Sizes.{BINDINGS}
 use Rattle.rules.specs.Notation.{put}
 use Rattle.rules.proofs.Tables.{by-eqb, put-same, put-other}
 use Rattle.rules.proofs.Tells.{clash}
@@ -15,10 +16,10 @@ use Rattle.slots.specs.Halves.{bit}
 use Rattle.slots.proofs.Occupied.{zero-half}
 use Rattle.soundness.specs.Parts.{scopeOf, nameOf, Distinct, Place, Met}
 
-no-bit : (k i : ℕ) → bit (getD (replicate 256 0) k 0) i ≡ false
-no-bit k i = rw (zero-half 256 k, zero-div)
+no-bit : (k i : ℕ) → bit (getD (replicate BINDINGS 0) k 0) i ≡ false
+no-bit k i = rw (zero-half BINDINGS k, zero-div)
 
-pub met-none : (bindings places : List ℕ) → Met bindings places (replicate 256 0) 0
+pub met-none : (bindings places : List ℕ) → Met bindings places (replicate BINDINGS 0) 0
 met-none bindings places = record { kept = λ j l. absurd (omega arith); noted = λ j l. absurd (omega arith); only = λ k i e. clash e (no-bit k i) }
 
 module _ (bindings places scopes : List ℕ) (n k : ℕ) (m : Met bindings places scopes n) (p : Place bindings (getD places (nameOf bindings n) 0) n k) where

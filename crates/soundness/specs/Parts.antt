@@ -6,6 +6,7 @@ use mathlib.Core.List.{List, [], _∷_}
 use Prim.Native.Nat.{ℕ, zero, suc, _+_, _≤_, _<_}
 use lib.ListN.{length, getD, set}
 use lib.Dec.{eqb, ltb}
+use Rattle.rules.specs.Sizes.{BINDINGS, SCOPES}
 use Rattle.rules.specs.AddressSets.{member}
 use Rattle.slots.specs.Halves.{bit, occ}
 use Rattle.links.specs.Links.{nextIn, prevIn, nowhere}
@@ -67,9 +68,9 @@ pub record MarkedAt (n m : ℕ) (links owner : List ℕ) (a : ℕ) : Type 0 wher
 -- ---- owners
 
 pub record OwnedAt (halves owner : List ℕ) (live : List Bool) (size a : ℕ) : Type 0 where
-  pub taken : occ halves a ≡ ltb (ownerOf owner a) 64
-  pub alive : ownerOf owner a < 64 → getD live (ownerOf owner a) false ≡ true
-  pub above : ownerOf owner a < 64 → a < size
+  pub taken : occ halves a ≡ ltb (ownerOf owner a) SCOPES
+  pub alive : ownerOf owner a < SCOPES → getD live (ownerOf owner a) false ≡ true
+  pub above : ownerOf owner a < SCOPES → a < size
 
 -- ---- scopes
 
@@ -78,22 +79,22 @@ unfoldable pub climb : List Bool → List ℕ → ℕ → ℕ → Bool
 climb live parent zero i = false
 climb live parent (suc k) i =
     elim (getD live i false) [
-      | true ↦ elim (eqb i 0) [ true ↦ eqb (getD parent i 0) 64 | false ↦ climb live parent k (getD parent i 0) ]
+      | true ↦ elim (eqb i 0) [ true ↦ eqb (getD parent i 0) SCOPES | false ↦ climb live parent k (getD parent i 0) ]
       | false ↦ false
     ]
 
 -- the scopes of which it is known that parents lead to root
 pub record Known (live : List Bool) (parent : List ℕ) (known : List Bool) : Type 0 where
-  pub long : length known ≡ 64
+  pub long : length known ≡ SCOPES
   pub leads : (k : ℕ) → getD known k false ≡ true → Leads live parent k
 
 pub record RootedAt (live dangled : List Bool) (parent number : List ℕ) (i : ℕ) : Type 0 where
   pub leads : getD live i false ≡ true → Leads live parent i
-  pub dead : getD live i false ≡ false → (getD dangled i false ≡ false) × (getD parent i 0 ≡ 64) × (getD number i 0 ≡ 0)
+  pub dead : getD live i false ≡ false → (getD dangled i false ≡ false) × (getD parent i 0 ≡ SCOPES) × (getD number i 0 ≡ 0)
 
 -- "top is live, or nothing is"
 abbrev pub Topped : List Bool → ℕ → Type 0
-Topped live top = ((top < 64) × (getD live top false ≡ true)) ⊎ ((top ≡ 64) × Below 64 (λ i. getD live i false ≡ false))
+Topped live top = ((top < SCOPES) × (getD live top false ≡ true)) ⊎ ((top ≡ SCOPES) × Below SCOPES (λ i. getD live i false ≡ false))
 
 -- ---- bindings
 
@@ -112,7 +113,7 @@ Distinct bindings n = (j k : ℕ) → j < k → k < n → scopeOf bindings k ≡
 
 -- k stands for the name of binding j: it is the place that the table told, if that has the name
 pub record Place (bindings : List ℕ) (told j k : ℕ) : Type 0 where
-  pub within : k < 256
+  pub within : k < BINDINGS
   pub named : nameOf bindings k ≡ nameOf bindings j
   pub kept : nameOf bindings told ≡ nameOf bindings j → k ≡ told
 

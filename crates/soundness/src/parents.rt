@@ -3,25 +3,27 @@ ghost use mathlib.Core.Path.{_≡_};
 ghost use mathlib.Core.Bool.{true, false};
 ghost use Prim.Native.Nat.{_<_};
 ghost use lib.ListN.{length, getD};
+ghost use Rattle.rules.specs.Sizes.{SCOPES};
 ghost use Rattle.rules.specs.Tells.{Tells};
 ghost use Rattle.scopes.specs.Sound.{Rooted, Leads};
 ghost use Rattle.soundness.specs.Parts.{Below, Known, RootedAt, Topped};
+use rules::SCOPES;
 use scopes::open;
 
 // Parents lead from i to root, or to a scope of which that is known.
 pub fn leads<'a>(
-    live: &'a [bool; 64],
-    parent: &'a [u8; 64],
-    known: &'a [bool; 64],
+    live: &'a [bool; SCOPES],
+    parent: &'a [u8; SCOPES],
+    known: &'a [bool; SCOPES],
     i: usize,
 ) -> bool
-    requires { ⌜ (length (now live) ≡ 64) × Known (now live) (now parent) (now known) ⌝ }
+    requires { ⌜ (length (now live) ≡ SCOPES) × Known (now live) (now parent) (now known) ⌝ }
     ensures { λ r. ⌜ Tells r (Leads (now (live .entry)) (now (parent .entry)) i) ⌝ }
 {
     let mut k = i;
-    let mut n: usize = 64;
+    let mut n: usize = SCOPES;
     while 0 < n {
-        if 64 <= k {
+        if SCOPES <= k {
             return false;
         }
         if known[k] {
@@ -32,7 +34,7 @@ pub fn leads<'a>(
         }
         let p = open::wide8(parent[k]);
         if k == 0 {
-            return p == 64;
+            return p == SCOPES;
         }
         k = p;
         n -= 1;
@@ -41,12 +43,17 @@ pub fn leads<'a>(
 }
 
 // It is known of i, and of the scopes from there up to the first of which it was known: so no climb passes a scope again.
-pub fn learn<'a>(live: &'a [bool; 64], parent: &'a [u8; 64], known: &mut [bool; 64], i: usize)
-    requires { ⌜ (length (now live) ≡ 64) × Known (now live) (now parent) (now known) × Leads (now live) (now parent) i ⌝ }
+pub fn learn<'a>(
+    live: &'a [bool; SCOPES],
+    parent: &'a [u8; SCOPES],
+    known: &mut [bool; SCOPES],
+    i: usize,
+)
+    requires { ⌜ (length (now live) ≡ SCOPES) × Known (now live) (now parent) (now known) × Leads (now live) (now parent) i ⌝ }
     ensures { λ r. ⌜ Known (now (live .entry)) (now (parent .entry)) (now (known .exit)) ⌝ }
 {
     let mut k = i;
-    let mut n: usize = 64;
+    let mut n: usize = SCOPES;
     while 0 < n {
         if known[k] {
             return;
@@ -62,14 +69,14 @@ pub fn learn<'a>(live: &'a [bool; 64], parent: &'a [u8; 64], known: &mut [bool; 
 
 // A live scope's parents lead to root, which is known from then on; the record of a closed one is blank.
 pub fn rooted_at<'a>(
-    live: &'a [bool; 64],
-    dangled: &'a [bool; 64],
-    parent: &'a [u8; 64],
-    number: &'a [u32; 64],
-    known: &mut [bool; 64],
+    live: &'a [bool; SCOPES],
+    dangled: &'a [bool; SCOPES],
+    parent: &'a [u8; SCOPES],
+    number: &'a [u32; SCOPES],
+    known: &mut [bool; SCOPES],
     i: usize,
 ) -> bool
-    requires { ⌜ (i < 64) × (length (now live) ≡ 64) × Known (now live) (now parent) (now known) ⌝ }
+    requires { ⌜ (i < SCOPES) × (length (now live) ≡ SCOPES) × Known (now live) (now parent) (now known) ⌝ }
     ensures { λ r. ⌜ Tells r (RootedAt (now (live .entry)) (now (dangled .entry)) (now (parent .entry)) (now (number .entry)) i) ⌝ }
     ensures { λ r. ⌜ Known (now (live .entry)) (now (parent .entry)) (now (known .exit)) ⌝ }
 {
@@ -84,17 +91,17 @@ pub fn rooted_at<'a>(
         return false;
     }
     let p = open::wide8(parent[i]);
-    if p != 64 {
+    if p != SCOPES {
         return false;
     }
     number[i] == 0
 }
 
-pub fn none_live(live: &[bool; 64]) -> bool
-    ensures { λ r. ⌜ Tells r (Below 64 (λ i. getD (now (live .entry)) i false ≡ false)) ⌝ }
+pub fn none_live(live: &[bool; SCOPES]) -> bool
+    ensures { λ r. ⌜ Tells r (Below SCOPES (λ i. getD (now (live .entry)) i false ≡ false)) ⌝ }
 {
     let mut i: usize = 0;
-    while i < 64 {
+    while i < SCOPES {
         if live[i] {
             return false;
         }
@@ -103,26 +110,26 @@ pub fn none_live(live: &[bool; 64]) -> bool
     true
 }
 
-pub fn topped(live: &[bool; 64], top: usize) -> bool
+pub fn topped(live: &[bool; SCOPES], top: usize) -> bool
     ensures { λ r. ⌜ Tells r (Topped (now (live .entry)) top) ⌝ }
 {
-    if top < 64 {
+    if top < SCOPES {
         return live[top];
     }
-    if top != 64 {
+    if top != SCOPES {
         return false;
     }
     none_live(live)
 }
 
 pub fn rooted<'a>(
-    live: &'a [bool; 64],
-    dangled: &'a [bool; 64],
-    parent: &'a [u8; 64],
-    number: &'a [u32; 64],
+    live: &'a [bool; SCOPES],
+    dangled: &'a [bool; SCOPES],
+    parent: &'a [u8; SCOPES],
+    number: &'a [u32; SCOPES],
     top: usize,
 ) -> bool
-    requires { ⌜ length (now live) ≡ 64 ⌝ }
+    requires { ⌜ length (now live) ≡ SCOPES ⌝ }
     ensures { λ r. ⌜ Tells r (Rooted (now (live .entry)) (now (dangled .entry)) (now (parent .entry)) (now (number .entry)) top) ⌝ }
 {
     if !topped(live, top) {
@@ -131,9 +138,9 @@ pub fn rooted<'a>(
     if number[0] != 0 {
         return false;
     }
-    let mut known = [false; 64];
+    let mut known = [false; SCOPES];
     let mut i: usize = 0;
-    while i < 64 {
+    while i < SCOPES {
         if !rooted_at(live, dangled, parent, number, &mut known, i) {
             return false;
         }

@@ -5,7 +5,7 @@ use mathlib.Core.List.{List}
 use Prim.Native.Nat.{ℕ, _≤_}
 use native.Mathlib.Omega.{arith}
 use lib.ListN.{length}
-use Rattle.rules.specs.Sizes.{base}
+use Rattle.rules.specs.Sizes.{base, LINES}
 use Rattle.rules.specs.Frames.{Line, accepted}
 use Rattle.rules.specs.Text.{Script, frames, unread, title, readScript, listText, Listed, listed, unlisted, readList}
 use Rattle.rules.specs.Entries.{translated}
@@ -17,7 +17,7 @@ use Rattle.text.proofs.Bounds.{ScriptIn, ListIn, read-in, read-list-in}
 -- a text that can't be read gives 1 or 2, and a line up to 2,048
 pub data Comes : Verdict → Type 0 where
   to-word : (b : Bool) → Comes (says b)
-  to-stop : (n i : ℕ) → 1 ≤ n → n ≤ 2 → i ≤ 2048 → Comes (unreadable n i)
+  to-stop : (n i : ℕ) → 1 ≤ n → n ≤ 2 → i ≤ LINES → Comes (unreadable n i)
 
 pub comes : (script list : List ℕ) → Comes (verdict base script list)
 unfolding verdict judged base

@@ -1,5 +1,7 @@
 // Whether a list from elsewhere agrees with a script: the script's own steps, and the same steps once more with each allocation where the list
 // shows it.
+use rules::LINES;
+use rules::PAGE;
 use text::refusal::refuse;
 use text::whole::Checked;
 use text::whole::Listing;
@@ -40,7 +42,7 @@ fn agrees_shown(script: &[u8], list: &[u8], shown: &[u64], lines: usize, size: u
     requires { ⌜ Read (now script) × TheList (now list) (now shown) lines size ⌝ }
     ensures { λ r. ⌜ SaysShown (now (script .entry)) (now (list .entry)) (now (shown .entry)) lines size r ⌝ }
 {
-    let mut page = [0u8; 32768];
+    let mut page = [0u8; PAGE];
     match steps_shown(script, shown, lines, &mut page) {
         Ended::Refused(_, _) => false,
         Ended::Listed(n, needs) => {
@@ -60,7 +62,7 @@ fn agrees_both(script: &[u8], list: &[u8], shown: &[u64], lines: usize, size: us
     requires { ⌜ Read (now script) × TheList (now list) (now shown) lines size ⌝ }
     ensures { λ r. ⌜ SaysBoth (now (script .entry)) (now (list .entry)) (now (shown .entry)) lines size r ⌝ }
 {
-    let mut page = [0u8; 32768];
+    let mut page = [0u8; PAGE];
     match steps(script, &mut page) {
         Ended::Refused(_, _) => false, // whatever the number, 7 too
         Ended::Listed(_, _) => agrees_shown(script, list, shown, lines, size),
@@ -72,7 +74,7 @@ fn agrees_read(script: &[u8], list: &[u8]) -> u64
     requires { ⌜ Read (now script) ⌝ }
     ensures { λ r. ⌜ r ≡ verdictAnswer (verdict base (now (script .entry)) (now (list .entry))) ⌝ }
 {
-    let mut shown = [0u64; 2048];
+    let mut shown = [0u64; LINES];
     match check_list(list, &mut shown) {
         Listing::Unread(m, i) => refuse(m, i),
         Listing::Read(size, lines) => {

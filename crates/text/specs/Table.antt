@@ -4,6 +4,7 @@ use mathlib.Core.List.{List, _++_, map}
 use mathlib.Core.Option.{some}
 use Prim.Native.Nat.{ℕ, _*_, _≤_, _<_}
 use lib.ListN.{length, getD}
+use Rattle.rules.specs.Sizes.{LINES}
 use Rattle.rules.specs.Text.{split, Titled, titled, title}
 use Rattle.text.specs.Lines.{lined, lineReading, unpacked}
 use Rattle.text.specs.declared.lines.Reading.{Reading}
@@ -19,7 +20,7 @@ readings s =
 
 -- a row for each line that a text so long can have: a line has three bytes at least
 abbrev pub RowsFor : List ℕ → List ℕ → Type 0
-RowsFor s t = (k : ℕ) → k < 2048 → 3 * k < length s → k < length t
+RowsFor s t = (k : ℕ) → k < LINES → 3 * k < length s → k < length t
 
 -- the table has the first n lines
 abbrev pub Rows : List ℕ → List ℕ → ℕ → Type 0

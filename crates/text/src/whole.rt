@@ -4,6 +4,8 @@ use crate::lines::Reading;
 use crate::lines::digits_from;
 use crate::lines::frame_at;
 use crate::lines::list_line_at;
+use rules::LINES;
+use rules::SLOTS;
 ghost use mathlib.Core.Path.{_≡_};
 ghost use Prim.Native.Nat.{_≤_};
 ghost use lib.ListN.{length};
@@ -11,11 +13,6 @@ ghost use Rattle.rules.specs.Sizes.{base};
 ghost use Rattle.text.specs.Titles.{Titles, titleIn};
 ghost use Rattle.text.specs.Whole.{scriptChecked, listing, sizeListing};
 ghost use Rattle.text.specs.Table.{RowsFor, Tabled};
-
-// Frame lines of a text, and the greatest size.
-const LINES: usize = 2048;
-
-const MOST: usize = 1024;
 
 // The number of a title's digits, which are `f00002`.
 const TITLE: u64 = 0xf0_0002_0000;
@@ -84,7 +81,7 @@ fn sized(n: usize, last: bool, i: usize) -> Listing
     ensures { λ r. ⌜ r ≡ sizeListing base n last i ⌝ }
 {
     if last {
-        if n <= MOST {
+        if n <= SLOTS {
             return Listing::Read(n, i);
         }
         return Listing::Unread(1, i);

@@ -10,7 +10,7 @@ use lib.Dec.{eqb}
 use lib.ListN.{length, getD, take, drop, replicate, length-append, length-replicate}
 use lib.Seq.{take-at}
 use Rattle.rules.specs.Notation.{given, refused}
-use Rattle.rules.specs.Sizes.{Room, base}
+use Rattle.rules.specs.Sizes.{Room, base, NEEDS, SLOTS, PAGE, HANDLES, LINES}
 use Rattle.rules.specs.Slots.{Placement, Place, placing, freshSlots}
 use Rattle.rules.specs.Scopes as rule
 use Rattle.rules.specs.Frames.{State, start, Frame, Line, shows, step, Step, Outcome, accepted, refusedAt, before, onward, steps}
@@ -120,13 +120,13 @@ pub record Going (pl : ℕ → Place) (o : Outcome) (script page₀ : List ℕ) 
   pub small : Small i (stateWith (view s) handles holders handed nd)
   pub left : List Frame
   pub reads : scriptFrom base i (split (drop p script)) ≡ frames left
-  pub early : i + length left ≤ 2048
+  pub early : i + length left ≤ LINES
   pub done : List Line
   pub comes : o ≡ before done (stepsAt pl i (stateWith (view s) handles holders handed nd) left)
   pub at : w ≡ length (linesText done)
   pub written : page ≡ over page₀ 0 (linesText done)
   pub owed : w + 4 * owing base (view s) ≤ 11 * i + 4 * handed
-  pub drained-length : length drained ≡ 1024
+  pub drained-length : length drained ≡ SLOTS
   pub page-length : length page ≡ length page₀
 
 -- ---- before the first frame
@@ -139,13 +139,13 @@ zeros (suc n) (suc h) = zeros n h
 
 -- no needs yet
 abbrev none-yet : Needing
-none-yet = table (replicate 64 0) (replicate 64 0) 0
+none-yet = table (replicate NEEDS 0) (replicate NEEDS 0) 0
 
 starts : (c : rule.Scopes) (m n : ℕ) → c ≡ rule.freshScopes → stateWith c (replicate m 0) (replicate n 0) 0 none-yet ≡ start
 unfolding start rule.freshScopes freshSlots
 starts c m n e =
     let f : handleAt (λ a. false) (replicate m 0) (replicate n 0) ≡ start .handles = fun-ext (λ h. rw (zeros m h)) in
-    let g : rememberedAt (none-yet .needs) (none-yet .remembers) ≡ start .needs = fun-ext (λ k. rw (zeros 64 k)) in
+    let g : rememberedAt (none-yet .needs) (none-yet .remembers) ≡ start .needs = fun-ext (λ k. rw (zeros NEEDS k)) in
     rw e (λ t. record { scopes = rule.freshScopes; handles = f t; handed = 0; needs = g t; needed = 0 })
 
 pub owes-none : owing base (start .scopes) ≡ 0
@@ -162,7 +162,7 @@ read-from script n t =
 framed-read : (script : List ℕ) (fs : List Frame) → readScript base script .script ≡ frames fs → framesOf (readScript base script .script) ≡ fs
 framed-read script fs e = ap framesOf e
 
-few-frames : (n : ℕ) (fs : List Frame) (r : Script) → ScriptIn base n r → r ≡ frames fs → n + length fs ≤ 2048
+few-frames : (n : ℕ) (fs : List Frame) (r : Script) → ScriptIn base n r → r ≡ frames fs → n + length fs ≤ LINES
 unfolding base
 few-frames n fs r h e = subst (ScriptIn base n) e h
 
@@ -181,18 +181,18 @@ module _ (pl : ℕ → Place) (script page : List ℕ) (n w : ℕ) (b : Begun sc
   abbrev whole : Outcome
   whole = walked pl n script
 
-  going-start : (s : Scopes) → Read script → view s ≡ rule.freshScopes → Whole s → Going pl whole script page s (replicate 2048 0) (replicate 1024 0) (replicate 1024 0) 0 none-yet (7 * n) n w page
+  going-start : (s : Scopes) → Read script → view s ≡ rule.freshScopes → Whole s → Going pl whole script page s (replicate HANDLES 0) (replicate SLOTS 0) (replicate SLOTS 0) 0 none-yet (7 * n) n w page
   unfolding walked
   going-start s r v h =
-      let e = starts (view s) 2048 1024 v in
+      let e = starts (view s) HANDLES SLOTS v in
       let o : owing base (view s) ≡ 0 = ap (λ (t : State). owing base (t .scopes)) e ∙ owes-none in
       let k : s .counter ≡ start .scopes .counter = ap (λ (t : State). t .scopes .counter) e in
       let t = b .titles in
       let f : scriptFrom base n (split (drop (7 * n) script)) ≡ frames (r .all) = sym (read-from script n t) ∙ r .reads in
       record {
         within = t .within;
-        stands = sound-stands s (replicate 2048 0) (replicate 1024 0) 0 none-yet (subst (StateSound base) (sym e) (start-sound base (base-wide .segments) (base-wide .scopes))) h
-            (omega (arith, k, small-start 0 .count)) (length-replicate {A = ℕ} 2048 0) (length-replicate {A = ℕ} 1024 0) (length-replicate {A = ℕ} 64 0) (length-replicate {A = ℕ} 64 0);
+        stands = sound-stands s (replicate HANDLES 0) (replicate SLOTS 0) 0 none-yet (subst (StateSound base) (sym e) (start-sound base (base-wide .segments) (base-wide .scopes))) h
+            (omega (arith, k, small-start 0 .count)) (length-replicate {A = ℕ} HANDLES 0) (length-replicate {A = ℕ} SLOTS 0) (length-replicate {A = ℕ} NEEDS 0) (length-replicate {A = ℕ} NEEDS 0);
         small = subst (Small n) (sym e) (small-start n);
         left = r .all;
         reads = f;
@@ -202,15 +202,15 @@ module _ (pl : ℕ → Place) (script page : List ℕ) (n w : ℕ) (b : Begun sc
         at = b .at;
         written = b .written;
         owed = omega (arith, o, b .at, title-bytes n (t .most));
-        drained-length = length-replicate {A = ℕ} 1024 0;
+        drained-length = length-replicate {A = ℕ} SLOTS 0;
         page-length = refl;
       }
 
   -- the same state, made of its parts
   pub going-fresh : (s : Scopes) → Read script → view s ≡ rule.freshScopes → Whole s → (m : Numbers) → m ≡ numbersOf s
-      → Going pl whole script page (made (s .halves) (s .links) (s .owner) (s .live) (s .dangled) (s .parent) (s .number) (s .bindings) m) (replicate 2048 0) (replicate 1024 0) (replicate 1024 0) 0 none-yet (7 * n) n w page
+      → Going pl whole script page (made (s .halves) (s .links) (s .owner) (s .live) (s .dangled) (s .parent) (s .number) (s .bindings) m) (replicate HANDLES 0) (replicate SLOTS 0) (replicate SLOTS 0) 0 none-yet (7 * n) n w page
   going-fresh s r v h m e =
-      subst (λ (x : Numbers). Going pl whole script page (made (s .halves) (s .links) (s .owner) (s .live) (s .dangled) (s .parent) (s .number) (s .bindings) x) (replicate 2048 0) (replicate 1024 0) (replicate 1024 0) 0 none-yet (7 * n) n w page)
+      subst (λ (x : Numbers). Going pl whole script page (made (s .halves) (s .links) (s .owner) (s .live) (s .dangled) (s .parent) (s .number) (s .bindings) x) (replicate HANDLES 0) (replicate SLOTS 0) (replicate SLOTS 0) 0 none-yet (7 * n) n w page)
       (sym e) (going-start s r v h)
 
 -- ---- frame by frame
@@ -265,7 +265,7 @@ module _ (pl : ℕ → Place) (o : Outcome) (script page₀ : List ℕ) (s : Sco
         let o : o ≡ refusedAt n i = comes-on ∙ ap (λ (x : Step). before (g .done) (onward i x (λ y. stepsAt pl (suc i) y (taken .more)))) q in
         subst (λ (x : Outcome). Ends x (ended.Refused n i) page) (sym o) (told (omega (arith, g .early)))
 
-    module _ (dl : length drained′ ≡ 1024) (e : onwardOf (r .adds) ≡ Go) where
+    module _ (dl : length drained′ ≡ SLOTS) (e : onwardOf (r .adds) ≡ Go) where
       abbrev lines : List Line
       lines = linesOf (f .opcode) (r .adds) drained′
 
@@ -278,17 +278,17 @@ module _ (pl : ℕ → Place) (o : Outcome) (script page₀ : List ℕ) (s : Sco
       sound : StateSound base there
       sound = keeps-step base here here-sound (base-wide .slots) (by (pl i)) (fair (pl i)) (taken .frame) .at (lines, there) gives
 
-      enough : suc i + length (taken .more) ≤ 2048
+      enough : suc i + length (taken .more) ≤ LINES
       enough = omega (arith, g .early, ap length (taken .is))
 
       paid : w + length (linesText lines) + 4 * owing base (view (r .state)) ≤ 11 * suc i + 4 * r .handed
       paid = omega (arith, g .owed, pays base (by (pl i)) here here-sound (taken .frame) .at (lines, there) gives .covers, lines-length lines)
 
-      handed-few : r .handed ≤ 2048
+      handed-few : r .handed ≤ HANDLES
       unfolding base
       handed-few = sound .handles .few
 
-      pub going-room : length page₀ ≡ 32768 → w + length (linesText lines) ≤ length page
+      pub going-room : length page₀ ≡ PAGE → w + length (linesText lines) ≤ length page
       going-room h = omega (arith, paid, handed-few, enough, g .page-length)
 
       small-on : Small (suc i) there
@@ -323,7 +323,7 @@ module _ (pl : ℕ → Place) (o : Outcome) (script page₀ : List ℕ) (s : Sco
   pub going-size : s .size < 65536
   going-size = omega (arith, here-sound .scopes .size .fits, base-wide .size)
 
-  pub going-last : length page₀ ≡ 32768 → w + 7 ≤ length page
+  pub going-last : length page₀ ≡ PAGE → w + 7 ≤ length page
   unfolding base
   going-last h = omega (arith, g .owed, here-sound .handles .few, g .early, g .page-length)
 
@@ -335,7 +335,7 @@ module _ (pl : ℕ → Place) (o : Outcome) (script page₀ : List ℕ) (s : Sco
     comes-last : o ≡ accepted (g .done ++ []) (s .size)
     comes-last = g .comes ∙ ap (before (g .done)) (ap (stepsAt pl i here) no-more ∙ none-at pl i here)
 
-    pub going-end : length page₀ ≡ 32768 → (v : ℕ) (page′ : List ℕ) → v ≡ w + 7 → length page′ ≡ length page → page′ ≡ over page w (lineText (shows 0x90 (s .size ∷ [])))
+    pub going-end : length page₀ ≡ PAGE → (v : ℕ) (page′ : List ℕ) → v ≡ w + 7 → length page′ ≡ length page → page′ ≡ over page w (lineText (shows 0x90 (s .size ∷ [])))
         → Ends (o) (ended.Listed v (s .size)) page′
     unfolding over
     going-end h v page′ ev l q =

@@ -9,7 +9,7 @@ use lib.ListN.{length, getD, take, drop, set}
 use lib.Seq.{take-suc, drop-cons, set-at, length-take-le}
 use borrow.Author.Tests.{le-leb, lt-leb}
 use Rattle.rules.specs.Notation.{if_then_else_}
-use Rattle.rules.specs.Sizes.{base}
+use Rattle.rules.specs.Sizes.{base, LINES}
 use Rattle.rules.specs.Slots.{Place}
 use Rattle.rules.specs.Frames.{Outcome}
 use Rattle.rules.specs.Text.{Script, frames, unread, title, readScript, listText}
@@ -36,10 +36,10 @@ copied page list₀ list i h k e =
 -- ---- by how the steps ended
 
 module _ (script list page : List ℕ) (e : Ended) (h : Ends (translated base script) e page) where
-  pub late-line : (n i : ℕ) → e ≡ ended.Refused n i → i ≤ 2048
+  pub late-line : (n i : ℕ) → e ≡ ended.Refused n i → i ≤ LINES
   late-line n i q = go h q
     where
-      go : {o : Outcome} {x : Ended} → Ends o x page → x ≡ ended.Refused n i → i ≤ 2048
+      go : {o : Outcome} {x : Ended} → Ends o x page → x ≡ ended.Refused n i → i ≤ LINES
       go (refused {i = j} b) q = let z : j ≡ i = cc in omega arith
       go (listed a b c) q = absurd (let z : _≡_ {A = ℕ} 0 1 = cc in omega arith)
 

@@ -9,7 +9,7 @@ use lib.Dec.{leb}
 use lib.ListN.{length, length-append}
 use borrow.Author.Tests.{leb-true}
 use Rattle.rules.specs.Notation.{if_then_else_}
-use Rattle.rules.specs.Sizes.{base}
+use Rattle.rules.specs.Sizes.{base, LINES, LONGEST_LIST}
 use Rattle.rules.specs.Slots.{Place, byHead, lowest, exactlyAt}
 use Rattle.rules.specs.Frames.{start, Frame, Line, shows, Outcome, accepted, refusedAt, before, steps}
 use Rattle.rules.specs.Text.{Script, frames, unread, title, readScript, lineText, listText}
@@ -28,8 +28,8 @@ use Rattle.translate.proofs.Going.{by, fair, owes-none}
 -- ---- in the room of 01, by any place
 
 pub data Comes : Outcome → Type 0 where
-  to-list : {ls : List Line} {size : ℕ} → length (listText ls size) ≤ 30727 → Comes (accepted ls size)
-  to-stop : (n i : ℕ) → 1 ≤ n → n ≤ 22 → i ≤ 2048 → Comes (refusedAt n i)
+  to-list : {ls : List Line} {size : ℕ} → length (listText ls size) ≤ LONGEST_LIST → Comes (accepted ls size)
+  to-stop : (n i : ℕ) → 1 ≤ n → n ≤ 22 → i ≤ LINES → Comes (refusedAt n i)
 
 title-adds : (p : Place) (ls : List Line) (size : ℕ) → length (listText (title p ++ ls) size) ≤ length (listText ls size) + 7 * length (title p)
 unfolding listText
@@ -45,7 +45,7 @@ comes script = go (readScript base script .script) (read-in base (omega arith) s
     p = readScript base script .place
 
     -- the title's line is shorter than a frame's may be
-    under : (p : Place) (fs : List Frame) → length (title p) + length fs ≤ 2048 → (o : Outcome) → steps base (by p) (length (title p)) start fs ≡ o → Comes (before (title p) o)
+    under : (p : Place) (fs : List Frame) → length (title p) + length fs ≤ LINES → (o : Outcome) → steps base (by p) (length (title p)) start fs ≡ o → Comes (before (title p) o)
     under p fs h (accepted ls size) e =
         let k = list-length base (by p) (λ s ok f. keeps-step base s ok (base-wide .slots) (by p) (fair p) f) fs (length (title p)) start ls size (start-sound base (base-wide .segments) (base-wide .scopes)) e in
         to-list {ls = title p ++ ls} {size = size} (omega (arith, k, owes-none, title-adds p ls size))
@@ -61,7 +61,7 @@ comes script = go (readScript base script .script) (read-in base (omega arith) s
 
 -- `number`: the list is the one that came in
 abbrev pub Halves : List ℕ → Translation → Type 0
-Halves list l = Both (length list) 30727 22 2048 (l .list ≡ list) (l .answer)
+Halves list l = Both (length list) LONGEST_LIST 22 LINES (l .list ≡ list) (l .answer)
 
 halves-of : (list : List ℕ) (o : Outcome) → Comes o → Halves list (listLeft o list)
 unfolding listLeft if_then_else_

@@ -5,6 +5,7 @@ use Prim.Native.Nat.{ℕ, _+_, _*_, _≤_}
 use native.Mathlib.Omega.{arith}
 use lib.ListN.{length, take, length-append}
 use lib.Seq.{length-take-le}
+use Rattle.rules.specs.Sizes.{SLOTS}
 use Rattle.rules.specs.Frames.{Line, stores, loads, shows}
 use Rattle.rules.specs.Text.{lineText, listText}
 use Rattle.rules.proofs.Lengths.{line-length}
@@ -105,10 +106,10 @@ none-put {adds} o n drained e page w =
 
 -- ---- a count and as many operands
 
-pub few : {adds : Adds} {n : ℕ} → adds ≡ Drained n → Few adds → n ≤ 1024
+pub few : {adds : Adds} {n : ℕ} → adds ≡ Drained n → Few adds → n ≤ SLOTS
 few e h = subst Few e h
 
-module _ {adds : Adds} {n : ℕ} (drained : List ℕ) (e : adds ≡ Drained n) (h : Few adds) (l : length drained ≡ 1024) where
+module _ {adds : Adds} {n : ℕ} (drained : List ℕ) (e : adds ≡ Drained n) (h : Few adds) (l : length drained ≡ SLOTS) where
   within : n ≤ length drained
   within = omega (arith, few e h, l)
 

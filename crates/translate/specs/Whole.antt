@@ -4,7 +4,7 @@ use mathlib.Core.List.{List, [], _∷_, _++_}
 use Prim.Native.Nat.{ℕ, suc, _+_, _/_, _%_, _≤_}
 use lib.ListN.{length, getD, take}
 use lib.Dec.{ltb}
-use Rattle.rules.specs.Sizes.{base}
+use Rattle.rules.specs.Sizes.{base, LINES}
 use Rattle.rules.specs.Frames as rules
 use Rattle.rules.specs.Frames.{State, start, Line, stores, loads, shows, step, Outcome, accepted, refusedAt, before, onward}
 use Rattle.rules.specs.Slots.{Place, exactlyAt, placing}
@@ -102,4 +102,4 @@ walked by n script = before (title (placeBy n)) (stepsAt by n start (framesOf (r
 -- the list stands at the start of the page, or a refusal is told
 pub data Ends : Outcome → Ended → List ℕ → Type 0 where
   listed : {ls : List Line} {size n : ℕ} {page : List ℕ} → n ≡ length (listText ls size) → n ≤ length page → take n page ≡ listText ls size → Ends (accepted ls size) (ended.Listed n size) page
-  refused : {n i : ℕ} {page : List ℕ} → i ≤ 2048 → Ends (refusedAt n i) (ended.Refused n i) page
+  refused : {n i : ℕ} {page : List ℕ} → i ≤ LINES → Ends (refusedAt n i) (ended.Refused n i) page

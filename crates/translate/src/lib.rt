@@ -1,4 +1,5 @@
 // Scripts into lists: the steps of all frames, the page, and translate.
+use rules::PAGE;
 use text::refusal::refuse;
 use text::whole::Checked;
 use text::whole::check_script;
@@ -31,7 +32,7 @@ fn translate_read(script: &[u8], list: &mut [u8]) -> u64
     requires { ⌜ Read (now script) ⌝ }
     ensures { λ r. ⌜ Leaves (translateEntry base (now (script .entry)) (now (list .entry))) r (now (list .exit)) ⌝ }
 {
-    let mut page = [0u8; 32768];
+    let mut page = [0u8; PAGE];
     match whole_steps(script, &mut page) {
         Ended::Refused(m, i) => refuse(m, i),
         Ended::Listed(n, _) => {

@@ -2,7 +2,7 @@
 ghost use mathlib.Core.Path.{_≡_};
 ghost use Prim.Native.Nat.{ℕ, _+_, _≤_};
 ghost use lib.ListN.{length};
-ghost use Rattle.rules.specs.Sizes.{base};
+ghost use Rattle.rules.specs.Sizes.{base, SLOTS, PAGE};
 ghost use Rattle.rules.specs.Frames.{stores};
 ghost use Rattle.rules.specs.Text.{lineText, title};
 ghost use Rattle.rules.specs.Entries.{translated};
@@ -14,6 +14,9 @@ ghost use Rattle.translate.specs.Whole.{frameIn, linesOf, linesText, onw
 use dispatch::step;
 use frames::steps::Adds;
 use frames::steps::Source;
+use rules::HANDLES;
+use rules::NEEDS;
+use rules::SLOTS;
 use slots::Place;
 use slots::SlotAddress;
 use text::lines::Frame;
@@ -82,7 +85,7 @@ fn put_store(page: &mut [u8], w: usize, a: u16, x: Source) -> usize
 
 // The line of a frame at w of the page.
 fn put_adds(page: &mut [u8], w: usize, opcode: u8, adds: Adds, drained: &[u16]) -> usize
-    requires { ⌜ Few adds × (length (now drained) ≡ 1024) × (w + length (linesText (linesOf opcode adds (now drained))) ≤ length (now page)) ⌝ }
+    requires { ⌜ Few adds × (length (now drained) ≡ SLOTS) × (w + length (linesText (linesOf opcode adds (now drained))) ≤ length (now page)) ⌝ }
     ensures { λ r. ⌜ r ≡ w + length (linesText (linesOf opcode adds (now (drained .entry)))) ⌝ }
     ensures { λ _. ⌜ now (page .exit) ≡ over (now (page .entry)) w (linesText (linesOf opcode adds (now (drained .entry)))) ⌝ }
 {
@@ -145,14 +148,14 @@ fn steps_behind(
     guide: Guide,
     begun: usize,
 ) -> Ended
-    requires { ⌜ Read (now script) × HasLines guide (now shown) × (length (now page) ≡ 32768) × Begun (now script) (now page) titles begun ⌝ }
+    requires { ⌜ Read (now script) × HasLines guide (now shown) × (length (now page) ≡ PAGE) × Begun (now script) (now page) titles begun ⌝ }
     ensures { λ r. ⌜ Ends (walked (guideAt guide (now (shown .entry))) titles (now (script .entry))) r (now (page .exit)) ⌝ }
 {
-    let mut handles = [0u64; 2048];
-    let mut holders = [0u16; 1024];
-    let mut drained = [0u16; 1024];
-    let mut needs = [0u64; 64];
-    let mut remembers = [0u16; 64];
+    let mut handles = [0u64; HANDLES];
+    let mut holders = [0u16; SLOTS];
+    let mut drained = [0u16; SLOTS];
+    let mut needs = [0u64; NEEDS];
+    let mut remembers = [0u16; NEEDS];
     let s = scopes::fresh();
     let mut halves = s.halves;
     let mut links = s.links;
@@ -213,7 +216,7 @@ fn steps_behind(
 
 // The script is read: its title, and what stands behind it, by its edition.
 pub fn steps(script: &[u8], page: &mut [u8]) -> Ended
-    requires { ⌜ Read (now script) × (length (now page) ≡ 32768) ⌝ }
+    requires { ⌜ Read (now script) × (length (now page) ≡ PAGE) ⌝ }
     ensures { λ r. ⌜ Ends (translated base (now (script .entry))) r (now (page .exit)) ⌝ }
 {
     let none = [0u64; 1];
@@ -225,7 +228,7 @@ pub fn steps(script: &[u8], page: &mut [u8]) -> Ended
 
 // The same, but that slots go where a list shows them: the table has its lines.
 pub fn steps_shown(script: &[u8], shown: &[u64], lines: usize, page: &mut [u8]) -> Ended
-    requires { ⌜ Read (now script) × (lines ≤ length (now shown)) × (length (now page) ≡ 32768) ⌝ }
+    requires { ⌜ Read (now script) × (lines ≤ length (now shown)) × (length (now page) ≡ PAGE) ⌝ }
     ensures { λ r. ⌜ ((n : ℕ) × Titles (now (script .entry)) n × Ends (walked (guideAt (Guide.Shown lines) (now (shown .entry))) n (now (script .entry))) r (now (page .exit))) ⌝ }
 {
     let titles = title_lines(script);

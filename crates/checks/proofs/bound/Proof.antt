@@ -1,15 +1,16 @@
 -- `bound` meets its contract. Assumes nothing.
 use Prim.Native.Nat.{_-_, _≤_}
 use borrow.Author.Needs.{needs}
+use Rattle.rules.specs.Sizes.{BINDINGS}
 use Rattle.scopes.specs.Sound.{Sound}
 use Rattle.checks.proofs.bound.Statement.{statement}
 use Rattle.checks.proofs.bound.Tie as tie
 
 abbrev Inv-loop : tie.InvT-loop
-Inv-loop s₀ i₀ s i = Sound s × (i ≤ 256)
+Inv-loop s₀ i₀ s i = Sound s × (i ≤ BINDINGS)
 
 abbrev μ-loop : tie.MeasureT-loop
-μ-loop s₀ i₀ s i = 256 - i
+μ-loop s₀ i₀ s i = BINDINGS - i
 
 loop-holds : tie.Need-loop-holds Inv-loop μ-loop
 loop-holds c = search needs

@@ -1,15 +1,16 @@
 -- `opened` meets its contract. Assumes nothing.
 use Prim.Native.Nat.{_-_, _≤_}
 use borrow.Author.Needs.{needs}
+use Rattle.rules.specs.Sizes.{SCOPES}
 use Rattle.scopes.specs.Sound.{Sound}
 use Rattle.checks.proofs.opened.Statement.{statement}
 use Rattle.checks.proofs.opened.Tie as tie
 
 abbrev Inv-loop : tie.InvT-loop
-Inv-loop s₀ i₀ s i = Sound s × (i ≤ 63)
+Inv-loop s₀ i₀ s i = Sound s × (i ≤ (SCOPES - 1))
 
 abbrev μ-loop : tie.MeasureT-loop
-μ-loop s₀ i₀ s i = 63 - i
+μ-loop s₀ i₀ s i = (SCOPES - 1) - i
 
 fresh-requires : tie.Need-fresh-requires Inv-loop μ-loop
 fresh-requires c κs = search needs

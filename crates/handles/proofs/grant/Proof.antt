@@ -3,6 +3,7 @@ use mathlib.Core.Path.{_≡_}
 use native.Mathlib.Omega.{arith}
 use borrow.Author.Needs.{needs}
 use lib.ListN.{length, length-set}
+use Rattle.rules.specs.Sizes.{HANDLES, SLOTS}
 use Rattle.needs.specs.Kinds.{kindOf}
 use Rattle.handles.specs.Handles.{Hands}
 use Rattle.handles.proofs.Grants.{hands-more, hands-none, hands-all}
@@ -10,7 +11,7 @@ use Rattle.handles.proofs.grant.Statement.{statement}
 use Rattle.handles.proofs.grant.Tie as tie
 
 abbrev Inv-loop : tie.InvT-loop
-Inv-loop handles₀ holders₀ handed n a kind i₀ handles holders i = (i ≤ n) × Hands handles₀ handles holders₀ holders handed i a (kindOf kind) × (length handles ≡ 2048) × (length holders ≡ 1024)
+Inv-loop handles₀ holders₀ handed n a kind i₀ handles holders i = (i ≤ n) × Hands handles₀ handles holders₀ holders handed i a (kindOf kind) × (length handles ≡ HANDLES) × (length holders ≡ SLOTS)
 
 abbrev μ-loop : tie.MeasureT-loop
 μ-loop handles₀ holders₀ handed n a kind i₀ handles holders i = n - i

@@ -1,6 +1,7 @@
 -- `links::append` meets its contract: its four stores are those of Appends. Assumes nothing.
 use Prim.Native.Nat.{_+_, _<_}
 use native.Mathlib.Omega.{arith}
+use Rattle.rules.specs.Sizes.{CELLS, LISTS, SLOTS}
 use Rattle.links.specs.Links.{nextIn, prevIn}
 use Rattle.links.proofs.Rings.{end-of}
 use Rattle.links.proofs.Cells.{held-stored}
@@ -10,11 +11,11 @@ use Rattle.links.proofs.append.Statement.{statement}
 use Rattle.links.proofs.append.Tie as tie
 
 -- the cell before the end of list i is one of the cells
-fits : (c : tie.After-wide) → c .wide .result < 1089
+fits : (c : tie.After-wide) → c .wide .result < CELLS
 fits c =
     let s = c .before .before in
     let p = s .pre .1 in
-    omega (arith, c .wide .ensures, end-of 1024 65 _ _ (1024 + s .args .i) (s .args .a) (p .0 (s .args .i)) (s .pre .0 .1) (omega arith) (omega arith) (p .1 .ring (s .args .i) (s .pre .0 .0)) (p .2 (s .args .i) (s .pre .0 .0)) .0 .0)
+    omega (arith, c .wide .ensures, end-of SLOTS LISTS _ _ (SLOTS + s .args .i) (s .args .a) (p .0 (s .args .i)) (s .pre .0 .1) (omega arith) (omega arith) (p .1 .ring (s .args .i) (s .pre .0 .0)) (p .2 (s .args .i) (s .pre .0 .0)) .0 .0)
 
 add-e : tie.Need-add-e
 add-e c = search needs
@@ -78,8 +79,8 @@ returns c =
     let s = c .before .before in
     let t = s .args .t .now in (
       λ xs h off.
-          held-stored 1024 65 t _ (c .wide .result) (s .args .a) (s .args .a) (1024 + s .args .i) (s .args .a) (c .wide .result) (1024 + s .args .i) (s .args .a) (s .pre .0 .2) (fits c) (omega arith) (omega arith) (omega arith)
-          (rw (c .wide .ensures) (appended 1024 65 (nextIn t) (prevIn 1089 t) xs h (omega arith) (s .args .i) (s .args .a) (s .pre .0 .0) (s .pre .0 .1) off)),
+          held-stored SLOTS LISTS t _ (c .wide .result) (s .args .a) (s .args .a) (SLOTS + s .args .i) (s .args .a) (c .wide .result) (SLOTS + s .args .i) (s .args .a) (s .pre .0 .2) (fits c) (omega arith) (omega arith) (omega arith)
+          (rw (c .wide .ensures) (appended SLOTS LISTS (nextIn t) (prevIn CELLS t) xs h (omega arith) (s .args .i) (s .args .a) (s .pre .0 .0) (s .pre .0 .1) off)),
       search needs,
     )
 

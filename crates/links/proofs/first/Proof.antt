@@ -1,4 +1,5 @@
 -- `links::first` meets its contract. Assumes nothing.
+use Rattle.rules.specs.Sizes.{LISTS, SLOTS}
 use Rattle.links.proofs.Walks.{walk}
 use borrow.Author.Needs.{needs}
 use Rattle.links.proofs.first.Statement.{statement}
@@ -17,7 +18,7 @@ wide-requires : tie.Need-wide-requires
 wide-requires c κs = search needs
 
 returns : tie.Need-returns
-returns c = λ xs h. let s = c .before .before in rw (c .wide .ensures) (walk 1024 65 (s .args .t .now) xs h (s .args .i) (s .pre .0) .0)
+returns c = λ xs h. let s = c .before .before in rw (c .wide .ensures) (walk SLOTS LISTS (s .args .t .now) xs h (s .args .i) (s .pre .0) .0)
 
 pub first-spec : {M : Type 1} → statement M
 first-spec = tie.close (tie.spec add-e mul-wide element-copy-out-wide wide-requires returns)

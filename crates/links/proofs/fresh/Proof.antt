@@ -1,19 +1,20 @@
 -- `links::fresh` meets its contract. The loop's invariant: the ends of the first i lists are set, and every address has the mark. Assumes nothing.
 use mathlib.Core.Path.{_≡_}
 use Prim.Native.Nat.{_-_, _≤_}
+use Rattle.rules.specs.Sizes.{LISTS, SLOTS}
 use Rattle.links.proofs.Empty.{Emptied, emptied-start, emptied-step, emptied-held}
 use borrow.Author.Needs.{needs}
 use Rattle.links.proofs.fresh.Statement.{statement}
 use Rattle.links.proofs.fresh.Tie as tie
 
 abbrev Inv-loop : tie.InvT-loop
-Inv-loop t₀ i₀ t i = (i ≤ 65) × Emptied 1024 65 t i
+Inv-loop t₀ i₀ t i = (i ≤ LISTS) × Emptied SLOTS LISTS t i
 
 abbrev μ-loop : tie.MeasureT-loop
-μ-loop t₀ i₀ t i = 65 - i
+μ-loop t₀ i₀ t i = LISTS - i
 
 loop-holds : tie.Need-loop-holds Inv-loop μ-loop
-loop-holds c = (search needs, emptied-start 1024 65)
+loop-holds c = (search needs, emptied-start SLOTS LISTS)
 
 add-e : tie.Need-add-e Inv-loop μ-loop
 add-e c = search needs
@@ -46,12 +47,12 @@ loop-less : tie.Need-loop-less Inv-loop μ-loop
 loop-less c = search needs
 
 loop-again : tie.Need-loop-again Inv-loop μ-loop
-loop-again c = (search needs, emptied-step 1024 65 (c .before .loop .t) (c .before .loop .i) (search needs) (c .before .loop .inv .1))
+loop-again c = (search needs, emptied-step SLOTS LISTS (c .before .loop .t) (c .before .loop .i) (search needs) (c .before .loop .inv .1))
 
 returns : tie.Need-returns Inv-loop μ-loop
 returns c =
-    let e : c .before .loop .i ≡ 65 = search needs in
-    emptied-held 1024 65 _ (rw e at (c .before .loop .inv .1))
+    let e : c .before .loop .i ≡ LISTS = search needs in
+    emptied-held SLOTS LISTS _ (rw e at (c .before .loop .inv .1))
 
 pub fresh-spec : {M : Type 1} → statement M
 fresh-spec =

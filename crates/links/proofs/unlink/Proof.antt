@@ -2,6 +2,7 @@
 use Prim.Native.Nat.{_+_, _<_}
 use native.Mathlib.Omega.{arith}
 use lib.ListN.{getD}
+use Rattle.rules.specs.Sizes.{CELLS, LISTS, SLOTS}
 use Rattle.links.specs.Links.{nextIn, prevIn}
 use Rattle.links.proofs.Rings.{Place, placed}
 use Rattle.links.proofs.Cells.{held-stored}
@@ -11,10 +12,10 @@ use Rattle.links.proofs.unlink.Statement.{statement}
 use Rattle.links.proofs.unlink.Tie as tie
 
 -- where a stands: the cells before and after it are cells
-stands : (s : tie.Start) → Place 1024 65 (nextIn (s .args .t .now)) (prevIn 1089 (s .args .t .now)) (1024 + s .pre .1 .2 .0) (s .args .a) (s .pre .1 .0 (s .pre .1 .2 .0))
-stands s = let p = s .pre .1 in placed 1024 65 _ _ (p .0) (p .1) (p .2 .0) (s .args .a) (p .2 .1) (p .2 .2)
+stands : (s : tie.Start) → Place SLOTS LISTS (nextIn (s .args .t .now)) (prevIn CELLS (s .args .t .now)) (SLOTS + s .pre .1 .2 .0) (s .args .a) (s .pre .1 .0 (s .pre .1 .2 .0))
+stands s = let p = s .pre .1 in placed SLOTS LISTS _ _ (p .0) (p .1) (p .2 .0) (s .args .a) (p .2 .1) (p .2 .2)
 
-fits : (s : tie.Start) → (getD (s .args .t .now) (1089 + s .args .a) 0 < 1089) × (getD (s .args .t .now) (s .args .a) 0 < 1089)
+fits : (s : tie.Start) → (getD (s .args .t .now) (CELLS + s .args .a) 0 < CELLS) × (getD (s .args .t .now) (s .args .a) 0 < CELLS)
 fits s = (stands s .left .0 .0, stands s .right .0 .0)
 
 add-l : tie.Need-add-l
@@ -73,8 +74,8 @@ returns c =
     let s = c .before .before in
     let t = s .args .t .now in (
       λ xs h on.
-          held-stored 1024 65 t _ (getD t (1089 + s .args .a) 0) (getD t (s .args .a) 0) (s .args .a) 65535 (getD t (s .args .a) 0) (getD t (1089 + s .args .a) 0) (s .args .a) 65535 (s .pre .0 .1) (fits s .0) (omega arith) (fits s .1) (omega arith)
-          (unlinked 1024 65 (nextIn t) (prevIn 1089 t) xs h (omega arith) (on .0) (s .args .a) (on .1) (on .2)),
+          held-stored SLOTS LISTS t _ (getD t (CELLS + s .args .a) 0) (getD t (s .args .a) 0) (s .args .a) 65535 (getD t (s .args .a) 0) (getD t (CELLS + s .args .a) 0) (s .args .a) 65535 (s .pre .0 .1) (fits s .0) (omega arith) (fits s .1) (omega arith)
+          (unlinked SLOTS LISTS (nextIn t) (prevIn CELLS t) xs h (omega arith) (on .0) (s .args .a) (on .1) (on .2)),
       search needs,
     )
 

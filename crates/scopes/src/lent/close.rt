@@ -4,33 +4,41 @@ ghost use Rattle.rules.specs.Scopes as rule;
 ghost use Rattle.scopes.specs.View.{idOf, toldOnly};
 ghost use Rattle.scopes.specs.Lent.{made, withSlots, Whole, Becomes, Lives, Empties, Shuts};
 use crate::LentOutcome;
+use crate::NO_PARENT;
 use crate::Numbers;
+use crate::OF_DANGLING;
 use crate::Reply;
 use crate::ScopeId;
 use crate::Scopes;
 use crate::close as leaves;
 use crate::names;
 use crate::open;
+use rules::BINDINGS;
+use rules::DANGLING;
+use rules::HALVES;
+use rules::LINKS;
+use rules::SCOPES;
+use rules::SLOTS;
 use slots::halves as bits;
 
 // The addresses of scope i, which is live, go to the dangling list in order.
 pub fn empty(
-    halves: &mut [u64; 16],
-    links: &mut [u16; 2178],
-    owner: &mut [u8; 1024],
+    halves: &mut [u64; HALVES],
+    links: &mut [u16; LINKS],
+    owner: &mut [u8; SLOTS],
     n: Numbers,
     i: usize,
 ) -> Numbers
     requires { ⌜ ((s : Scopes) × Whole (withSlots s (now halves) (now links) (now owner) n) × Lives s i) ⌝ }
     ensures { λ r. ⌜ ((s : Scopes) → Lives s i → Empties (withSlots s (now (halves .entry)) (now (links .entry)) (now (owner .entry)) n) i (withSlots s (now (halves .exit)) (now (links .exit)) (now (owner .exit)) r)) ⌝ }
 {
-    let e = 1024 + i;
+    let e = SLOTS + i;
     let mut head = n.head;
     let mut a = links::first(links, i);
     while a != e {
         bits::vacate(halves, a);
-        links::place(links, 64, a);
-        owner[a] = 64;
+        links::place(links, DANGLING, a);
+        owner[a] = OF_DANGLING;
         head = a / 128;
         a = links::first(links, i);
     }
@@ -41,14 +49,14 @@ pub fn empty(
 
 // Scope i, which is live, is closed: its addresses dangle, its bindings go, top becomes its parent. 6.
 pub fn close(
-    halves: &mut [u64; 16],
-    links: &mut [u16; 2178],
-    owner: &mut [u8; 1024],
-    live: &mut [bool; 64],
-    dangled: &mut [bool; 64],
-    parent: &mut [u8; 64],
-    number: &mut [u32; 64],
-    bindings: &mut [u64; 256],
+    halves: &mut [u64; HALVES],
+    links: &mut [u16; LINKS],
+    owner: &mut [u8; SLOTS],
+    live: &mut [bool; SCOPES],
+    dangled: &mut [bool; SCOPES],
+    parent: &mut [u8; SCOPES],
+    number: &mut [u32; SCOPES],
+    bindings: &mut [u64; BINDINGS],
     n: Numbers,
     i: usize,
 ) -> LentOutcome
@@ -66,7 +74,7 @@ pub fn close(
     m.top = open::wide8(parent[i]);
     live[i] = false;
     dangled[i] = false;
-    parent[i] = 64;
+    parent[i] = NO_PARENT;
     number[i] = 0;
     LentOutcome {
         numbers: m,
@@ -76,14 +84,14 @@ pub fn close(
 
 // pop s: 4, 5 and 6 are looked at first.
 pub fn pop(
-    halves: &mut [u64; 16],
-    links: &mut [u16; 2178],
-    owner: &mut [u8; 1024],
-    live: &mut [bool; 64],
-    dangled: &mut [bool; 64],
-    parent: &mut [u8; 64],
-    number: &mut [u32; 64],
-    bindings: &mut [u64; 256],
+    halves: &mut [u64; HALVES],
+    links: &mut [u16; LINKS],
+    owner: &mut [u8; SLOTS],
+    live: &mut [bool; SCOPES],
+    dangled: &mut [bool; SCOPES],
+    parent: &mut [u8; SCOPES],
+    number: &mut [u32; SCOPES],
+    bindings: &mut [u64; BINDINGS],
     n: Numbers,
     id: ScopeId,
 ) -> LentOutcome
@@ -114,21 +122,21 @@ pub fn pop(
 
 // pop last: root is closed; then there is no top. 3, 6.
 pub fn pop_last(
-    halves: &mut [u64; 16],
-    links: &mut [u16; 2178],
-    owner: &mut [u8; 1024],
-    live: &mut [bool; 64],
-    dangled: &mut [bool; 64],
-    parent: &mut [u8; 64],
-    number: &mut [u32; 64],
-    bindings: &mut [u64; 256],
+    halves: &mut [u64; HALVES],
+    links: &mut [u16; LINKS],
+    owner: &mut [u8; SLOTS],
+    live: &mut [bool; SCOPES],
+    dangled: &mut [bool; SCOPES],
+    parent: &mut [u8; SCOPES],
+    number: &mut [u32; SCOPES],
+    bindings: &mut [u64; BINDINGS],
     n: Numbers,
 ) -> LentOutcome
     requires { ⌜ Whole (made (now halves) (now links) (now owner) (now live) (now dangled) (now parent) (now number) (now bindings) n) ⌝ }
     ensures { λ r. ⌜ Becomes (made (now (halves .entry)) (now (links .entry)) (now (owner .entry)) (now (live .entry)) (now (dangled .entry)) (now (parent .entry)) (now (number .entry)) (now (bindings .entry)) n) (made (now (halves .exit)) (now (links .exit)) (now (owner .exit)) (now (live .exit)) (now (dangled .exit)) (now (parent .exit)) (now (number .exit)) (now (bindings .exit)) (r .numbers)) (r .reply) (λ c. toldOnly c (rule.popLastScope base c)) ⌝ }
 {
     let top = n.top;
-    if top == 64 {
+    if top == SCOPES {
         return LentOutcome {
             numbers: n,
             reply: Reply::Refused(3),

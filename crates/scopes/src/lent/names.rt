@@ -10,13 +10,15 @@ use crate::Numbers;
 use crate::Reply;
 use crate::Scopes;
 use crate::names;
+use rules::BINDINGS;
+use rules::SCOPES;
 use slots::SlotAddress;
 
 // get: the nearest binding of the name, from the top up to root. 3, 10, 11.
 pub fn get<'a>(
-    live: &'a [bool; 64],
-    parent: &'a [u8; 64],
-    bindings: &'a [u64; 256],
+    live: &'a [bool; SCOPES],
+    parent: &'a [u8; SCOPES],
+    bindings: &'a [u64; BINDINGS],
     n: Numbers,
     name: u16,
 ) -> Reply
@@ -24,11 +26,11 @@ pub fn get<'a>(
     ensures { λ r. ⌜ ((s : Scopes) → Whole (withNames (withScopes s (now (live .entry)) (s .dangled) (now (parent .entry)) (s .number) n) (now (bindings .entry)) n) → r ≡ replied bound (rule.getName base name (view (withNames (withScopes s (now (live .entry)) (s .dangled) (now (parent .entry)) (s .number) n) (now (bindings .entry)) n)))) ⌝ }
 {
     let top = n.top;
-    if top == 64 {
+    if top == SCOPES {
         return Reply::Refused(3);
     }
-    let j = names::lookup(live, parent, bindings, n.count, name, top, 64);
-    if 256 <= j {
+    let j = names::lookup(live, parent, bindings, n.count, name, top, SCOPES);
+    if BINDINGS <= j {
         return Reply::Refused(10);
     }
     let b = bindings[j];
@@ -40,9 +42,9 @@ pub fn get<'a>(
 
 // take: the same, and the binding is marked moved where it stands.
 pub fn take<'a>(
-    live: &'a [bool; 64],
-    parent: &'a [u8; 64],
-    bindings: &mut [u64; 256],
+    live: &'a [bool; SCOPES],
+    parent: &'a [u8; SCOPES],
+    bindings: &mut [u64; BINDINGS],
     n: Numbers,
     name: u16,
 ) -> LentOutcome
@@ -50,14 +52,14 @@ pub fn take<'a>(
     ensures { λ r. ⌜ ((s : Scopes) → Becomes (withNames (withScopes s (now (live .entry)) (s .dangled) (now (parent .entry)) (s .number) n) (now (bindings .entry)) n) (withNames (withScopes s (now (live .entry)) (s .dangled) (now (parent .entry)) (s .number) n) (now (bindings .exit)) (r .numbers)) (r .reply) (λ c. told bound c (rule.takeName base name c))) ⌝ }
 {
     let top = n.top;
-    if top == 64 {
+    if top == SCOPES {
         return LentOutcome {
             numbers: n,
             reply: Reply::Refused(3),
         };
     }
-    let j = names::lookup(live, parent, bindings, n.count, name, top, 64);
-    if 256 <= j {
+    let j = names::lookup(live, parent, bindings, n.count, name, top, SCOPES);
+    if BINDINGS <= j {
         return LentOutcome {
             numbers: n,
             reply: Reply::Refused(10),
@@ -79,7 +81,7 @@ pub fn take<'a>(
 
 // define: binds in the top, replacing an equal name there and its moved mark. 3, 9.
 pub fn define(
-    bindings: &mut [u64; 256],
+    bindings: &mut [u64; BINDINGS],
     n: Numbers,
     name: u16,
     address: SlotAddress,
@@ -89,7 +91,7 @@ pub fn define(
     ensures { λ r. ⌜ ((s : Scopes) → Becomes (withNames s (now (bindings .entry)) n) (withNames s (now (bindings .exit)) (r .numbers)) (r .reply) (λ c. toldOnly c (defined name (address .0) (handle .0) c))) ⌝ }
 {
     let count = n.count;
-    if n.top == 64 {
+    if n.top == SCOPES {
         return LentOutcome {
             numbers: n,
             reply: Reply::Refused(3),
@@ -97,14 +99,14 @@ pub fn define(
     }
     let j = names::find(bindings, count, n.top, name);
     let b = names::packed(n.top, name, address, handle);
-    if j < 256 {
+    if j < BINDINGS {
         bindings[j] = b;
         return LentOutcome {
             numbers: n,
             reply: Reply::Done,
         };
     }
-    if count == 256 {
+    if count == BINDINGS {
         return LentOutcome {
             numbers: n,
             reply: Reply::Refused(9),

@@ -11,26 +11,27 @@ use crate::Reply;
 use crate::ScopeId;
 use crate::Scopes;
 use crate::open;
+use rules::SCOPES;
 
 // child: the parent is the top; the new scope becomes the top. 3, 8.
 pub fn child(
-    live: &mut [bool; 64],
-    parent: &mut [u8; 64],
-    number: &mut [u32; 64],
+    live: &mut [bool; SCOPES],
+    parent: &mut [u8; SCOPES],
+    number: &mut [u32; SCOPES],
     n: Numbers,
 ) -> LentOutcome
     requires { ⌜ ((s : Scopes) × Whole (withScopes s (now live) (s .dangled) (now parent) (now number) n)) ⌝ }
     ensures { λ r. ⌜ ((s : Scopes) → Becomes (withScopes s (now (live .entry)) (s .dangled) (now (parent .entry)) (now (number .entry)) n) (withScopes s (now (live .exit)) (s .dangled) (now (parent .exit)) (now (number .exit)) (r .numbers)) (r .reply) (λ c. told opened c (rule.openChild base c))) ⌝ }
 {
     let top = n.top;
-    if top == 64 {
+    if top == SCOPES {
         return LentOutcome {
             numbers: n,
             reply: Reply::Refused(3),
         };
     }
     let i = open::free_index(live);
-    if i == 64 {
+    if i == SCOPES {
         return LentOutcome {
             numbers: n,
             reply: Reply::Refused(8),
@@ -54,10 +55,10 @@ pub fn child(
 
 // dangle s: marks it; top becomes its parent. 4, 5.
 pub fn dangle<'a>(
-    live: &'a [bool; 64],
-    dangled: &mut [bool; 64],
-    parent: &'a [u8; 64],
-    number: &'a [u32; 64],
+    live: &'a [bool; SCOPES],
+    dangled: &mut [bool; SCOPES],
+    parent: &'a [u8; SCOPES],
+    number: &'a [u32; SCOPES],
     n: Numbers,
     id: ScopeId,
 ) -> LentOutcome
@@ -83,9 +84,9 @@ pub fn dangle<'a>(
 
 // restore s: unmarks it; top becomes s. 4, 5.
 pub fn restore<'a>(
-    live: &'a [bool; 64],
-    dangled: &mut [bool; 64],
-    number: &'a [u32; 64],
+    live: &'a [bool; SCOPES],
+    dangled: &mut [bool; SCOPES],
+    number: &'a [u32; SCOPES],
     n: Numbers,
     id: ScopeId,
 ) -> LentOutcome
@@ -110,11 +111,11 @@ pub fn restore<'a>(
 }
 
 // A script names a scope by its number: the id of the one that is meant. 4.
-pub fn numbered<'a>(live: &'a [bool; 64], number: &'a [u32; 64], m: u32) -> Reply
+pub fn numbered<'a>(live: &'a [bool; SCOPES], number: &'a [u32; SCOPES], m: u32) -> Reply
     ensures { λ r. ⌜ ((s : Scopes) → r ≡ replied (λ k. opened (rule.idOf k)) (refuse 4 unless (rule.byNumber base (view (withScopes s (now (live .entry)) (s .dangled) (s .parent) (now (number .entry)) (numbersOf s))) m))) ⌝ }
 {
     let i = open::with_number(live, number, m);
-    if i == 64 {
+    if i == SCOPES {
         return Reply::Refused(4);
     }
     Reply::Opened(ScopeId {

@@ -8,10 +8,17 @@ ghost use Rattle.scopes.specs.View.{idOf, at, atFirst, told, toldOnly};
 ghost use Rattle.scopes.specs.Lent.{withSlots, withScopes, numbersOf, Whole, Becomes, LentBecomes, Lives, LentTakes, AllotsAt, AllotsIn, TopOwns};
 use crate::LentOutcome;
 use crate::Numbers;
+use crate::OF_DANGLING;
+use crate::OF_NOBODY;
 use crate::Reply;
 use crate::ScopeId;
 use crate::Scopes;
 use crate::open;
+use rules::DANGLING;
+use rules::HALVES;
+use rules::LINKS;
+use rules::SCOPES;
+use rules::SLOTS;
 use slots::Place;
 use slots::SlotAddress;
 use slots::halves as bits;
@@ -19,9 +26,9 @@ use slots::spots;
 
 // The slots from a on, `many` of them, which are clear, go to scope k, one after another.
 pub fn take_run(
-    halves: &mut [u64; 16],
-    links: &mut [u16; 2178],
-    owner: &mut [u8; 1024],
+    halves: &mut [u64; HALVES],
+    links: &mut [u16; LINKS],
+    owner: &mut [u8; SLOTS],
     k: usize,
     a: usize,
     many: usize,
@@ -41,9 +48,9 @@ pub fn take_run(
 
 // `many` slots for scope k, which is live. 7.
 pub fn alloc_at(
-    halves: &mut [u64; 16],
-    links: &mut [u16; 2178],
-    owner: &mut [u8; 1024],
+    halves: &mut [u64; HALVES],
+    links: &mut [u16; LINKS],
+    owner: &mut [u8; SLOTS],
     n: Numbers,
     k: usize,
     many: usize,
@@ -54,7 +61,7 @@ pub fn alloc_at(
 {
     let spot = spots::choose(halves, n.segments, n.head, place, many);
     let a = spot.address;
-    if a == 1024 {
+    if a == SLOTS {
         return LentOutcome {
             numbers: n,
             reply: Reply::Refused(7),
@@ -76,9 +83,9 @@ pub fn alloc_at(
 
 // alloc: a slot for the top. 3, 7.
 pub fn alloc(
-    halves: &mut [u64; 16],
-    links: &mut [u16; 2178],
-    owner: &mut [u8; 1024],
+    halves: &mut [u64; HALVES],
+    links: &mut [u16; LINKS],
+    owner: &mut [u8; SLOTS],
     n: Numbers,
     place: Place,
 ) -> LentOutcome
@@ -86,7 +93,7 @@ pub fn alloc(
     ensures { λ r. ⌜ LentBecomes halves links owner n r (λ c. told at c (rule.allocTop (placementOf place) c)) ⌝ }
 {
     let top = n.top;
-    if top == 64 {
+    if top == SCOPES {
         return LentOutcome {
             numbers: n,
             reply: Reply::Refused(3),
@@ -97,11 +104,11 @@ pub fn alloc(
 
 // alloc in s: a slot for the scope with this id. 4, 7.
 pub fn alloc_in<'a>(
-    halves: &mut [u64; 16],
-    links: &mut [u16; 2178],
-    owner: &mut [u8; 1024],
-    live: &'a [bool; 64],
-    number: &'a [u32; 64],
+    halves: &mut [u64; HALVES],
+    links: &mut [u16; LINKS],
+    owner: &mut [u8; SLOTS],
+    live: &'a [bool; SCOPES],
+    number: &'a [u32; SCOPES],
     n: Numbers,
     id: ScopeId,
     place: Place,
@@ -110,7 +117,7 @@ pub fn alloc_in<'a>(
     ensures { λ r. ⌜ AllotsIn halves links owner live number n (idOf id) (placementOf place) r ⌝ }
 {
     let i = open::place_of(live, number, id);
-    if i == 64 {
+    if i == SCOPES {
         return LentOutcome {
             numbers: n,
             reply: Reply::Refused(4),
@@ -121,9 +128,9 @@ pub fn alloc_in<'a>(
 
 // linear: 0 gives an empty run; whether 1 is another case than more is the placement's. 3, 7.
 pub fn alloc_run(
-    halves: &mut [u64; 16],
-    links: &mut [u16; 2178],
-    owner: &mut [u8; 1024],
+    halves: &mut [u64; HALVES],
+    links: &mut [u16; LINKS],
+    owner: &mut [u8; SLOTS],
     n: Numbers,
     many: u16,
     place: Place,
@@ -133,7 +140,7 @@ pub fn alloc_run(
 {
     let top = n.top;
     let m = many as usize;
-    if top == 64 {
+    if top == SCOPES {
         return LentOutcome {
             numbers: n,
             reply: Reply::Refused(3),
@@ -150,9 +157,9 @@ pub fn alloc_run(
 
 // The slot a, which the top owns, is clear then, and dangles or not.
 pub fn release(
-    halves: &mut [u64; 16],
-    links: &mut [u16; 2178],
-    owner: &mut [u8; 1024],
+    halves: &mut [u64; HALVES],
+    links: &mut [u16; LINKS],
+    owner: &mut [u8; SLOTS],
     n: Numbers,
     a: usize,
     dangles: bool,
@@ -170,20 +177,20 @@ pub fn release(
     };
     bits::vacate(halves, a);
     if dangles {
-        links::place(links, 64, a);
-        owner[a] = 64;
+        links::place(links, DANGLING, a);
+        owner[a] = OF_DANGLING;
         return left;
     }
     links::unlink(links, a);
-    owner[a] = 65;
+    owner[a] = OF_NOBODY;
     left
 }
 
 // The slot a goes back, if top owns it; where it `dangles`, it is put on the dangling list. 12.
 pub fn give_back(
-    halves: &mut [u64; 16],
-    links: &mut [u16; 2178],
-    owner: &mut [u8; 1024],
+    halves: &mut [u64; HALVES],
+    links: &mut [u16; LINKS],
+    owner: &mut [u8; SLOTS],
     n: Numbers,
     a: SlotAddress,
     dangles: bool,
@@ -193,13 +200,13 @@ pub fn give_back(
 {
     let x = a.0 as usize;
     let top = n.top;
-    if top == 64 {
+    if top == SCOPES {
         return LentOutcome {
             numbers: n,
             reply: Reply::Refused(12),
         };
     }
-    if 1024 <= x {
+    if SLOTS <= x {
         return LentOutcome {
             numbers: n,
             reply: Reply::Refused(12),

@@ -4,7 +4,7 @@ use mathlib.Core.Bool.{Bool, true, false}
 use lib.ListN.{length}
 use borrow.Author.Tests.{not-true, not-false}
 use borrow.Author.Needs.{needs}
-use Rattle.rules.specs.Sizes.{base}
+use Rattle.rules.specs.Sizes.{base, BINDINGS, SCOPES}
 use Rattle.rules.specs.Sound.{soundSlots}
 use Rattle.rules.specs.Tells.{Tells}
 use Rattle.rules.proofs.Tells.{tells-as}
@@ -17,10 +17,10 @@ use Rattle.soundness.proofs.Agrees.{tells-both}
 use Rattle.soundness.proofs.is_sound.Statement.{statement}
 use Rattle.soundness.proofs.is_sound.Tie as tie
 
-long-bindings : (s : tie.Start) → length (s .args .t1 .bindings) ≡ 256
+long-bindings : (s : tie.Start) → length (s .args .t1 .bindings) ≡ BINDINGS
 long-bindings s = search needs
 
-long-live : (s : tie.Start) → length (s .args .t1 .live) ≡ 64
+long-live : (s : tie.Start) → length (s .args .t1 .live) ≡ SCOPES
 long-live s = search needs
 
 -- both promises from the first

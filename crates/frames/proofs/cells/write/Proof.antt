@@ -3,7 +3,7 @@ use native.Mathlib.Omega.{arith}
 use mathlib.Core.Path.{refl, sym, ap, subst, _∙_}
 use borrow.Author.Tests.{not-true, not-false}
 use Rattle.rules.specs.Frames as frame
-use Rattle.rules.specs.Sizes.{base}
+use Rattle.rules.specs.Sizes.{base, SLOTS}
 use Prim.Native.Nat.{ℕ, _<_}
 use Rattle.rules.specs.Needs.{Address}
 use Rattle.frames.proofs.Allocations.{works-refused}
@@ -59,7 +59,7 @@ packed-requires : tie.Need-packed-requires
 packed-requires c κs =
     let st = start (c .before .before) in
     let k = c .before .before .before .before .before .before .before in
-    subst (λ (a : ℕ). a < 1024) (sym (ap (λ (a : Address). a .slot) (c .allocated .ensures))) (slot-low _ _ _ _ (st .pre .1) (st .args .h .0) (k .unpacked .result) (k .unpacked .ensures))
+    subst (λ (a : ℕ). a < SLOTS) (sym (ap (λ (a : Address). a .slot) (c .allocated .ensures))) (slot-low _ _ _ _ (st .pre .1) (st .args .h .0) (k .unpacked .result) (k .unpacked .ensures))
 
 mul-handles : tie.Need-mul-handles
 mul-handles c = search needs

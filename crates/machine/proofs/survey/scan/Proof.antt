@@ -2,6 +2,7 @@
 use mathlib.Core.Path.{_≡_, ap, sym, _∙_}
 use Prim.Native.Nat.{_≤_, _-_}
 use native.Mathlib.Omega.{arith}
+use Rattle.rules.specs.Sizes.{LINES}
 use Rattle.machine.specs.Entries.{entriesOf}
 use Rattle.machine.specs.Survey.{surveyOf}
 use Rattle.machine.proofs.Rows.{left, took, left-start}
@@ -29,7 +30,7 @@ over-requires c κs = search needs
 returns : tie.Need-returns Inv-loop μ-loop
 returns c =
     let k = took (c .before .before .before .before .before .before .args .table .now) _ _ _ (c .before .before .before .loop-test .taken) (c .before .before .entry-at .ensures) in
-    (sym (c .before .before .before .before .loop .inv .0 ∙ survey-over (c .before .before .before .before .before .before .args .table .now) _ _ _ _ _ _ k _ (c .before .over .ensures) (c .if1 .taken)), λ j. high-within 2048 (omega (arith, c .before .before .before .before .before .before .pre, c .before .before .before .before .loop .inv)))
+    (sym (c .before .before .before .before .loop .inv .0 ∙ survey-over (c .before .before .before .before .before .before .args .table .now) _ _ _ _ _ _ k _ (c .before .over .ensures) (c .if1 .taken)), λ j. high-within LINES (omega (arith, c .before .before .before .before .before .before .pre, c .before .before .before .before .loop .inv)))
 
 loads-of-requires : tie.Need-loads-of-requires Inv-loop μ-loop
 loads-of-requires c κs = search needs
@@ -61,7 +62,7 @@ loop-again c =
     )
 
 returns-2 : tie.Need-returns-2 Inv-loop μ-loop
-returns-2 c = (sym (c .before .loop .inv .0 ∙ survey-end (c .before .before .before .args .table .now) _ _ _ _ _ (c .loop-test .left)), λ j. no-high 2048)
+returns-2 c = (sym (c .before .loop .inv .0 ∙ survey-end (c .before .before .before .args .table .now) _ _ _ _ _ (c .loop-test .left)), λ j. no-high LINES)
 
 pub scan-spec : {M : Type 1} → statement M
 scan-spec =

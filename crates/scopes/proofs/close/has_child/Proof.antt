@@ -4,6 +4,7 @@ use mathlib.Core.Bool.{Bool, _||_}
 use Prim.Native.Nat.{_-_, _≤_}
 use native.Mathlib.Omega.{arith}
 use borrow.Author.Needs.{needs}
+use Rattle.rules.specs.Sizes.{SCOPES}
 use Rattle.rules.specs.Notation.{first, isSome}
 use Rattle.scopes.specs.Leaves.{childOf}
 use Rattle.scopes.proofs.Tables.{any-more}
@@ -13,10 +14,10 @@ use Rattle.scopes.proofs.close.has_child.Reads as reads
 use Rattle.scopes.proofs.close.has_child.Lts as lts
 
 abbrev Inv-loop : tie.InvT-loop
-Inv-loop live parent i up hit₀ j₀ hit j = (j ≤ 64) × (hit ≡ isSome (first (childOf live parent i) 0 j))
+Inv-loop live parent i up hit₀ j₀ hit j = (j ≤ SCOPES) × (hit ≡ isSome (first (childOf live parent i) 0 j))
 
 abbrev μ-loop : tie.MeasureT-loop
-μ-loop live parent i up hit₀ j₀ hit j = 64 - j
+μ-loop live parent i up hit₀ j₀ hit j = SCOPES - j
 
 cast-up : tie.Need-cast-up Inv-loop μ-loop
 cast-up c = search needs
@@ -45,7 +46,7 @@ loop-again c =
     (search needs, ap (λ (b : Bool). b || f (l .j)) (l .inv .1) ∙ sym (any-more f (l .j)))
 
 returns : tie.Need-returns Inv-loop μ-loop
-returns c = let l = c .before .loop in let e : l .j ≡ 64 = omega (arith, l .inv .0, c .loop-test .left) in rw e at (l .inv .1)
+returns c = let l = c .before .loop in let e : l .j ≡ SCOPES = omega (arith, l .inv .0, c .loop-test .left) in rw e at (l .inv .1)
 
 pub has-child-spec : {M : Type 1} → statement M
 has-child-spec =

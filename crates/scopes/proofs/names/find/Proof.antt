@@ -5,6 +5,7 @@ use Prim.Native.Nat.{ℕ, _+_, _-_, _*_, _<_, _≤_}
 use native.Mathlib.Omega.{arith}
 use borrow.Author.Needs.{needs}
 use lib.ListN.{length, getD, take}
+use Rattle.rules.specs.Sizes.{WORD}
 use Rattle.scopes.proofs.Bindings.{Missed, hit, miss, missed-more, spot-none, spot-some}
 use Rattle.scopes.proofs.names.find.Statement.{statement}
 use Rattle.scopes.proofs.names.find.Tie as tie
@@ -12,12 +13,12 @@ use Rattle.scopes.proofs.names.find.Reads as reads
 use Rattle.scopes.proofs.names.find.Lts as lts
 
 abbrev Inv-loop : tie.InvT-loop
-Inv-loop bindings count i name key j₀ j = (j ≤ count) × (key ≡ i * 65536 + name) × Missed i name (take j (take count bindings))
+Inv-loop bindings count i name key j₀ j = (j ≤ count) × (key ≡ i * WORD + name) × Missed i name (take j (take count bindings))
 
 abbrev μ-loop : tie.MeasureT-loop
 μ-loop bindings count i name key j₀ j = count - j
 
-word : (s : tie.Start Inv-loop μ-loop) → s .args .name < 65536
+word : (s : tie.Start Inv-loop μ-loop) → s .args .name < WORD
 word s = search needs
 
 mul-key : tie.Need-mul-key Inv-loop μ-loop

@@ -4,6 +4,7 @@ use Prim.Native.Nat.{ℕ, _+_, _-_, _≤_}
 use native.Mathlib.Omega.{arith}
 use borrow.Author.Needs.{needs}
 use lib.ListN.{length}
+use Rattle.rules.specs.Sizes.{SCOPES}
 use Rattle.scopes.specs.Leaves.{Noted}
 use Rattle.scopes.proofs.Notes.{noted-none, noted-skip, noted-all}
 use Rattle.scopes.proofs.names.lookup.Statement.{statement}
@@ -15,7 +16,7 @@ use Rattle.scopes.proofs.names.named.Reads as named-reads
 use Rattle.scopes.proofs.names.note.Reads as note-reads
 
 abbrev Inv-loop : tie.InvT-loop
-Inv-loop live parent bindings count name i left places₀ j₀ places j = (j ≤ count) × (length places ≡ 64) × Noted bindings name j count places
+Inv-loop live parent bindings count name i left places₀ j₀ places j = (j ≤ count) × (length places ≡ SCOPES) × Noted bindings name j count places
 
 abbrev μ-loop : tie.MeasureT-loop
 μ-loop live parent bindings count name i left places₀ j₀ places j = j

@@ -4,6 +4,7 @@ use Prim.Native.Nat.{ℕ, _+_, _-_, _≤_, _<_}
 use native.Mathlib.Omega.{arith}
 use borrow.Author.Needs.{needs}
 use lib.ListN.{length, length-set}
+use Rattle.rules.specs.Sizes.{BINDINGS, SCOPES}
 use Rattle.scopes.specs.Leaves.{Noted}
 use Rattle.scopes.proofs.Notes.{noted-name, noted-over, noted-here}
 use Rattle.scopes.proofs.names.note.Statement.{statement}
@@ -12,7 +13,7 @@ use Rattle.scopes.proofs.names.note.Reads as reads
 use Rattle.scopes.proofs.names.note.Lts as lts
 
 abbrev Inv-loop : tie.InvT-loop
-Inv-loop places₀ bindings from to name key j₀ places j = (from ≤ j) × (j ≤ to) × (length places ≡ 64) × ((count : ℕ) → to ≤ count → count ≤ 256 → Noted bindings name to count places₀ → Noted bindings name j count places)
+Inv-loop places₀ bindings from to name key j₀ places j = (from ≤ j) × (j ≤ to) × (length places ≡ SCOPES) × ((count : ℕ) → to ≤ count → count ≤ BINDINGS → Noted bindings name to count places₀ → Noted bindings name j count places)
 
 abbrev μ-loop : tie.MeasureT-loop
 μ-loop places₀ bindings from to name key j₀ places j = j - from

@@ -2,6 +2,7 @@
 use mathlib.Core.Path.{_≡_, refl}
 use Prim.Native.Nat.{ℕ, _<_}
 use native.Mathlib.Omega.{arith}
+use Rattle.rules.specs.Sizes.{WORD}
 use Rattle.scopes.proofs.Bindings.{pack-is}
 use borrow.Author.Needs.{needs}
 use Rattle.scopes.proofs.names.packed.Statement.{statement}
@@ -9,13 +10,13 @@ use Rattle.scopes.proofs.names.packed.Tie as tie
 use Rattle.scopes.proofs.names.packed.Reads as reads
 use Rattle.scopes.proofs.names.packed.Lts as lts
 
-name-word : (s : tie.Start) → s .args .name < 65536
+name-word : (s : tie.Start) → s .args .name < WORD
 name-word s = search needs
 
-address-word : (s : tie.Start) → s .args .address .0 < 65536
+address-word : (s : tie.Start) → s .args .address .0 < WORD
 address-word s = search needs
 
-handle-word : (s : tie.Start) → s .args .handle .0 < 65536
+handle-word : (s : tie.Start) → s .args .handle .0 < WORD
 handle-word s = search needs
 
 mul-key : tie.Need-mul-key

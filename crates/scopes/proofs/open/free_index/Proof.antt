@@ -4,6 +4,7 @@ use mathlib.Core.Bool.{true, false}
 use Prim.Native.Nat.{ℕ, _+_, _-_, _≤_, _<_}
 use native.Mathlib.Omega.{arith}
 use borrow.Author.Needs.{needs}
+use Rattle.rules.specs.Sizes.{SCOPES}
 use Rattle.scopes.specs.Leaves.{isFree}
 use Rattle.scopes.proofs.Tables.{more, lowest-here, lowest-none}
 use Rattle.scopes.proofs.open.free_index.Statement.{statement}
@@ -12,10 +13,10 @@ use Rattle.scopes.proofs.open.free_index.Reads as reads
 use Rattle.scopes.proofs.open.free_index.Lts as lts
 
 abbrev Inv-loop : tie.InvT-loop
-Inv-loop live i₀ i = (1 ≤ i) × (i ≤ 64) × ((j : ℕ) → 1 ≤ j → j < i → isFree live j ≡ false)
+Inv-loop live i₀ i = (1 ≤ i) × (i ≤ SCOPES) × ((j : ℕ) → 1 ≤ j → j < i → isFree live j ≡ false)
 
 abbrev μ-loop : tie.MeasureT-loop
-μ-loop live i₀ i = 64 - i
+μ-loop live i₀ i = SCOPES - i
 
 loop-holds : tie.Need-loop-holds Inv-loop μ-loop
 loop-holds c = (search needs, search needs, λ j a b. absurd (omega (arith, a, b)))

@@ -6,6 +6,7 @@ use Prim.Native.Nat.{ℕ, _+_, _-_, _≤_, _<_}
 use native.Mathlib.Omega.{arith}
 use borrow.Author.Needs.{needs}
 use borrow.Author.Tests.{eq-eqb, ne-eqb}
+use Rattle.rules.specs.Sizes.{SCOPES}
 use Rattle.scopes.specs.Leaves.{hasNumber}
 use Rattle.scopes.proofs.Tables.{more, lowest-here, lowest-none}
 use Rattle.scopes.proofs.open.with_number.Statement.{statement}
@@ -14,10 +15,10 @@ use Rattle.scopes.proofs.open.with_number.Reads as reads
 use Rattle.scopes.proofs.open.with_number.Lts as lts
 
 abbrev Inv-loop : tie.InvT-loop
-Inv-loop live number n i₀ i = (i ≤ 64) × ((j : ℕ) → 0 ≤ j → j < i → hasNumber live number n j ≡ false)
+Inv-loop live number n i₀ i = (i ≤ SCOPES) × ((j : ℕ) → 0 ≤ j → j < i → hasNumber live number n j ≡ false)
 
 abbrev μ-loop : tie.MeasureT-loop
-μ-loop live number n i₀ i = 64 - i
+μ-loop live number n i₀ i = SCOPES - i
 
 loop-holds : tie.Need-loop-holds Inv-loop μ-loop
 loop-holds c = (search needs, λ j a b. absurd (omega (arith, b)))

@@ -2,7 +2,7 @@
 use Prim.Native.Nat.{_+_, _≤_}
 use native.Mathlib.Omega.{arith}
 use borrow.Author.Needs.{needs}
-use Rattle.rules.specs.Sizes.{base}
+use Rattle.rules.specs.Sizes.{base, SLOTS}
 use Rattle.slots.specs.Promises.{view}
 use Rattle.slots.specs.Spots.{placeOf}
 use Rattle.slots.proofs.Going.{goes-vacant, one-refused, one-placed}
@@ -20,7 +20,7 @@ returns : tie.Need-returns
 returns c = one-refused (c .before .choose .ensures) (c .if1 .taken)
 
 -- the slot is below the room
-below : (c : tie.Else1) → c .before .choose .result .address + 1 ≤ 1024
+below : (c : tie.Else1) → c .before .choose .result .address + 1 ≤ SLOTS
 unfolding base
 below c = let f = c .before in let w = f .before .before .before in goes-vacant (placeOf (w .args .place)) 1 (view (w .args .s)) (f .choose .result) (w .pre) (f .choose .ensures) (c .if1 .left) .0
 

@@ -5,6 +5,7 @@ use mathlib.Core.Bool.{true}
 use Prim.Native.Nat.{ℕ, _+_, _*_, _≤_, _<_, _-_}
 use native.Mathlib.Omega.{arith}
 use borrow.Author.Tests.{ltb-true, ltb-false}
+use Rattle.rules.specs.Sizes.{HALVES, SLOTS}
 use Rattle.slots.specs.Halves.{bit, occ}
 use Rattle.slots.proofs.Finds.{seam, clear-is, clear-of}
 use Rattle.slots.proofs.Occupied.{up-past, up-here}
@@ -12,10 +13,10 @@ use Rattle.slots.proofs.halves.first_clear.Statement.{statement}
 use Rattle.slots.proofs.halves.first_clear.Tie as tie
 
 abbrev Inv-loop : tie.InvT-loop
-Inv-loop halves from i₀ i = (2 * from ≤ i) × (i ≤ 16) × ((k : ℕ) → 128 * from ≤ k → k < 64 * i → occ halves k ≡ true)
+Inv-loop halves from i₀ i = (2 * from ≤ i) × (i ≤ HALVES) × ((k : ℕ) → 128 * from ≤ k → k < 64 * i → occ halves k ≡ true)
 
 abbrev μ-loop : tie.MeasureT-loop
-μ-loop halves from i₀ i = 16 - i
+μ-loop halves from i₀ i = HALVES - i
 
 mul-i : tie.Need-mul-i Inv-loop μ-loop
 mul-i c = search needs
@@ -39,7 +40,7 @@ lowest-clear-requires : tie.Need-lowest-clear-requires Inv-loop μ-loop
 lowest-clear-requires c κs = search needs
 
 add-result : tie.Need-add-result Inv-loop μ-loop
-add-result c = fits-under _ _ 1025 (omega (arith, clear-of (bit _) 0 64 _ (c .lowest-clear .ensures) .high)) tt
+add-result c = fits-under _ _ (SLOTS + 1) (omega (arith, clear-of (bit _) 0 64 _ (c .lowest-clear .ensures) .high)) tt
 
 returns : tie.Need-returns Inv-loop μ-loop
 returns c =

@@ -5,6 +5,7 @@ use mathlib.Core.Logic.{⊎-elim}
 use Prim.Native.Nat.{_*_, _≤_, _-_}
 use native.Mathlib.Omega.{arith}
 use borrow.Author.Tests.{ltb-true, ltb-false}
+use Rattle.rules.specs.Sizes.{HALVES}
 use Rattle.rules.specs.Tells.{Tells}
 use Rattle.rules.proofs.Tells.{tells-as}
 use Rattle.slots.proofs.Occupied.{ClearTo, look-below, look-empty, look-set}
@@ -12,10 +13,10 @@ use Rattle.slots.proofs.halves.none_from.Statement.{statement}
 use Rattle.slots.proofs.halves.none_from.Tie as tie
 
 abbrev Inv-loop : tie.InvT-loop
-Inv-loop halves from none₀ i₀ none i = (i ≤ 16) × Tells none (ClearTo halves (128 * from) (64 * i))
+Inv-loop halves from none₀ i₀ none i = (i ≤ HALVES) × Tells none (ClearTo halves (128 * from) (64 * i))
 
 abbrev μ-loop : tie.MeasureT-loop
-μ-loop halves from none₀ i₀ none i = 16 - i
+μ-loop halves from none₀ i₀ none i = HALVES - i
 
 loop-holds : tie.Need-loop-holds Inv-loop μ-loop
 loop-holds c = (search needs, record { holds = λ _ a l h. absurd (omega (arith, h)); shows = λ _. refl })

@@ -5,6 +5,7 @@ use mathlib.Core.Bool.{false}
 use Prim.Native.Nat.{ℕ, _+_, _-_, _*_, _≤_, _<_}
 use native.Mathlib.Omega.{arith}
 use borrow.Author.Tests.{ltb-true, ltb-false}
+use Rattle.rules.specs.Sizes.{HALVES, SLOTS}
 use Rattle.slots.specs.Halves.{bit, occ}
 use Rattle.slots.proofs.Finds.{seam, past-of, past-is}
 use Rattle.slots.proofs.Occupied.{down-past, down-here}
@@ -12,7 +13,7 @@ use Rattle.slots.proofs.halves.past_greatest.Statement.{statement}
 use Rattle.slots.proofs.halves.past_greatest.Tie as tie
 
 abbrev Inv-loop : tie.InvT-loop
-Inv-loop halves i₀ i = (i ≤ 16) × ((k : ℕ) → 64 * i ≤ k → k < 1024 → occ halves k ≡ false)
+Inv-loop halves i₀ i = (i ≤ HALVES) × ((k : ℕ) → 64 * i ≤ k → k < SLOTS → occ halves k ≡ false)
 
 abbrev μ-loop : tie.MeasureT-loop
 μ-loop halves i₀ i = i
@@ -42,7 +43,7 @@ past-highest-requires : tie.Need-past-highest-requires Inv-loop μ-loop
 past-highest-requires c κs = search needs
 
 add-result : tie.Need-add-result Inv-loop μ-loop
-add-result c = fits-under _ _ 1025 (omega (arith, past-of (bit _) 64 _ (c .past-highest .ensures) .high)) tt
+add-result c = fits-under _ _ (SLOTS + 1) (omega (arith, past-of (bit _) 64 _ (c .past-highest .ensures) .high)) tt
 
 returns : tie.Need-returns Inv-loop μ-loop
 returns c =

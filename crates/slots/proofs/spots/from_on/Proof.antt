@@ -2,6 +2,7 @@
 use mathlib.Core.Path.{refl}
 use Prim.Native.Nat.{_*_, _-_}
 use native.Mathlib.Omega.{arith}
+use Rattle.rules.specs.Sizes.{SLOTS}
 use Rattle.rules.specs.Slots as rule
 use Rattle.slots.specs.Halves.{occ, slotsOf}
 use Rattle.slots.proofs.Finds.{clear-of, past-of}
@@ -23,7 +24,7 @@ first-clear-requires : tie.Need-first-clear-requires
 first-clear-requires c κs = search needs
 
 taken-requires : tie.Need-taken-requires
-taken-requires c κs = let w = c .before .before in omega (arith, clear-of (occ (w .args .halves .now)) (128 * w .args .from) (1024 - 128 * w .args .from) _ (c .first-clear .ensures) .high, w .pre .0)
+taken-requires c κs = let w = c .before .before in omega (arith, clear-of (occ (w .args .halves .now)) (128 * w .args .from) (SLOTS - 128 * w .args .from) _ (c .first-clear .ensures) .high, w .pre .0)
 
 returns : tie.Need-returns
 returns c = let f = c .before in from-one (slots (f .before .before)) _ _ (f .before .before .args .from) _ (f .before .if1 .taken) (f .first-clear .ensures) (c .taken .ensures)
@@ -32,7 +33,7 @@ past-greatest-requires : tie.Need-past-greatest-requires
 past-greatest-requires c κs = search needs
 
 add-if2 : tie.Need-add-if2
-add-if2 c = omega (arith, past-of (occ (c .before .before .args .halves .now)) 1024 _ (c .past-greatest .ensures) .high, c .before .before .pre)
+add-if2 c = omega (arith, past-of (occ (c .before .before .args .halves .now)) SLOTS _ (c .past-greatest .ensures) .high, c .before .before .pre)
 
 returns-2 : tie.Need-returns-2
 returns-2 c = let g = c .before in from-run (slots (g .before .before)) _ _ (g .before .before .args .from) (g .before .if1 .left) (goes-none (run-none (slots (g .before .before)) _ _ (g .past-greatest .ensures) (c .if2 .taken)) refl)

@@ -6,6 +6,7 @@ use native.Mathlib.Decide.{decLt}
 use native.Mathlib.Omega.{arith}
 use lib.ListN.{length, getD, List·getD-eq-default}
 use borrow.Author.Needs.{needs}
+use Rattle.rules.specs.Sizes.{BINDINGS}
 use Rattle.soundness.proofs.Tested.{no, yes, more-from}
 use Rattle.soundness.proofs.bindings.clear_from.Statement.{statement}
 use Rattle.soundness.proofs.bindings.clear_from.Tie as tie
@@ -14,9 +15,9 @@ abbrev Inv-loop : tie.InvT-loop
 Inv-loop bindings count j₀ j = (count ≤ j) × ((k : ℕ) → count ≤ k → k < j → getD bindings k 0 ≡ 0)
 
 abbrev μ-loop : tie.MeasureT-loop
-μ-loop bindings count j₀ j = 256 - j
+μ-loop bindings count j₀ j = BINDINGS - j
 
-len : (s : tie.Start Inv-loop μ-loop) → length (s .args .bindings .now) ≡ 256
+len : (s : tie.Start Inv-loop μ-loop) → length (s .args .bindings .now) ≡ BINDINGS
 len s = s .pre
 
 loop-holds : tie.Need-loop-holds Inv-loop μ-loop

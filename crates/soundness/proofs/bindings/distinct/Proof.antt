@@ -4,6 +4,7 @@ use Prim.Native.Nat.{ℕ, _-_, _≤_}
 use native.Mathlib.Omega.{arith}
 use lib.ListN.{length, replicate, length-replicate, length-set}
 use borrow.Author.Needs.{needs}
+use Rattle.rules.specs.Sizes.{BINDINGS, WORD}
 use Rattle.soundness.specs.Parts.{nameOf, Distinct, Met}
 use Rattle.soundness.proofs.Tested.{no, yes}
 use Rattle.soundness.proofs.Meets.{met-none, met-more, repeated, unlike, distinct-more}
@@ -11,13 +12,13 @@ use Rattle.soundness.proofs.bindings.distinct.Statement.{statement}
 use Rattle.soundness.proofs.bindings.distinct.Tie as tie
 
 abbrev Inv-loop : tie.InvT-loop
-Inv-loop bindings count places₀ scopes₀ j₀ places scopes j = (j ≤ count) × (length places ≡ 65536) × (length scopes ≡ 256) × Met bindings places scopes j × Distinct bindings j
+Inv-loop bindings count places₀ scopes₀ j₀ places scopes j = (j ≤ count) × (length places ≡ WORD) × (length scopes ≡ BINDINGS) × Met bindings places scopes j × Distinct bindings j
 
 abbrev μ-loop : tie.MeasureT-loop
 μ-loop bindings count places₀ scopes₀ j₀ places scopes j = count - j
 
 loop-holds : tie.Need-loop-holds Inv-loop μ-loop
-loop-holds c = (search needs, length-replicate {A = ℕ} 65536 0, length-replicate {A = ℕ} 256 0, met-none (c .args .bindings .now) (replicate 65536 0), λ j k jk kn. absurd (omega (arith, kn)))
+loop-holds c = (search needs, length-replicate {A = ℕ} WORD 0, length-replicate {A = ℕ} BINDINGS 0, met-none (c .args .bindings .now) (replicate WORD 0), λ j k jk kn. absurd (omega (arith, kn)))
 
 mul-i : tie.Need-mul-i Inv-loop μ-loop
 mul-i c = search needs

@@ -3,6 +3,7 @@ use Prim.Native.Nat.{_-_, _≤_}
 use native.Mathlib.Omega.{arith}
 use borrow.Author.Tests.{not-true, not-false}
 use borrow.Author.Needs.{needs}
+use Rattle.rules.specs.Sizes.{SLOTS}
 use Rattle.soundness.specs.Parts.{Below, OwnedAt}
 use Rattle.soundness.proofs.Tested.{no, yes, fails, more}
 use Rattle.soundness.proofs.Places.{owned-of, of-owned}
@@ -10,10 +11,10 @@ use Rattle.soundness.proofs.owners.owned.Statement.{statement}
 use Rattle.soundness.proofs.owners.owned.Tie as tie
 
 abbrev Inv-loop : tie.InvT-loop
-Inv-loop halves owner live size a₀ a = (size ≤ 1024) × (a ≤ 1024) × Below a (OwnedAt halves owner live size)
+Inv-loop halves owner live size a₀ a = (size ≤ SLOTS) × (a ≤ SLOTS) × Below a (OwnedAt halves owner live size)
 
 abbrev μ-loop : tie.MeasureT-loop
-μ-loop halves owner live size a₀ a = 1024 - a
+μ-loop halves owner live size a₀ a = SLOTS - a
 
 returns : tie.Need-returns Inv-loop μ-loop
 returns c = no (λ q. omega (arith, q .most, c .if1 .taken))

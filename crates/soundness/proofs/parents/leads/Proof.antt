@@ -5,6 +5,7 @@ use Prim.Native.Nat.{_-_, _≤_}
 use native.Mathlib.Omega.{arith}
 use borrow.Author.Tests.{not-true, not-false}
 use borrow.Author.Needs.{needs}
+use Rattle.rules.specs.Sizes.{SCOPES}
 use Rattle.scopes.specs.Sound.{Leads}
 use Rattle.soundness.specs.Parts.{climb}
 use Rattle.soundness.proofs.Tested.{yes}
@@ -13,7 +14,7 @@ use Rattle.soundness.proofs.parents.leads.Statement.{statement}
 use Rattle.soundness.proofs.parents.leads.Tie as tie
 
 abbrev Inv-loop : tie.InvT-loop
-Inv-loop live parent known i k₀ n₀ k n = (n ≤ 64) × (climb live parent 64 i ≡ climb live parent n k) × (Leads live parent k → Leads live parent i)
+Inv-loop live parent known i k₀ n₀ k n = (n ≤ SCOPES) × (climb live parent SCOPES i ≡ climb live parent n k) × (Leads live parent k → Leads live parent i)
 
 abbrev μ-loop : tie.MeasureT-loop
 μ-loop live parent known i k₀ n₀ k n = n

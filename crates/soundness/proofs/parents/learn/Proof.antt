@@ -1,6 +1,7 @@
 -- `parents::learn` meets its contract. Assumes nothing.
 use Prim.Native.Nat.{ℕ, _-_, _<_}
 use borrow.Author.Needs.{needs}
+use Rattle.rules.specs.Sizes.{SCOPES}
 use Rattle.scopes.specs.Sound.{Leads}
 use Rattle.soundness.specs.Parts.{Known}
 use Rattle.soundness.proofs.Climbs.{leads-below, nearer, known-more}
@@ -13,7 +14,7 @@ Inv-loop live parent known₀ i k₀ n₀ known k n = Leads live parent k × Kno
 abbrev μ-loop : tie.MeasureT-loop
 μ-loop live parent known₀ i k₀ n₀ known k n = n
 
-inside : (s : tie.Start Inv-loop μ-loop) (k : ℕ) → Leads (s .args .live .now) (s .args .parent .now) k → k < 64
+inside : (s : tie.Start Inv-loop μ-loop) (k : ℕ) → Leads (s .args .live .now) (s .args .parent .now) k → k < SCOPES
 inside s k h = leads-below (s .args .live .now) (s .args .parent .now) (s .pre .0) k h
 
 loop-holds : tie.Need-loop-holds Inv-loop μ-loop

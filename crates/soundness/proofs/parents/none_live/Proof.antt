@@ -5,6 +5,7 @@ use Prim.Native.Nat.{ℕ, _-_, _≤_}
 use native.Mathlib.Omega.{arith}
 use lib.ListN.{getD}
 use borrow.Author.Needs.{needs}
+use Rattle.rules.specs.Sizes.{SCOPES}
 use Rattle.rules.proofs.Tells.{clash}
 use Rattle.soundness.specs.Parts.{Below}
 use Rattle.soundness.proofs.Tested.{no, yes, more}
@@ -12,10 +13,10 @@ use Rattle.soundness.proofs.parents.none_live.Statement.{statement}
 use Rattle.soundness.proofs.parents.none_live.Tie as tie
 
 abbrev Inv-loop : tie.InvT-loop
-Inv-loop live i₀ i = (i ≤ 64) × Below i (λ j. getD live j false ≡ false)
+Inv-loop live i₀ i = (i ≤ SCOPES) × Below i (λ j. getD live j false ≡ false)
 
 abbrev μ-loop : tie.MeasureT-loop
-μ-loop live i₀ i = 64 - i
+μ-loop live i₀ i = SCOPES - i
 
 loop-holds : tie.Need-loop-holds Inv-loop μ-loop
 loop-holds c = (search needs, λ j l. absurd (omega (arith, l)))

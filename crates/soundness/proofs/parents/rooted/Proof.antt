@@ -5,6 +5,7 @@ use native.Mathlib.Omega.{arith}
 use lib.ListN.{getD}
 use borrow.Author.Tests.{not-true, not-false}
 use borrow.Author.Needs.{needs}
+use Rattle.rules.specs.Sizes.{SCOPES}
 use Rattle.soundness.specs.Parts.{Below, Topped, Known, RootedAt}
 use Rattle.soundness.proofs.Tested.{no, yes, fails, more}
 use Rattle.soundness.proofs.Climbs.{known-none}
@@ -13,10 +14,10 @@ use Rattle.soundness.proofs.parents.rooted.Statement.{statement}
 use Rattle.soundness.proofs.parents.rooted.Tie as tie
 
 abbrev Inv-loop : tie.InvT-loop
-Inv-loop live dangled parent number top known₀ i₀ known i = Topped live top × (getD number 0 0 ≡ 0) × (i ≤ 64) × Below i (RootedAt live dangled parent number) × Known live parent known
+Inv-loop live dangled parent number top known₀ i₀ known i = Topped live top × (getD number 0 0 ≡ 0) × (i ≤ SCOPES) × Below i (RootedAt live dangled parent number) × Known live parent known
 
 abbrev μ-loop : tie.MeasureT-loop
-μ-loop live dangled parent number top known₀ i₀ known i = 64 - i
+μ-loop live dangled parent number top known₀ i₀ known i = SCOPES - i
 
 topped-requires : tie.Need-topped-requires Inv-loop μ-loop
 topped-requires c κs = search needs

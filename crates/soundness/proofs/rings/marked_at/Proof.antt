@@ -2,6 +2,7 @@
 use mathlib.Core.Path.{_∙_}
 use Prim.Native.Nat.{_-_}
 use borrow.Author.Needs.{needs}
+use Rattle.rules.specs.Sizes.{LISTS, SLOTS}
 use Rattle.soundness.proofs.Tested.{no}
 use Rattle.soundness.proofs.Marked.{mark-wrong, mark-next, mark-last}
 use Rattle.soundness.proofs.rings.marked_at.Statement.{statement}
@@ -20,7 +21,7 @@ wide8-requires-2 : tie.Need-wide8-requires-2
 wide8-requires-2 c κs = search needs
 
 returns : tie.Need-returns
-returns c = let s = c .before .before .before .before .before in no (mark-wrong 1024 65 (s .args .links .now) (s .args .owner .now) (s .args .a) (c .before .before .before .wide8 .result) (c .before .wide82 .result) (c .before .before .before .wide8 .ensures) (c .before .wide82 .ensures ∙ s .pre .1) (c .if1 .taken))
+returns c = let s = c .before .before .before .before .before in no (mark-wrong SLOTS LISTS (s .args .links .now) (s .args .owner .now) (s .args .a) (c .before .before .before .wide8 .result) (c .before .wide82 .result) (c .before .before .before .wide8 .ensures) (c .before .wide82 .ensures ∙ s .pre .1) (c .if1 .taken))
 
 returns-2 : tie.Need-returns-2
 returns-2 c = search needs
@@ -35,7 +36,7 @@ wide16-requires : tie.Need-wide16-requires
 wide16-requires c κs = search needs
 
 returns-3 : tie.Need-returns-3
-returns-3 c = let s = c .before .before .before .before .before .before .before .before .before in no (mark-next 1024 65 (s .args .links .now) (s .args .owner .now) (s .args .a) (c .before .before .before .before .before .before .before .wide8 .result) (c .before .before .before .before .before .wide82 .result) (c .before .before .before .before .before .before .before .wide8 .ensures) (c .before .before .before .before .before .wide82 .ensures ∙ s .pre .1) (c .before .wide16 .result) (c .before .before .before .if2 .left) (c .before .wide16 .ensures) (c .if3 .taken))
+returns-3 c = let s = c .before .before .before .before .before .before .before .before .before in no (mark-next SLOTS LISTS (s .args .links .now) (s .args .owner .now) (s .args .a) (c .before .before .before .before .before .before .before .wide8 .result) (c .before .before .before .before .before .wide82 .result) (c .before .before .before .before .before .before .before .wide8 .ensures) (c .before .before .before .before .before .wide82 .ensures ∙ s .pre .1) (c .before .wide16 .result) (c .before .before .before .if2 .left) (c .before .wide16 .ensures) (c .if3 .taken))
 
 add-wide16 : tie.Need-add-wide16
 add-wide16 c = search needs
@@ -50,7 +51,7 @@ wide16-requires-2 : tie.Need-wide16-requires-2
 wide16-requires-2 c κs = search needs
 
 returns-4 : tie.Need-returns-4
-returns-4 c = let s = c .before .before .before .before .before .before .before .before .before .before .before in mark-last 1024 65 (s .args .links .now) (s .args .owner .now) (s .args .a) (c .before .before .before .before .before .before .before .before .before .wide8 .result) (c .before .before .before .before .before .before .before .wide82 .result) (c .before .before .before .before .before .before .before .before .before .wide8 .ensures) (c .before .before .before .before .before .before .before .wide82 .ensures ∙ s .pre .1) (c .before .before .before .wide16 .result) (c .wide162 .result) (c .before .before .before .before .before .before .if1 .left) (c .before .before .before .before .before .if2 .left) (c .before .before .before .wide16 .ensures) (c .before .before .if3 .left) (c .wide162 .ensures)
+returns-4 c = let s = c .before .before .before .before .before .before .before .before .before .before .before in mark-last SLOTS LISTS (s .args .links .now) (s .args .owner .now) (s .args .a) (c .before .before .before .before .before .before .before .before .before .wide8 .result) (c .before .before .before .before .before .before .before .wide82 .result) (c .before .before .before .before .before .before .before .before .before .wide8 .ensures) (c .before .before .before .before .before .before .before .wide82 .ensures ∙ s .pre .1) (c .before .before .before .wide16 .result) (c .wide162 .result) (c .before .before .before .before .before .before .if1 .left) (c .before .before .before .before .before .if2 .left) (c .before .before .before .wide16 .ensures) (c .before .before .if3 .left) (c .wide162 .ensures)
 
 pub marked-at-spec : {M : Type 1} → statement M
 marked-at-spec =

@@ -6,6 +6,7 @@ use native.Mathlib.Omega.{arith}
 use lib.ListN.{replicate, length-replicate, getD-replicate}
 use borrow.Author.Tests.{not-true, not-false}
 use borrow.Author.Needs.{needs}
+use Rattle.rules.specs.Sizes.{LISTS, SLOTS}
 use Rattle.soundness.specs.Parts.{Below, Marks, MarkedAt, round}
 use Rattle.soundness.proofs.Tested.{no, yes, fails, more}
 use Rattle.soundness.proofs.Marked.{marks-none, rounds-of, marks-of, ringed-from}
@@ -13,13 +14,13 @@ use Rattle.soundness.proofs.rings.ringed.Statement.{statement}
 use Rattle.soundness.proofs.rings.ringed.Tie as tie
 
 abbrev Inv-loop : tie.InvT-loop
-Inv-loop links owner marks a₀ a = Below 65 (λ k. round 1024 65 links owner k ≡ true) × (a ≤ 1024) × Marks 1024 65 links 65 marks × Below a (MarkedAt 1024 65 links owner)
+Inv-loop links owner marks a₀ a = Below LISTS (λ k. round SLOTS LISTS links owner k ≡ true) × (a ≤ SLOTS) × Marks SLOTS LISTS links LISTS marks × Below a (MarkedAt SLOTS LISTS links owner)
 
 abbrev μ-loop : tie.MeasureT-loop
-μ-loop links owner marks a₀ a = 1024 - a
+μ-loop links owner marks a₀ a = SLOTS - a
 
 rounds-requires : tie.Need-rounds-requires Inv-loop μ-loop
-rounds-requires c κs = marks-none 1024 65 (c .before .args .links .now) (replicate {A = ℕ} 1024 65) (length-replicate {A = ℕ} 1024 65) (λ a h. getD-replicate {A = ℕ} 1024 a 65 0 h)
+rounds-requires c κs = marks-none SLOTS LISTS (c .before .args .links .now) (replicate {A = ℕ} SLOTS LISTS) (length-replicate {A = ℕ} SLOTS LISTS) (λ a h. getD-replicate {A = ℕ} SLOTS a LISTS 0 h)
 
 returns : tie.Need-returns Inv-loop μ-loop
 returns c = let s = c .before .before .before in no (λ q. fails (c .before .rounds .ensures .0) (not-true _ (c .if1 .taken)) (rounds-of (s .args .links .now) (s .args .owner .now) q))
@@ -48,7 +49,7 @@ loop-again : tie.Need-loop-again Inv-loop μ-loop
 loop-again c =
     let s = c .before .before .before .before .before .before .before .before in
     let l = c .before .before .before .before .loop in
-    (l .inv .0, search needs, l .inv .2, more (MarkedAt 1024 65 (s .args .links .now) (s .args .owner .now)) (l .a) (l .inv .3) (c .before .marked-at .ensures .holds (not-false _ (c .if2 .left))))
+    (l .inv .0, search needs, l .inv .2, more (MarkedAt SLOTS LISTS (s .args .links .now) (s .args .owner .now)) (l .a) (l .inv .3) (c .before .marked-at .ensures .holds (not-false _ (c .if2 .left))))
 
 returns-3 : tie.Need-returns-3 Inv-loop μ-loop
 returns-3 c =

@@ -6,7 +6,7 @@ use lib.Dec.{eqb}
 use native.Mathlib.Omega.{arith}
 use borrow.Author.Needs.{needs}
 use lib.ListN.{length, drop, length-set}
-use Rattle.rules.specs.Sizes.{base}
+use Rattle.rules.specs.Sizes.{base, LINES}
 use Rattle.rules.specs.Text.{split, listFrom}
 use Rattle.text.specs.Whole.{ofListed, listing}
 use Rattle.text.specs.Table.{RowsFor}
@@ -17,11 +17,11 @@ use Rattle.text.proofs.whole.check_list.Statement.{statement}
 use Rattle.text.proofs.whole.check_list.Tie as tie
 
 -- there is a row for line i
-roomy : (s t t₀ : List ℕ) (p i : ℕ) → RowsFor s t₀ → i ≤ 2048 → (i ≡ 2048 → ⊥) → Filling s t p i → p < length s → length t ≡ length t₀ → i < length t
+roomy : (s t t₀ : List ℕ) (p i : ℕ) → RowsFor s t₀ → i ≤ LINES → (i ≡ LINES → ⊥) → Filling s t p i → p < length s → length t ≡ length t₀ → i < length t
 roomy s t t₀ p i h k n g l e = omega (arith, h i (omega (arith, k, n)) (omega (arith, g .behind, l)), e)
 
 abbrev Inv-loop : tie.InvT-loop
-Inv-loop s table₀ titles p₀ i₀ table p i = (listing base s ≡ ofListed i (listFrom base i (split (drop p s)))) × (p ≤ length s) × (i ≤ 2048) × (length table ≡ length table₀) × Filling s table p i
+Inv-loop s table₀ titles p₀ i₀ table p i = (listing base s ≡ ofListed i (listFrom base i (split (drop p s)))) × (p ≤ length s) × (i ≤ LINES) × (length table ≡ length table₀) × Filling s table p i
 
 abbrev μ-loop : tie.MeasureT-loop
 μ-loop s table₀ titles p₀ i₀ table p i = length s - p

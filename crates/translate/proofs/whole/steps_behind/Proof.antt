@@ -4,7 +4,7 @@ use Prim.Native.Nat.{_-_}
 use native.Mathlib.Omega.{arith}
 use lib.ListN.{length}
 use borrow.Author.Needs.{needs}
-use Rattle.rules.specs.Sizes.{base}
+use Rattle.rules.specs.Sizes.{base, SLOTS, BINDINGS, SCOPES}
 use Rattle.scopes.specs.Lent.{made}
 use Rattle.handles.specs.NeedTable.{table}
 use Rattle.frames.specs.Steps.{Reached}
@@ -26,22 +26,22 @@ abbrev reached : tie.After-step Inv-loop μ-loop → Reached
 reached c = record { state = made (c .step .last .0) (c .step .last .1 .0) (c .step .last .1 .1 .0) (c .step .last .1 .1 .1 .0) (c .step .last .1 .1 .1 .1 .0) (c .step .last .1 .1 .1 .1 .1 .0) (c .step .last .1 .1 .1 .1 .1 .1 .0) (c .step .last .1 .1 .1 .1 .1 .1 .1 .0) (c .step .result .numbers); handed = c .step .result .handed; adds = c .step .result .adds }
 
 -- facts of the types that lie far back where the loop begins
-owner-length : (c : tie.After-owner Inv-loop μ-loop) → length (c .before .before .before .fresh .result .owner) ≡ 1024
+owner-length : (c : tie.After-owner Inv-loop μ-loop) → length (c .before .before .before .fresh .result .owner) ≡ SLOTS
 owner-length c = search needs
 
-live-length : (c : tie.After-live Inv-loop μ-loop) → length (c .before .before .before .before .fresh .result .live) ≡ 64
+live-length : (c : tie.After-live Inv-loop μ-loop) → length (c .before .before .before .before .fresh .result .live) ≡ SCOPES
 live-length c = search needs
 
-dangled-length : (c : tie.After-dangled Inv-loop μ-loop) → length (c .before .before .before .before .before .fresh .result .dangled) ≡ 64
+dangled-length : (c : tie.After-dangled Inv-loop μ-loop) → length (c .before .before .before .before .before .fresh .result .dangled) ≡ SCOPES
 dangled-length c = search needs
 
-parent-length : (c : tie.After-parent Inv-loop μ-loop) → length (c .before .before .before .before .before .before .fresh .result .parent) ≡ 64
+parent-length : (c : tie.After-parent Inv-loop μ-loop) → length (c .before .before .before .before .before .before .fresh .result .parent) ≡ SCOPES
 parent-length c = search needs
 
-number-length : (c : tie.After-number Inv-loop μ-loop) → length (c .before .before .before .before .before .before .before .fresh .result .number) ≡ 64
+number-length : (c : tie.After-number Inv-loop μ-loop) → length (c .before .before .before .before .before .before .before .fresh .result .number) ≡ SCOPES
 number-length c = search needs
 
-bindings-length : (c : tie.After-bindings Inv-loop μ-loop) → length (c .before .before .before .before .before .before .before .before .fresh .result .bindings) ≡ 256
+bindings-length : (c : tie.After-bindings Inv-loop μ-loop) → length (c .before .before .before .before .before .before .before .before .fresh .result .bindings) ≡ BINDINGS
 bindings-length c = search needs
 
 fresh-requires : tie.Need-fresh-requires Inv-loop μ-loop

@@ -4,6 +4,7 @@ use Prim.Native.Nat.{ℕ, _<_}
 use native.Mathlib.Omega.{arith}
 use borrow.Author.Needs.{needs}
 use lib.ListN.{length}
+use Rattle.rules.specs.Sizes.{SCOPES}
 use Rattle.scopes.specs.View.{held}
 use Rattle.scopes.specs.Lent.{withSlots, Whole, Lives}
 use Rattle.scopes.specs.declared.Scopes.{Scopes}
@@ -37,7 +38,7 @@ state c s = withSlots s (c .loop .halves) (c .loop .links) (c .loop .owner) (num
 abbrev first-state : tie.Start Inv-loop μ-loop → Scopes → Scopes
 first-state w s = withSlots s (w .args .halves .now) (w .args .links .now) (w .args .owner .now) (w .args .n)
 
-small : (c : tie.At-loop Inv-loop μ-loop) → start c .args .i < 64
+small : (c : tie.At-loop Inv-loop μ-loop) → start c .args .i < SCOPES
 small c = start c .pre .2 .0
 
 closing : (c : tie.At-loop Inv-loop μ-loop) → Closing (start c .args .i) (first-state (start c) (start c .pre .0)) (state c (start c .pre .0)) (c .loop .a)

@@ -3,6 +3,7 @@ use mathlib.Core.List.{List}
 use Prim.Native.Nat.{ℕ, _<_}
 use native.Mathlib.Omega.{arith}
 use lib.ListN.{length}
+use Rattle.rules.specs.Sizes.{SCOPES, SLOTS}
 use Rattle.scopes.specs.View.{held}
 use Rattle.scopes.specs.Lent.{numbersOf, withSlots, Whole}
 use Rattle.scopes.specs.declared.Scopes.{Scopes}
@@ -23,7 +24,7 @@ abbrev Inv-loop : tie.InvT-loop
 Inv-loop links₀ owner₀ out₀ n₀ a₀ links owner out n a = (s : Scopes) → Whole (lent s links₀ owner₀) → Draining (lent s links₀ owner₀) out₀ (lent s links owner) a n out
 
 abbrev μ-loop : tie.MeasureT-loop
-μ-loop links₀ owner₀ out₀ n₀ a₀ links owner out n a = length (held links 64)
+μ-loop links₀ owner₀ out₀ n₀ a₀ links owner out n a = length (held links SCOPES)
 
 abbrev start : tie.At-loop Inv-loop μ-loop → tie.Start Inv-loop μ-loop
 start c = c .before .before .before
@@ -37,13 +38,13 @@ draining c = let p = start c .pre in c .loop .inv (p .0) (p .1)
 -- a turn of the loop
 turns : (c : tie.In-loop Inv-loop μ-loop) (s : Scopes)
     → Draining (lent s (start (c .before) .args .links .now) (start (c .before) .args .owner .now)) (start (c .before) .args .out .now) (state (c .before) s) (c .before .loop .a) (c .before .loop .n) (c .before .loop .out)
-    → Turn (state (c .before) s) 64 (c .before .loop .a)
-turns c s g = turn _ (g .sound) 64 _ (omega arith) (g .at) (c .loop-test .taken)
+    → Turn (state (c .before) s) SCOPES (c .before .loop .a)
+turns c s g = turn _ (g .sound) SCOPES _ (omega arith) (g .at) (c .loop-test .taken)
 
-tn : (c : tie.In-loop Inv-loop μ-loop) → Turn (state (c .before) (start (c .before) .pre .0)) 64 (c .before .loop .a)
+tn : (c : tie.In-loop Inv-loop μ-loop) → Turn (state (c .before) (start (c .before) .pre .0)) SCOPES (c .before .loop .a)
 tn c = turns c (start (c .before) .pre .0) (draining (c .before))
 
-room : (c : tie.In-loop Inv-loop μ-loop) → c .before .loop .n < 1024
+room : (c : tie.In-loop Inv-loop μ-loop) → c .before .loop .n < SLOTS
 room c = has-room _ _ _ _ _ _ (draining (c .before)) (tn c)
 
 first-requires : tie.Need-first-requires Inv-loop μ-loop
@@ -101,7 +102,7 @@ returns c =
     let k = draining m in (
       λ s h.
           let g = m .loop .inv s h in
-          let d = drained _ _ _ _ _ _ g (ended _ (g .sound) 64 (m .loop .a) (omega arith) (g .at) (c .loop-test .left)) in
+          let d = drained _ _ _ _ _ _ g (ended _ (g .sound) SCOPES (m .loop .a) (omega arith) (g .at) (c .loop-test .left)) in
           (d .0, d .1, record { sound = g .sound; sized = g .sized }),
       (k .kept, k .long, omega (arith, k .room)),
     )

@@ -1,6 +1,7 @@
 -- A child is opened. Assumes nothing.
 use Prim.Native.Nat.{_<_}
 use native.Mathlib.Omega.{arith}
+use Rattle.rules.specs.Sizes.{SCOPES}
 use Rattle.scopes.specs.Sound.{Sound}
 use Rattle.scopes.specs.Lent.{withScopes}
 use Rattle.scopes.specs.declared.Scopes.{Scopes}
@@ -24,7 +25,7 @@ tops c s h = topped _ h (c .if1 .left)
 abbrev start : tie.Else2 → tie.Else1
 start c = c .before .before .before
 
-small : (c : tie.Else2) → c .before .free-index .result < 64
+small : (c : tie.Else2) → c .before .free-index .result < SCOPES
 small c = let e = start c in let p = e .before .pre in below (state (e .before) (p .0)) (p .1 .sound) (tops e (p .0) (p .1 .sound)) _ (c .before .free-index .ensures) (c .if2 .left)
 
 returns : tie.Need-returns

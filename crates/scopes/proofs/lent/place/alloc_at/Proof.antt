@@ -2,7 +2,7 @@
 use mathlib.Core.Path.{sym}
 use Prim.Native.Nat.{_+_, _≤_, _<_}
 use native.Mathlib.Omega.{arith}
-use Rattle.rules.specs.Sizes.{base}
+use Rattle.rules.specs.Sizes.{base, SLOTS}
 use Rattle.slots.specs.Halves.{occ}
 use Rattle.slots.specs.Spots.{placeOf, Vacant}
 use Rattle.scopes.specs.Sound.{Sound}
@@ -29,7 +29,7 @@ vacant : (c : tie.Else1) (s : Scopes) → Sound (state (start (c .before)) s) �
 vacant c s h = let f = c .before in let w = start f in alloc-vacant (state w s) (w .args .k) (placeOf (w .args .place)) (w .args .many) (f .choose .result) (f .choose .ensures) h (c .if1 .left)
 
 -- the run ends below the room
-below : (c : tie.Else1) → c .before .choose .result .address + start (c .before) .args .many ≤ 1024
+below : (c : tie.Else1) → c .before .choose .result .address + start (c .before) .args .many ≤ SLOTS
 below c = let p = start (c .before) .pre in vacant c (p .0) (p .1 .sound) .0
 
 choose-requires : tie.Need-choose-requires

@@ -3,6 +3,7 @@ use mathlib.Core.Path.{refl}
 use Prim.Native.Nat.{ℕ, _+_, _-_, _<_, max}
 use native.Mathlib.Omega.{arith}
 use borrow.Author.Needs.{needs}
+use Rattle.rules.specs.Sizes.{SLOTS}
 use Rattle.slots.specs.Halves.{occ}
 use Rattle.slots.specs.Spots.{Vacant}
 use Rattle.scopes.specs.View.{held}
@@ -31,7 +32,7 @@ state w s = withSlots s (w .args .halves .now) (w .args .links .now) (w .args .o
 abbrev start : tie.At-loop Inv-loop μ-loop → tie.Start Inv-loop μ-loop
 start c = c .before
 
-small : (c : tie.In-loop Inv-loop μ-loop) → c .before .loop .b < 1024
+small : (c : tie.In-loop Inv-loop μ-loop) → c .before .loop .b < SLOTS
 small c = omega (arith, start (c .before) .pre .3 .0, c .loop-test .taken)
 
 -- what holds in the loop of the state that is known to be there
