@@ -1,7 +1,7 @@
 -- What is printed for the state and the samples that some bytes leave is what is printed for the recording that they are. Assumes nothing.
 use mathlib.Core.Path.{_≡_, refl, sym, ap, _∙_}
 use mathlib.Core.List.{List, [], _∷_}
-use Prim.Native.Nat.{ℕ, zero, suc, _+_, _≤_}
+use Prim.Native.Nat.{ℕ, _*_, zero, suc, _+_, _≤_}
 use native.Mathlib.Omega.{arith}
 use lib.ListN.{length, replicate}
 use Rattle.rules.specs.Notation.{if_then_else_}
@@ -34,7 +34,7 @@ takes-few list ls size e = go (readList base list) (read-list-in base (omega ari
     go (unlisted n i) h q = absurd (let z : _≡_ {A = ℕ} 0 1 = cc in omega arith)
     go (listed ms k) h q = let s : ms ≡ ls = cc in omega (arith, h .0, takes-most ls, ap length s)
 
-pub told-prints : (list s memory : List ℕ) → 4096 ≤ length memory → recordedPrints base list (readEntry 0 memory s .answer) (readEntry 0 memory s .samples) ≡ besidePrints base list s
+pub told-prints : (list s memory : List ℕ) → 2 * LINES ≤ length memory → recordedPrints base list (readEntry 0 memory s .answer) (readEntry 0 memory s .samples) ≡ besidePrints base list s
 unfolding recordedPrints besidePrints recordedOn if_then_else_
 told-prints list s memory h =
     let t = parts-tell s memory in

@@ -98,7 +98,7 @@ summed stride (suc k) a s sum =
 unfoldable pub pairsSum : ℕ → ℕ → ℕ
 pairsSum stride n = summed stride n 0 halfFull 0
 
--- ---- an insert on lent halves: at address a, or nowhere, which is 1,024
+-- ---- an insert on lent halves: at address a, or nowhere, which is SLOTS
 
 abbrev pub segmentsAfter : ℕ → ℕ → ℕ
 segmentsAfter l a = elim (eqb a SLOTS) [ true ↦ l | false ↦ max l (a / 128 + 1) ]

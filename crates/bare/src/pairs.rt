@@ -88,7 +88,7 @@ fn take_out(halves: &mut [u64; HALVES], segments: usize, head: usize, a: usize) 
     head
 }
 
-// One slot is inserted. It answers its address, or 1,024 where there is none.
+// One slot is inserted. It answers its address, or SLOTS where there is none.
 fn put_in(halves: &mut [u64; HALVES], segments: usize, head: usize) -> usize
     requires { ⌜ soundSlots (base .segments) (slotsOf (now halves) segments head) ≡ true ⌝ }
     requires { ⌜ length (now halves) ≡ HALVES ⌝ }

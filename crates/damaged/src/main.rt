@@ -1,11 +1,31 @@
 // Damages a sound state, in one place or in few, and prints for each damage whether a state handed in so is sound or refused by 29.
 // The file `stdout` is what document 01 asks for, case by case.
+use rules::BINDINGS;
+use rules::CELLS;
+use rules::DANGLING;
+use rules::HALVES;
+use rules::SCOPES;
+use rules::SLOTS;
+use scopes::NO_PARENT;
+use scopes::OF_DANGLING;
+use scopes::OF_NOBODY;
 use scopes::Scopes;
+use scopes::names::ADDRESS_PART;
+use scopes::names::NAME_PART;
+use scopes::names::SCOPE_PART;
 
-// A binding in one number.
-const IN_SCOPE: u64 = 562949953421312;
+// The ends of lists: root's, that of scope 2, the dangling one. Cells of `prev` are CELLS behind those of `next`.
+const ROOT: usize = SLOTS;
 
-const NAMED: u64 = 8589934592;
+const SECOND: usize = SLOTS + 2;
+
+const LOOSE: usize = SLOTS + DANGLING;
+
+const TO_ROOT: u16 = ROOT as u16;
+
+const TO_SECOND: u16 = SECOND as u16;
+
+const TO_LOOSE: u16 = LOOSE as u16;
 
 fn say(case: &[u8], s: Scopes) {
     io::write_all(1, case);
@@ -19,18 +39,18 @@ fn say(case: &[u8], s: Scopes) {
 // Root was closed: nothing is live.
 fn closed() -> Scopes {
     Scopes {
-        halves: [0u64; 16],
+        halves: [0u64; HALVES],
         links: links::fresh(),
-        owner: [65u8; 1024],
-        live: [false; 64],
-        dangled: [false; 64],
-        parent: [64u8; 64],
-        number: [0u32; 64],
-        bindings: [0u64; 256],
+        owner: [OF_NOBODY; SLOTS],
+        live: [false; SCOPES],
+        dangled: [false; SCOPES],
+        parent: [NO_PARENT; SCOPES],
+        number: [0u32; SCOPES],
+        bindings: [0u64; BINDINGS],
         count: 0,
         segments: 0,
         head: 0,
-        top: 64,
+        top: SCOPES,
         counter: 1,
         size: 0,
     }
@@ -56,8 +76,8 @@ fn whole() -> Scopes {
     s.halves[0] = 7;
     s.segments = 1;
     s.size = 4;
-    s.bindings[0] = 7 * NAMED;
-    s.bindings[1] = 2 * IN_SCOPE + 7 * NAMED + 131072 + 3;
+    s.bindings[0] = 7 * NAME_PART;
+    s.bindings[1] = 2 * SCOPE_PART + 7 * NAME_PART + ADDRESS_PART + 3;
     s.count = 2;
     listed(s)
 }
@@ -65,24 +85,24 @@ fn whole() -> Scopes {
 // .. with the cells of its lists and its owners.
 fn listed(s: Scopes) -> Scopes {
     let mut t = s;
-    t.links[1024] = 0;
-    t.links[0] = 1024;
-    t.links[1089] = 1024;
-    t.links[2113] = 0;
-    t.links[1026] = 1;
+    t.links[ROOT] = 0;
+    t.links[0] = TO_ROOT;
+    t.links[CELLS] = TO_ROOT;
+    t.links[CELLS + ROOT] = 0;
+    t.links[SECOND] = 1;
     t.links[1] = 2;
-    t.links[2] = 1026;
-    t.links[1090] = 1026;
-    t.links[1091] = 1;
-    t.links[2115] = 2;
-    t.links[1088] = 3;
-    t.links[3] = 1088;
-    t.links[1092] = 1088;
-    t.links[2177] = 3;
+    t.links[2] = TO_SECOND;
+    t.links[CELLS + 1] = TO_SECOND;
+    t.links[CELLS + 2] = 1;
+    t.links[CELLS + SECOND] = 2;
+    t.links[LOOSE] = 3;
+    t.links[3] = TO_LOOSE;
+    t.links[CELLS + 3] = TO_LOOSE;
+    t.links[CELLS + LOOSE] = 3;
     t.owner[0] = 0;
     t.owner[1] = 2;
     t.owner[2] = 2;
-    t.owner[3] = 64;
+    t.owner[3] = OF_DANGLING;
     t
 }
 
@@ -90,7 +110,7 @@ fn listed(s: Scopes) -> Scopes {
 
 fn half(case: &[u8], at: usize, to: u64) {
     let mut s = whole();
-    if at < 16 {
+    if at < HALVES {
         s.halves[at] = to;
     }
     say(case, s);
@@ -98,7 +118,7 @@ fn half(case: &[u8], at: usize, to: u64) {
 
 fn next(case: &[u8], at: usize, to: u16) {
     let mut s = whole();
-    if at < 1089 {
+    if at < CELLS {
         s.links[at] = to;
     }
     say(case, s);
@@ -106,15 +126,15 @@ fn next(case: &[u8], at: usize, to: u16) {
 
 fn prev(case: &[u8], at: usize, to: u16) {
     let mut s = whole();
-    if at < 1089 {
-        s.links[1089 + at] = to;
+    if at < CELLS {
+        s.links[CELLS + at] = to;
     }
     say(case, s);
 }
 
 fn owner(case: &[u8], at: usize, to: u8) {
     let mut s = whole();
-    if at < 1024 {
+    if at < SLOTS {
         s.owner[at] = to;
     }
     say(case, s);
@@ -122,7 +142,7 @@ fn owner(case: &[u8], at: usize, to: u8) {
 
 fn live(case: &[u8], at: usize, to: bool) {
     let mut s = whole();
-    if at < 64 {
+    if at < SCOPES {
         s.live[at] = to;
     }
     say(case, s);
@@ -130,7 +150,7 @@ fn live(case: &[u8], at: usize, to: bool) {
 
 fn marked(case: &[u8], at: usize, to: bool) {
     let mut s = whole();
-    if at < 64 {
+    if at < SCOPES {
         s.dangled[at] = to;
     }
     say(case, s);
@@ -138,7 +158,7 @@ fn marked(case: &[u8], at: usize, to: bool) {
 
 fn parent(case: &[u8], at: usize, to: u8) {
     let mut s = whole();
-    if at < 64 {
+    if at < SCOPES {
         s.parent[at] = to;
     }
     say(case, s);
@@ -146,7 +166,7 @@ fn parent(case: &[u8], at: usize, to: u8) {
 
 fn number(case: &[u8], at: usize, to: u32) {
     let mut s = whole();
-    if at < 64 {
+    if at < SCOPES {
         s.number[at] = to;
     }
     say(case, s);
@@ -154,7 +174,7 @@ fn number(case: &[u8], at: usize, to: u32) {
 
 fn binding(case: &[u8], at: usize, to: u64) {
     let mut s = whole();
-    if at < 256 {
+    if at < BINDINGS {
         s.bindings[at] = to;
     }
     say(case, s);
@@ -204,9 +224,9 @@ fn past_segment(case: &[u8], segments: usize, size: usize) {
     s.halves[2] = 1;
     s.owner[128] = 0;
     s.links[0] = 128;
-    s.links[128] = 1024;
-    s.links[1217] = 0;
-    s.links[2113] = 128;
+    s.links[128] = TO_ROOT;
+    s.links[CELLS + 128] = 0;
+    s.links[CELLS + ROOT] = 128;
     s.segments = segments;
     s.size = size;
     say(case, s);
@@ -221,8 +241,8 @@ fn apart(case: &[u8]) {
     s.owner[9] = 2;
     s.links[8] = 9;
     s.links[9] = 8;
-    s.links[1097] = 9;
-    s.links[1098] = 8;
+    s.links[CELLS + 8] = 9;
+    s.links[CELLS + 9] = 8;
     say(case, s);
 }
 
@@ -230,12 +250,12 @@ fn apart(case: &[u8]) {
 fn crosses(case: &[u8], to: u8) {
     let mut s = whole();
     s.owner[0] = to;
-    s.links[1024] = 1024;
-    s.links[2113] = 1024;
+    s.links[ROOT] = TO_ROOT;
+    s.links[CELLS + ROOT] = TO_ROOT;
     s.links[2] = 0;
-    s.links[1089] = 2;
-    s.links[0] = 1026;
-    s.links[2115] = 0;
+    s.links[CELLS] = 2;
+    s.links[0] = TO_SECOND;
+    s.links[CELLS + SECOND] = 0;
     say(case, s);
 }
 
@@ -243,8 +263,8 @@ fn crosses(case: &[u8], to: u8) {
 fn both(case: &[u8]) {
     let mut s = whole();
     s.links[2] = 0;
-    s.links[0] = 1026;
-    s.links[2115] = 0;
+    s.links[0] = TO_SECOND;
+    s.links[CELLS + SECOND] = 0;
     say(case, s);
 }
 
@@ -253,9 +273,9 @@ fn repeats(case: &[u8]) {
     let mut s = whole();
     s.links[3] = 4;
     s.links[4] = 3;
-    s.links[1093] = 3;
-    s.links[1092] = 4;
-    s.owner[4] = 64;
+    s.links[CELLS + 4] = 3;
+    s.links[CELLS + 3] = 4;
+    s.owner[4] = OF_DANGLING;
     say(case, s);
 }
 
@@ -280,7 +300,7 @@ fn circle(case: &[u8]) {
 fn half_closed() -> Scopes {
     let mut s = whole();
     s.live[2] = false;
-    s.parent[2] = 64;
+    s.parent[2] = NO_PARENT;
     s.number[2] = 0;
     s.top = 1;
     s
@@ -304,7 +324,7 @@ fn closed_top(case: &[u8], to: usize) {
 fn chain(case: &[u8], first: u8) {
     let mut s = closed();
     let mut i: usize = 1;
-    while i < 64 {
+    while i < SCOPES {
         s.live[i] = true;
         s.parent[i] = (i - 1) as u8;
         i += 1;
@@ -410,12 +430,12 @@ fn tops() {
 }
 
 fn names() {
-    binding(b"scope 3 binds 7", 1, 3 * IN_SCOPE + 7 * NAMED);
-    binding(b"root binds 7 twice", 1, 7 * NAMED + 131072);
-    binding(b"a closed scope binds", 1, 9 * IN_SCOPE + 7 * NAMED);
-    binding(b"scope 64 binds", 1, 64 * IN_SCOPE + 7 * NAMED);
+    binding(b"scope 3 binds 7", 1, 3 * SCOPE_PART + 7 * NAME_PART);
+    binding(b"root binds 7 twice", 1, 7 * NAME_PART + ADDRESS_PART);
+    binding(b"a closed scope binds", 1, 9 * SCOPE_PART + 7 * NAME_PART);
+    binding(b"scope 64 binds", 1, 64 * SCOPE_PART + 7 * NAME_PART);
     binding(b"place 2 isn't empty, 2 bindings", 2, 1);
-    binding(b"place 255 isn't empty, 2 bindings", 255, NAMED);
+    binding(b"place 255 isn't empty, 2 bindings", 255, NAME_PART);
     count(b"1 binding, place 1 isn't empty", 1);
     count(b"3 bindings, root binds 0", 3);
     count(b"4 bindings, root binds 0 twice", 4);

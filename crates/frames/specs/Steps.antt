@@ -81,7 +81,7 @@ isRefused (Load a) = false
 isRefused (Drained n) = false
 isRefused (Refused n) = true
 
--- a drain's addresses stand in a table of 1,024
+-- a drain's addresses stand in a table of SLOTS
 abbrev pub Few : Adds → Type 0
 Few Nothing = Unit {0}
 Few (One a) = Unit {0}

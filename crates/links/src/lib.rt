@@ -91,7 +91,7 @@ pub fn place(t: &mut [u16; LINKS], i: usize, a: usize)
     append(t, i, a);
 }
 
-// Where a walk over list i starts: its first address, or 1,024 + i where it is empty.
+// Where a walk over list i starts: its first address, or SLOTS + i where it is empty.
 pub fn first(t: &[u16; LINKS], i: usize) -> usize
     requires { ⌜ (i < LISTS) × (length (now t) ≡ LINKS) ⌝ }
     ensures { λ r. ⌜ ((xs : ℕ → List ℕ) → Held SLOTS LISTS (now (t .entry)) xs → Ahead (nextIn (now (t .entry))) r (xs i) (SLOTS + i)) ⌝ }

@@ -4,6 +4,7 @@ use input::Input;
 use input::open_argument;
 use input::read_argument;
 use recordings::read_recording;
+use rules::LINES;
 use rules::TEXT;
 ghost use Rattle.programs.specs.Recorded.{ReadBy};
 
@@ -69,7 +70,7 @@ fn print(list: &[u8], state: u64, samples: &[u8]) {
 
 // Room for as many samples as the longest list takes.
 fn run(list: &[u8]) {
-    let mut samples = [0u8; 4096];
+    let mut samples = [0u8; 2 * LINES];
     match read_file(&mut samples) {
         Recorded::Failed => {}
         Recorded::State(state) => print(list, state, &samples),

@@ -67,7 +67,7 @@ module _ (s : Scopes) where
           (λ l. rw (e, lt-ltb (getD (s .parent) j 0) SCOPES l, rule.childOf))
           (λ l. rw (e, le-ltb (getD (s .parent) j 0) SCOPES (omega arith), ne-eqb (getD (s .parent) j 0) i (λ q. (omega arith)), rule.childOf))
 
-  -- a live scope is below 64
+  -- a live scope is below SCOPES
   pub in-range : length (s .live) ≡ SCOPES → (j : ℕ) → getD (s .live) j false ≡ true → j < SCOPES
   in-range n j l = by-cases (decLt j SCOPES) (λ q. q) (λ q. clash l (List·getD-eq-default (s .live) false (omega arith)))
 

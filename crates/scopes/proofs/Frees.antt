@@ -30,7 +30,7 @@ use Rattle.scopes.specs.declared.Reply.the-variants.{Done, Refused}
 use Rattle.scopes.proofs.Finds.{no-top, Topped, in-range}
 use Rattle.scopes.proofs.Moves.{owners, ringed, owned, scopes-put}
 
--- the state s with slot a clear, and on list o (65: on none)
+-- the state s with slot a clear, and on list o (LISTS: on none)
 abbrev pub released : Scopes → ℕ → ℕ → List ℕ → List ℕ → Scopes
 released s a o halves links =
     record {

@@ -39,7 +39,7 @@ put-nothing f i x e = sym (put-ext f f i x e (λ j n. refl))
 pub put-again : {A : Type 0} (f : ℕ → A) (i : ℕ) (x y : A) → put (put f i x) i y ≡ put f i y
 put-again f i x y = put-ext f (put (put f i x) i y) i y (put-same (put f i x) i y) (λ j n. put-other (put f i x) i y j (λ e. n (sym e)) ∙ put-other f i x j (λ e. n (sym e)))
 
--- ---- the first below 64 that passes
+-- ---- the first below SCOPES that passes
 
 -- one place more is passed
 pub more : (f : ℕ → Bool) (i : ℕ) (k : ℕ) → ((j : ℕ) → k ≤ j → j < i → f j ≡ false) → f i ≡ false → (j : ℕ) → k ≤ j → j < i + 1 → f j ≡ false

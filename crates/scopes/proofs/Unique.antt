@@ -128,7 +128,7 @@ module _ (s t : Scopes) (h : Sound s) (k : Sound t) (ts : Typed s) (tt′ : Type
   halves : s .halves ≡ t .halves
   halves = halves-ext (s .halves) (t .halves) (z .halves ∙ sym (y .halves)) (ts .halves) (tt′ .halves) (ap (λ (c : rule.Scopes). c .slots .occupied) e)
 
-  -- an array of 64 that is read off the scopes
+  -- an array of SCOPES that is read off the scopes
   by-scope : {A : Type 0} (d : A) (f g : List A) (p : Option rule.Scope → A) → length f ≡ SCOPES → length g ≡ SCOPES
       → ((i : ℕ) → i < SCOPES → getD f i d ≡ p (view s .live i)) → ((i : ℕ) → i < SCOPES → getD g i d ≡ p (view t .live i)) → f ≡ g
   by-scope d f g p lf lg rf rg = ext-getD d f g (lf ∙ sym lg) (λ i l. let hi : i < SCOPES = omega arith in rf i hi ∙ ap p (at i) ∙ sym (rg i hi))

@@ -14,7 +14,7 @@ use Rattle.scopes.specs.View.{index, scopesFrom, binding, bindingsOf}
 
 -- ---- which scope
 
--- the first below 64, from i on, that passes, or 64
+-- the first below SCOPES, from i on, that passes, or SCOPES
 abbrev pub lowest : (ℕ → Bool) → ℕ → ℕ
 lowest f i = orElse (first f i (SCOPES - i)) SCOPES
 
@@ -35,7 +35,7 @@ hasChild live parent i = isSome (first (childOf live parent i) 0 SCOPES)
 abbrev pub NoChild : List Bool → List ℕ → ℕ → Type 0
 NoChild live parent i = (j : ℕ) → getD live j false ≡ true → getD parent j 0 ≢ i
 
--- the index of the live scope that has this id, or 64
+-- the index of the live scope that has this id, or SCOPES
 abbrev pub placeOf : List Bool → List ℕ → ℕ → ℕ → ℕ
 placeOf live number i n = elim (ltb i SCOPES && hasNumber live number n i) [ true ↦ i | false ↦ SCOPES ]
 
@@ -43,7 +43,7 @@ abbrev pub differs : Bool → Bool → Bool
 differs true b = not b
 differs false b = b
 
--- why the scope at index i, or 64, is refused: 4 where there is none, 5 where it is root or its mark differs; 0 where it isn't
+-- why the scope at index i, or SCOPES, is refused: 4 where there is none, 5 where it is root or its mark differs; 0 where it isn't
 abbrev pub refusal : List Bool → Bool → ℕ → ℕ
 refusal dangled mark i = elim (eqb i SCOPES) [ true ↦ 4 | false ↦ elim (differs mark (getD dangled i false) || eqb i 0) [ true ↦ 5 | false ↦ 0 ] ]
 
@@ -61,13 +61,13 @@ pub record Missing (bindings : List ℕ) (count i name : ℕ) : Type 0 where
   pub is : rule.boundIn i name (bindingsOf bindings count) ≡ none
   pub appended : (b : ℕ) → binding b .scope ≡ i → binding b .name ≡ name → rule.rebound (binding b) (bindingsOf bindings count) ≡ bindingsOf bindings count ++ (binding b ∷ [])
 
--- r is the place of the binding, or 256
+-- r is the place of the binding, or BINDINGS
 pub record Spot (bindings : List ℕ) (count i name r : ℕ) : Type 0 where
   pub most : r ≤ BINDINGS
   pub there : r < BINDINGS → There bindings count i name r
   pub missing : BINDINGS ≤ r → Missing bindings count i name
 
--- for each scope, the list has the place of the binding of `name` there, or 256
+-- for each scope, the list has the place of the binding of `name` there, or BINDINGS
 abbrev pub Placed : List ℕ → ℕ → ℕ → List ℕ → Type 0
 Placed bindings count name places = (i : ℕ) → i < SCOPES → Spot bindings count i name (getD places i 0)
 
@@ -75,20 +75,20 @@ Placed bindings count name places = (i : ℕ) → i < SCOPES → Spot bindings c
 abbrev pub binds : List ℕ → ℕ → ℕ → ℕ → Bool
 binds bindings name i j = rule.isFor i name (binding (getD bindings j 0))
 
--- r is the first place from `from` up to `to` that passes, or 256
+-- r is the first place from `from` up to `to` that passes, or BINDINGS
 pub record Earliest (f : ℕ → Bool) (from to r : ℕ) : Type 0 where
   pub most : r ≤ BINDINGS
   pub inside : r < BINDINGS → (from ≤ r) × (r < to) × (f r ≡ true)
   pub before : (j : ℕ) → from ≤ j → j < to → j < r → f j ≡ false
 
--- for each scope, the list has the first place from `from` up to `to` of a binding of `name`, or 256
+-- for each scope, the list has the first place from `from` up to `to` of a binding of `name`, or BINDINGS
 abbrev pub Noted : List ℕ → ℕ → ℕ → ℕ → List ℕ → Type 0
 Noted bindings name from to places = (i : ℕ) → i < SCOPES → Earliest (binds bindings name i) from to (getD places i 0)
 
 abbrev pub spotted : List ℕ → ℕ → Option rule.Binding
 spotted bindings r = elim (ltb r BINDINGS) [ true ↦ some (binding (getD bindings r 0)) | false ↦ none ]
 
--- from the scope at index i upwards, over `left` scopes at most, the nearest binding is at r (256: there is none), whatever else the state has
+-- from the scope at index i upwards, over `left` scopes at most, the nearest binding is at r (BINDINGS: there is none), whatever else the state has
 pub record Climbs (live : List Bool) (parent bindings : List ℕ) (count name i left r : ℕ) : Type 0 where
   pub is : (c : rule.Scopes) (dangled : List Bool) (number : List ℕ) (owned : ℕ → List ℕ) → c .live ≡ scopesFrom live dangled parent number owned → c .bindings ≡ bindingsOf bindings count
       → rule.lookup left c name (index i) ≡ spotted bindings r

@@ -21,7 +21,7 @@ pub record Slotted (halves : List ℕ) (segments head : ℕ) : Type 0 where
   pub front : head < SEGMENTS
   pub none : (a : ℕ) → 128 * segments ≤ a → a < SLOTS → occ halves a ≡ false
 
--- the cells hold the lists, and each address is on the list that its owner says (65: on none)
+-- the cells hold the lists, and each address is on the list that its owner says (LISTS: on none)
 pub record Ringed (links owner : List ℕ) : Type 0 where
   pub rings : Held SLOTS LISTS links (held links)
   pub tells : (a i : ℕ) → a < SLOTS → i < LISTS → member a (held links i) ≡ eqb (getD owner a 0) i

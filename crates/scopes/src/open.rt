@@ -23,7 +23,7 @@ pub fn wide8(x: u8) -> usize
     x as usize
 }
 
-// The lowest scope from 1 on that is not live, or 64.
+// The lowest scope from 1 on that is not live, or SCOPES.
 pub fn free_index(live: &[bool; SCOPES]) -> usize
     ensures { λ r. ⌜ r ≡ lowest (isFree (now (live .entry))) 1 ⌝ }
 {
@@ -37,7 +37,7 @@ pub fn free_index(live: &[bool; SCOPES]) -> usize
     SCOPES
 }
 
-// The lowest live scope with this number, or 64.
+// The lowest live scope with this number, or SCOPES.
 pub fn with_number<'a>(live: &'a [bool; SCOPES], number: &'a [u32; SCOPES], n: u32) -> usize
     ensures { λ r. ⌜ r ≡ lowest (hasNumber (now (live .entry)) (now (number .entry)) n) 0 ⌝ }
 {
@@ -53,7 +53,7 @@ pub fn with_number<'a>(live: &'a [bool; SCOPES], number: &'a [u32; SCOPES], n: u
     SCOPES
 }
 
-// The index of the live scope with this id, or 64.
+// The index of the live scope with this id, or SCOPES.
 pub fn place_of<'a>(live: &'a [bool; SCOPES], number: &'a [u32; SCOPES], id: ScopeId) -> usize
     ensures { λ r. ⌜ r ≡ placeOf (now (live .entry)) (now (number .entry)) (id .index) (id .number) ⌝ }
 {

@@ -4,8 +4,11 @@
 use cases::put;
 use cases::put_lines;
 use cases::say;
+use rules::SLOTS;
+use rules::TEXT;
 ghost use Prim.Native.Nat.{_≤_};
 ghost use lib.ListN.{length};
+ghost use Rattle.rules.specs.Sizes.{SLOTS};
 
 // Lends the first n bytes of cells.
 fn lend(script: &[u8], cells: &mut [u8], n: usize, out: &mut [u8]) -> u64
@@ -16,18 +19,18 @@ fn lend(script: &[u8], cells: &mut [u8], n: usize, out: &mut [u8]) -> u64
 
 // What the script prints on a frame of so many cells.
 fn meant(script: &[u8], size: usize)
-    requires { ⌜ size ≤ 1024 ⌝ }
+    requires { ⌜ size ≤ SLOTS ⌝ }
 {
-    let mut cells = [0x55u8; 2048];
+    let mut cells = [0x55u8; 2 * SLOTS];
     let mut out = [0u8; 14336];
     let r = lend(script, &mut cells, 2 * size, &mut out);
     say(r, &out, 14336);
 }
 
 fn case(label: &[u8], script: &[u8], last: usize, size: usize)
-    requires { ⌜ size ≤ 1024 ⌝ }
+    requires { ⌜ size ≤ SLOTS ⌝ }
 {
-    let mut list = [0u8; 32768];
+    let mut list = [0u8; TEXT];
     io::write_all(1, label);
     let r = translate::translate(script, &mut list);
     say(r, &list, last);
@@ -39,14 +42,14 @@ fn case(label: &[u8], script: &[u8], last: usize, size: usize)
 // The script's first `end` bytes, of whose list the last two lines are shown.
 fn part(label: &[u8], script: &[u8], end: usize, size: usize)
     requires { ⌜ end ≤ length (now script) ⌝ }
-    requires { ⌜ size ≤ 1024 ⌝ }
+    requires { ⌜ size ≤ SLOTS ⌝ }
 {
     case(label, &script[..end], 14, size);
 }
 
 // A title or none, n allocs, and what follows them.
 fn long(label: &[u8], title: &[u8], n: usize, tail: &[u8], size: usize)
-    requires { ⌜ size ≤ 1024 ⌝ }
+    requires { ⌜ size ≤ SLOTS ⌝ }
 {
     let mut script = [0u8; 1024];
     let first = put(&mut script, 0, title);
@@ -66,7 +69,7 @@ fn head_above() {
 }
 
 fn whole_session(label: &[u8], size: usize)
-    requires { ⌜ size ≤ 1024 ⌝ }
+    requires { ⌜ size ≤ SLOTS ⌝ }
 {
     case(
         label,

@@ -44,7 +44,7 @@ pushedFrom l h g n =
 abbrev pub after : rule.Slots → ℕ → Spot → rule.Slots
 after s n r = record { occupied = filled (r .address) n (s .occupied); segments = r .segments; head = r .head }
 
--- r is where the placement puts n slots of s; 1,024: nowhere
+-- r is where the placement puts n slots of s; SLOTS: nowhere
 pub record Goes (place : rule.Placement) (n : ℕ) (s : rule.Slots) (r : Spot) : Type 0 where
   pub nowhere : r .address ≡ SLOTS → place n s ≡ none
   pub there : (r .address ≡ SLOTS → ⊥) → place n s ≡ rule.placed (r .address) (after s n r)

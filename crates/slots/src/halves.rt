@@ -38,7 +38,7 @@ pub fn vacate(halves: &mut [u64; HALVES], a: usize)
     halves[a / 64] = half::clear_bit(h, (a % 64) as u64);
 }
 
-// The least clear slot from segment `from` on, or 1,024.
+// The least clear slot from segment `from` on, or SLOTS.
 pub fn first_clear(halves: &[u64; HALVES], from: usize) -> usize
     requires { ⌜ from ≤ SEGMENTS ⌝ }
     ensures { λ r. ⌜ r ≡ firstClear (occ (now (halves .entry))) (128 * from) (SLOTS - 128 * from) ⌝ }

@@ -1,4 +1,4 @@
-// Which of the 1,024 slots are occupied, in 8 segments of 128, each of two 64-bit halves; and where the next one goes.
+// Which of the slots are occupied, in segments of 128, each of two 64-bit halves; and where the next one goes.
 // Beside the original's slots.rs: `half` is one 64-bit half, `halves` the sixteen of a state, `spots` where an allocation goes,
 // `entries` what a host calls.
 pub mod entries;
@@ -30,7 +30,7 @@ pub enum Place {
     ExactlyAt(SlotAddress),
 }
 
-// The first slot of an allocation, 1,024 where there is none; and L and H once its slots are occupied.
+// The first slot of an allocation, SLOTS where there is none; and L and H once its slots are occupied.
 pub struct Spot {
     pub address: usize,
     pub segments: usize,

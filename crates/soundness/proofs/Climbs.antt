@@ -1,4 +1,4 @@
--- Parents lead to root alike as the state stores them and as the rules see them, and climbing over at most 64 of them tells it.
+-- Parents lead to root alike as the state stores them and as the rules see them, and climbing over at most SCOPES of them tells it.
 -- Assumes nothing.
 use mathlib.Core.Path.{_≡_, refl, sym, ap, _∙_, subst}
 use mathlib.Core.Logic.{_≢_, by-cases}
@@ -24,7 +24,7 @@ use Rattle.scopes.specs.View.{index, onlyIf, scopeAt, scopesFrom}
 use Rattle.scopes.specs.Sound.{Leads, root, up}
 use Rattle.soundness.specs.Parts.{climb, Known}
 
--- ---- an index below 64, or none
+-- ---- an index below SCOPES, or none
 
 pub index-some : (n : ℕ) → n < SCOPES → index n ≡ some n
 index-some n h = rw (lt-ltb n SCOPES h, index)

@@ -18,10 +18,10 @@ pub record Blank (links : List ℕ) (dangled : List Bool) (parent number : List 
   pub no-list : held links i ≡ []
 
 pub record Canonical (s : Scopes) : Type 0 where
-  -- the link cells hold 65 lists and nothing else, and the owner table says on which of them each address is (65: on none)
+  -- the link cells hold LISTS lists and nothing else, and the owner table says on which of them each address is (LISTS: on none)
   pub cells : Ringed (s .links) (s .owner)
   pub closed : (i : ℕ) → i < SCOPES → getD (s .live) i false ≡ false → Blank (s .links) (s .dangled) (s .parent) (s .number) i
-  -- no parent is 64, and no top is 64
+  -- no parent is SCOPES, and no top is SCOPES
   pub parents : (i : ℕ) → i < SCOPES → getD (s .parent) i 0 ≤ SCOPES
   pub top : s .top ≤ SCOPES
   -- the bindings are the first `count` places, and the others hold 0

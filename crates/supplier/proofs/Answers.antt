@@ -14,7 +14,7 @@ use Rattle.rules.proofs.Suppliers.{base-prints, base-get-yes}
 use Rattle.rules.proofs.WhyNot.{base-no-bytes}
 use Rattle.text.proofs.Bounds.{ScriptIn, ListIn, read-in, read-list-in}
 
--- a text that can't be read gives 1 or 2, and a line up to 2,048
+-- a text that can't be read gives 1 or 2, and a line up to LINES
 pub data Comes : Verdict → Type 0 where
   to-word : (b : Bool) → Comes (says b)
   to-stop : (n i : ℕ) → 1 ≤ n → n ≤ 2 → i ≤ LINES → Comes (unreadable n i)

@@ -1,14 +1,15 @@
 -- `chain` stays within its arrays. Assumes nothing.
 use Prim.Native.Nat.{_-_, _≤_}
 use borrow.Author.Needs.{needs}
+use Rattle.rules.specs.Sizes.{SCOPES}
 use Rattle.damaged.proofs.chain.Statement.{statement}
 use Rattle.damaged.proofs.chain.Tie as tie
 
 abbrev Inv-loop : tie.InvT-loop
-Inv-loop case first s₀ i₀ s i = (1 ≤ i) × (i ≤ 64)
+Inv-loop case first s₀ i₀ s i = (1 ≤ i) × (i ≤ SCOPES)
 
 abbrev μ-loop : tie.MeasureT-loop
-μ-loop case first s₀ i₀ s i = 64 - i
+μ-loop case first s₀ i₀ s i = SCOPES - i
 
 closed-requires : tie.Need-closed-requires Inv-loop μ-loop
 closed-requires c κs = search needs
