@@ -129,9 +129,9 @@ drops-unless-lost-bytes room wide script fs need more n r e =
     (behind room (placing (room .segments) p) (title p) (steps room (placing (room .segments) p) i start all) n (i + length fs) (sym (rw r) ∙ e))
 
 -- in the room of 01
-pub drops-base : (p : Place) → DropsUnlessLost base (placing 8 p)
+pub drops-base : (p : Place) → DropsUnlessLost base (placing (base .segments) p)
 unfolding base
-drops-base p = drops-unless-lost base base-wide (placing 8 p) (placing-fair-sound base (base-wide .segments) p)
+drops-base p = drops-unless-lost base base-wide (placing (base .segments) p) (placing-fair-sound base (base-wide .segments) p)
 
 pub drops-bytes-base : DropsUnlessLostBytes base
 drops-bytes-base = drops-unless-lost-bytes base base-wide

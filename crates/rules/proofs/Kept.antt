@@ -132,13 +132,13 @@ module _ (room : Room) (big : 128 * room .segments ≤ room .size) (place : Plac
 -- ---- in the room of 01, by any place
 
 module _ (p : Place) where
-  pub base-fair : Fair base (placing 8 p) (λ t. soundSlots (base .segments) t ≡ true)
+  pub base-fair : Fair base (placing (base .segments) p) (λ t. soundSlots (base .segments) t ≡ true)
   unfolding base
   base-fair = placing-fair-test base (lit< tt) p
 
-  pub base-step-kept : (s : State) → soundState base s ≡ true → (f : Frame) → All (λ r. soundState base (r .1) ≡ true) (step base (placing 8 p) s f)
-  base-step-kept = step-kept base (base-wide .slots) (placing 8 p) base-fair
+  pub base-step-kept : (s : State) → soundState base s ≡ true → (f : Frame) → All (λ r. soundState base (r .1) ≡ true) (step base (placing (base .segments) p) s f)
+  base-step-kept = step-kept base (base-wide .slots) (placing (base .segments) p) base-fair
 
   -- whatever a script reaches is sound
-  pub script-kept : (t : State) (fs : List Frame) → Reaches base (placing 8 p) start fs t → soundState base t ≡ true
-  script-kept t fs r = frames-kept base (base-wide .slots) (placing 8 p) base-fair start t fs (start-kept base (base-wide .segments) (base-wide .scopes)) r
+  pub script-kept : (t : State) (fs : List Frame) → Reaches base (placing (base .segments) p) start fs t → soundState base t ≡ true
+  script-kept t fs r = frames-kept base (base-wide .slots) (placing (base .segments) p) base-fair start t fs (start-kept base (base-wide .segments) (base-wide .scopes)) r
