@@ -19,6 +19,7 @@ use needs::addresses::is_freed;
 use needs::linear::empty;
 use needs::linear::forget_run;
 use needs::linear::run_kind;
+use rules::WORD;
 use scopes::Outcome;
 use scopes::Reply;
 use scopes::Scopes;
@@ -57,14 +58,17 @@ pub fn linear(s: Scopes, n: u16, place: Place) -> RunOutcome
     }
 }
 
+// A slot's address has 16 bits.
+const ADDRESSES: usize = WORD as usize;
+
 // The slots go back, the last one first: where that one is past 65,535 it is no slot. On a refusal the state is the one that came in.
-fn give_back_run(s: Scopes, first: u16, count: u16, dangles: bool) -> Outcome
+fn give_back_run(s: Scopes, first: SlotAddress, count: u16, dangles: bool) -> Outcome
     requires { ⌜ Sound s ⌝ }
-    ensures { λ r. ⌜ (seen r ≡ toldOnly (view s) (backEach dangles (downFrom first count) (view s))) × Sound (r .state) ⌝ }
+    ensures { λ r. ⌜ (seen r ≡ toldOnly (view s) (backEach dangles (downFrom (first .0) count) (view s))) × Sound (r .state) ⌝ }
 {
-    let from = first as usize;
+    let from = first.0 as usize;
     let many = count as usize;
-    if 65536 < from + many {
+    if ADDRESSES < from + many {
         return Outcome {
             state: s,
             reply: Reply::Refused(12),
@@ -113,7 +117,7 @@ pub fn free_run(s: Scopes, run: Run, dangles: bool) -> RunOutcome
             answer: RunAnswer::Got(freed),
         };
     }
-    let o = give_back_run(s, run.first.0, run.count, dangles);
+    let o = give_back_run(s, run.first, run.count, dangles);
     let t = o.state;
     let reply = o.reply;
     let back = freed_by(reply);

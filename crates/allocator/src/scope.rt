@@ -3,7 +3,7 @@ ghost use mathlib.Core.Path.{_≡_};
 ghost use Rattle.rules.specs.Notation.{refuse_unless_};
 ghost use Rattle.rules.specs.Sizes.{base};
 ghost use Rattle.rules.specs.Scopes as rule;
-ghost use Rattle.scopes.specs.View.{view, idOf, opened, bound, defined, told, toldOnly, replied};
+ghost use Rattle.scopes.specs.View.{view, idOf, opened, bound, told, toldOnly, replied};
 ghost use Rattle.allocator.specs.Entries.{Call, Asked, unsound};
 use scopes::HandleNumber;
 use scopes::Outcome;
@@ -88,7 +88,7 @@ pub fn numbered(s: Scopes, n: u32) -> Reply
 
 // Binds in the top, replacing an equal name there and its moved mark.
 pub fn define(s: Scopes, name: u16, address: SlotAddress) -> Outcome
-    ensures { λ r. ⌜ Call s (toldOnly (view s) (defined name (address .0) 0 (view s))) r ⌝ }
+    ensures { λ r. ⌜ Call s (toldOnly (view s) (rule.defineName base name (address .0) 0 (view s))) r ⌝ }
 {
     if !soundness::is_sound(s) {
         return turned_away(s); // before define's 3, 9

@@ -15,7 +15,7 @@ use Rattle.rules.specs.Frames.{State, scopes≔, Line, shows, oneLine, Step, st
 use Rattle.rules.proofs.Chains.{All, unless-some, unless-none, when-true, when-false}
 use Rattle.rules.proofs.Leaves.{bind-leaves, take-leaves}
 use Rattle.rules.proofs.Held.{got-agrees}
-use Rattle.scopes.specs.View.{view, bound, defined, Seen, seen, told, toldOnly, replied}
+use Rattle.scopes.specs.View.{view, bound, Seen, seen, told, toldOnly, replied}
 use Rattle.scopes.specs.Lent.{Whole}
 use Rattle.scopes.proofs.Finds.{no-top}
 use Rattle.scopes.specs.declared.Scopes.{Scopes}
@@ -103,13 +103,13 @@ module _ (s : Scopes) (handles holders : List ℕ) (handed : ℕ) (stands : Stan
       unfolding step
       define-freed e = unless-some 3 _ (has-top s stands ne .1) ∙ when-true 13 _ (spent-freed standing h (ap isFreed (coded .kind) ∙ e))
 
-      pub define-works : h < handed → isFreed (kindOf (x .address .kind)) ≡ false → (o : Outcome) → seen o ≡ toldOnly c (defined name (x .address .slot .0) h c) → Whole (o .state)
+      pub define-works : h < handed → isFreed (kindOf (x .address .kind)) ≡ false → (o : Outcome) → seen o ≡ toldOnly c (rule.defineName base name (x .address .slot .0) h c) → Whole (o .state)
           → (r : Reached) → r ≡ record { state = o .state; handed = handed; adds = addsOf (o .reply) } → (drained : List ℕ) → Works nowhere (frame.define name h) 0x09 s handles holders handed r handles holders drained
       unfolding step
       define-works l live o e ok r is drained =
           let t = has-top s stands ne in
           let known : seen o ≡ toldOnly c (rule.bindIn base (t .0) name (standing .handles h .address) h c)
-          = e ∙ (λ u. toldOnly c (defined name (sym (coded .slot) u) h c)) ∙ ap (toldOnly c) (unless-some 3 _ (t .1)) in
+          = e ∙ (λ u. toldOnly c (rule.defineName base name (sym (coded .slot) u) h c)) ∙ ap (toldOnly c) (unless-some 3 _ (t .1)) in
           let does : step base nowhere standing (frame.define name h) ≡ stepped 0x09 (addsOf (o .reply)) (stateOf (view (o .state)) handles holders handed) drained
           = unless-some 3 _ (t .1) ∙ when-false 13 _ (unspent standing h l (ap isFreed (coded .kind) ∙ live))
           ∙ only-does c handles holders handed drained 0x09 (view (o .state)) (o .reply) (rule.bindIn base (t .0) name (standing .handles h .address) h c) known

@@ -49,9 +49,8 @@ module _ (room : Room) (c : Scopes) (s : Sound room c) where
           (λ f. clash (rw (f, e)) q)
           (λ f. omega (arith, rebound-length x (c .bindings), leb-false (room .bindings) (length (c .bindings)) f)))
 
-  pub keeps-define : (name address : ℕ) → All (Sound room) (defineName room name address c)
-  unfolding defineName
-  keeps-define name address = all-unless 3 λ t e. keeps-bind t name address 0 (top-here c t e (room .scopes) (s .top))
+  pub keeps-define : (name address handle : ℕ) → All (Sound room) (defineName room name address handle c)
+  keeps-define name address handle = all-unless 3 λ t e. keeps-bind t name address handle (top-here c t e (room .scopes) (s .top))
 
   -- ---- take
 

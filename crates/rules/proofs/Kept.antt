@@ -76,8 +76,8 @@ module _ (room : Room) (c : Scopes) (h : sound room c ≡ true) where
   pub restore-kept : (o : Option Found) → Named room c o → All (λ d. sound room d ≡ true) (restoreScope o c)
   restore-kept o n = tested room (λ d. d) (keeps-restore room c (is-sound room c h) o (named-here n))
 
-  pub define-kept : (name address : ℕ) → All (λ d. sound room d ≡ true) (defineName room name address c)
-  define-kept name address = tested room (λ d. d) (keeps-define room c (is-sound room c h) name address)
+  pub define-kept : (name address handle : ℕ) → All (λ d. sound room d ≡ true) (defineName room name address handle c)
+  define-kept name address handle = tested room (λ d. d) (keeps-define room c (is-sound room c h) name address handle)
 
   -- with a handle, as a script defines
   pub bind-kept : (t : Found) → topScope c ≡ some t → (name address handle : ℕ) → All (λ d. sound room d ≡ true) (bindIn room t name address handle c)

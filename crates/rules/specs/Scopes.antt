@@ -274,10 +274,10 @@ bindIn room t name address handle c = do
   given (c ▹ bindings≔ (rebound (record { scope = t .index; name = name; address = address; handle = handle; moved = false }) (c .bindings)))
 
 -- define: 3, 9; a library call has no handle, and 0 stands there
-unfoldable pub defineName : Room → ℕ → ℕ → Scopes → Answer Scopes
-defineName room name address c = do
+abbrev pub defineName : Room → (name address handle : ℕ) → Scopes → Answer Scopes
+defineName room name address handle c = do
   t ← refuse 3 unless (topScope c)
-  bindIn room t name address 0 c
+  bindIn room t name address handle c
 
 -- ---- get, take
 

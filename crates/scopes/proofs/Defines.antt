@@ -14,7 +14,7 @@ use borrow.Author.Tests.{le-leb, lt-leb}
 use Rattle.rules.specs.Notation.{_>>=_, refuse_unless_, refuse_when_, isSome}
 use Rattle.rules.specs.Sizes.{base, BINDINGS, SCOPES}
 use Rattle.rules.specs.Scopes as rule
-use Rattle.scopes.specs.View.{view, index, binding, bindingsOf, toldOnly, defined}
+use Rattle.scopes.specs.View.{view, index, binding, bindingsOf, toldOnly}
 use Rattle.scopes.specs.Sound.{Sound, Sized}
 use Rattle.scopes.specs.Leaves.{Spot}
 use Rattle.scopes.specs.Lent.{Whole}
@@ -72,9 +72,9 @@ set-clear s h r b l j a = getD-set-other (s .bindings) r j b 0 (omega arith) ∙
 
 module _ (s : Scopes) (name address handle : ℕ) where
   abbrev Told : Scopes → Type 0
-  Told t = record { next = view t; says = Done } ≡ toldOnly (view s) (defined name address handle (view s))
+  Told t = record { next = view t; says = Done } ≡ toldOnly (view s) (rule.defineName base name address handle (view s))
 
-  pub define-no-top : s .top ≡ SCOPES → record { next = view s; says = Refused 3 } ≡ toldOnly (view s) (defined name address handle (view s))
+  pub define-no-top : s .top ≡ SCOPES → record { next = view s; says = Refused 3 } ≡ toldOnly (view s) (rule.defineName base name address handle (view s))
   unfolding _>>=_ refuse_unless_
   define-no-top e = rw (no-top s e)
 
@@ -131,7 +131,7 @@ module _ (s : Scopes) (name address handle : ℕ) where
           },
         )
 
-    pub define-full : BINDINGS ≤ r → s .count ≡ BINDINGS → record { next = view s; says = Refused 9 } ≡ toldOnly (view s) (defined name address handle (view s))
+    pub define-full : BINDINGS ≤ r → s .count ≡ BINDINGS → record { next = view s; says = Refused 9 } ≡ toldOnly (view s) (rule.defineName base name address handle (view s))
     unfolding rule.bindIn base _>>=_ refuse_unless_ refuse_when_
     define-full l e =
         let q : leb BINDINGS (length (bindingsOf (s .bindings) (s .count))) ≡ true = le-leb BINDINGS (length (bindingsOf (s .bindings) (s .count))) (omega (arith, len)) in

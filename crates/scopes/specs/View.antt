@@ -5,8 +5,8 @@ use mathlib.Core.List.{List, map}
 use Prim.Native.Nat.{ℕ, _+_, _*_, _/_, _%_, max}
 use lib.ListN.{getD, take}
 use lib.Dec.{ltb, eqb}
-use Rattle.rules.specs.Notation.{Answer, given, refused, _>>=_, refuse_unless_, _▹_}
-use Rattle.rules.specs.Sizes.{base, SCOPES, SLOTS, DANGLING, WORD}
+use Rattle.rules.specs.Notation.{Answer, given, refused, _▹_}
+use Rattle.rules.specs.Sizes.{SCOPES, SLOTS, DANGLING, WORD}
 use Rattle.rules.specs.AddressSets.{addedAll, withoutAll, run}
 use Rattle.rules.specs.Scopes as rule
 use Rattle.slots.specs.Halves.{occ, slotsOf}
@@ -125,12 +125,6 @@ toldOnly c (refused n) = record { next = c; says = Refused n }
 abbrev pub replied : {A : Type 0} → (A → Reply) → Answer A → Reply
 replied f (given x) = f x
 replied f (refused n) = Refused n
-
--- define, with the handle that the binding remembers: 3, 9
-abbrev pub defined : ℕ → ℕ → ℕ → rule.Scopes → Answer rule.Scopes
-defined name address handle c = do
-  t ← refuse 3 unless (rule.topScope c)
-  rule.bindIn base t name address handle c
 
 -- what the n slots from a on leave, given to the scope at index k; L and H stay
 abbrev pub runFor : Scopes → ℕ → ℕ → ℕ → rule.Scopes

@@ -7,7 +7,7 @@ ghost use Prim.Native.Nat.{ℕ, _+_, _%_, _≤_, _<_};
 ghost use lib.ListN.{length, getD};
 ghost use Rattle.rules.specs.Sizes.{base, BINDINGS, SCOPES};
 ghost use Rattle.rules.specs.Scopes as rule;
-ghost use Rattle.scopes.specs.View.{view, binding, bindingsOf, bound, defined, seen, told, toldOnly, replied};
+ghost use Rattle.scopes.specs.View.{view, binding, bindingsOf, bound, seen, told, toldOnly, replied};
 ghost use Rattle.scopes.specs.Sound.{Sound};
 ghost use Rattle.scopes.specs.Lent.{withNames};
 ghost use Rattle.scopes.specs.Leaves.{binds, Spot, Noted, Placed, Climbs, Wiped};
@@ -253,7 +253,7 @@ pub fn take(s: Scopes, name: u16) -> Outcome
 // define: binds in the top, replacing an equal name there and its moved mark.
 pub fn define(s: Scopes, name: u16, address: SlotAddress, handle: HandleNumber) -> Outcome
     requires { ⌜ Sound s ⌝ }
-    ensures { λ r. ⌜ (seen r ≡ toldOnly (view s) (defined name (address .0) (handle .0) (view s))) × Sound (r .state) ⌝ }
+    ensures { λ r. ⌜ (seen r ≡ toldOnly (view s) (rule.defineName base name (address .0) (handle .0) (view s))) × Sound (r .state) ⌝ }
 {
     let n = numbers_of(s);
     let mut bindings = s.bindings;

@@ -2,7 +2,7 @@
 ghost use mathlib.Core.Path.{_≡_};
 ghost use Rattle.rules.specs.Sizes.{base};
 ghost use Rattle.rules.specs.Scopes as rule;
-ghost use Rattle.scopes.specs.View.{view, bound, defined, told, toldOnly, replied};
+ghost use Rattle.scopes.specs.View.{view, bound, told, toldOnly, replied};
 ghost use Rattle.scopes.specs.Lent.{withScopes, withNames, Whole, Becomes};
 use crate::HandleNumber;
 use crate::LentOutcome;
@@ -88,7 +88,7 @@ pub fn define(
     handle: HandleNumber,
 ) -> LentOutcome
     requires { ⌜ ((s : Scopes) × Whole (withNames s (now bindings) n)) ⌝ }
-    ensures { λ r. ⌜ ((s : Scopes) → Becomes (withNames s (now (bindings .entry)) n) (withNames s (now (bindings .exit)) (r .numbers)) (r .reply) (λ c. toldOnly c (defined name (address .0) (handle .0) c))) ⌝ }
+    ensures { λ r. ⌜ ((s : Scopes) → Becomes (withNames s (now (bindings .entry)) n) (withNames s (now (bindings .exit)) (r .numbers)) (r .reply) (λ c. toldOnly c (rule.defineName base name (address .0) (handle .0) c))) ⌝ }
 {
     let count = n.count;
     if n.top == SCOPES {

@@ -11,19 +11,22 @@ use Rattle.allocations.proofs.linear.give_back_run.Statement.{statement
 use Rattle.allocations.proofs.linear.give_back_run.Tie as tie
 
 abbrev Inv-loop : tie.InvT-loop
-Inv-loop s first count dangles from many t₀ i₀ t i = (i ≤ count) × Sound t × (backEach dangles (downFrom first i) (view t) ≡ backEach dangles (downFrom first count) (view s))
+Inv-loop s count dangles from many t₀ i₀ t i = (i ≤ count) × Sound t × (backEach dangles (downFrom from i) (view t) ≡ backEach dangles (downFrom from count) (view s))
 
 abbrev μ-loop : tie.MeasureT-loop
-μ-loop s first count dangles from many t₀ i₀ t i = i
+μ-loop s count dangles from many t₀ i₀ t i = i
+
+cast-from : tie.Need-cast-from Inv-loop μ-loop
+cast-from c = search needs
 
 add-if1 : tie.Need-add-if1 Inv-loop μ-loop
 add-if1 c = omega arith
 
 returns : tie.Need-returns Inv-loop μ-loop
-returns c = (ap (toldOnly (view (c .before .args .s))) (far-refused (c .before .args .s) (c .before .pre) (c .before .args .dangles) (c .before .args .first) (c .before .args .count) (omega arith) (c .if1 .taken)), c .before .pre)
+returns c = (ap (toldOnly (view (c .before .before .args .s))) (far-refused (c .before .before .args .s) (c .before .before .pre) (c .before .before .args .dangles) (c .before .before .args .first .0) (c .before .before .args .count) (omega arith) (c .if1 .taken)), c .before .before .pre)
 
 loop-holds : tie.Need-loop-holds Inv-loop μ-loop
-loop-holds c = (search needs, c .before .pre, refl)
+loop-holds c = (search needs, c .before .before .pre, refl)
 
 sub-i : tie.Need-sub-i Inv-loop μ-loop
 sub-i c = search needs
@@ -42,9 +45,9 @@ is-done-requires c κs = tt
 
 returns-2 : tie.Need-returns-2 Inv-loop μ-loop
 returns-2 c = (
-  turn-refused (backEach (c .before .before .before .before .before .before .before .args .dangles) (downFrom (c .before .before .before .before .before .before .before .args .first) ((c .before .before .before .before .before .loop .i) - 1))) _ _ _ (view (c .before .before .before .before .before .before .before .args .s)) _ _ (sym (c .before .is-done .ensures) ∙ not-true _ (c .if2 .taken)) (c .before .before .before .give-back .ensures .0)
-      (sym (down-step (c .before .before .before .before .before .before .before .args .dangles) (c .before .before .before .before .before .before .before .args .first) (c .before .before .before .before .before .loop .i) ((c .before .before .before .before .before .loop .i) - 1) (view (c .before .before .before .before .before .loop .t)) (omega arith)) ∙ c .before .before .before .before .before .loop .inv .2),
-  c .before .before .before .before .before .before .before .pre,
+  turn-refused (backEach (c .before .before .before .before .before .before .before .before .args .dangles) (downFrom (c .before .before .before .before .before .before .before .before .args .first .0) ((c .before .before .before .before .before .loop .i) - 1))) _ _ _ (view (c .before .before .before .before .before .before .before .before .args .s)) _ _ (sym (c .before .is-done .ensures) ∙ not-true _ (c .if2 .taken)) (c .before .before .before .give-back .ensures .0)
+      (sym (down-step (c .before .before .before .before .before .before .before .before .args .dangles) (c .before .before .before .before .before .before .before .before .args .first .0) (c .before .before .before .before .before .loop .i) ((c .before .before .before .before .before .loop .i) - 1) (view (c .before .before .before .before .before .loop .t)) (omega arith)) ∙ c .before .before .before .before .before .loop .inv .2),
+  c .before .before .before .before .before .before .before .before .pre,
 )
 
 loop-less : tie.Need-loop-less Inv-loop μ-loop
@@ -54,12 +57,12 @@ loop-again : tie.Need-loop-again Inv-loop μ-loop
 loop-again c = (
   omega arith,
   c .before .before .before .give-back .ensures .1,
-  turn-done (backEach (c .before .before .before .before .before .before .before .args .dangles) (downFrom (c .before .before .before .before .before .before .before .args .first) ((c .before .before .before .before .before .loop .i) - 1))) _ _ _ _ (sym (c .before .is-done .ensures) ∙ not-false _ (c .if2 .left)) (c .before .before .before .give-back .ensures .0)
-      ∙ sym (down-step (c .before .before .before .before .before .before .before .args .dangles) (c .before .before .before .before .before .before .before .args .first) (c .before .before .before .before .before .loop .i) ((c .before .before .before .before .before .loop .i) - 1) (view (c .before .before .before .before .before .loop .t)) (omega arith)) ∙ c .before .before .before .before .before .loop .inv .2,
+  turn-done (backEach (c .before .before .before .before .before .before .before .before .args .dangles) (downFrom (c .before .before .before .before .before .before .before .before .args .first .0) ((c .before .before .before .before .before .loop .i) - 1))) _ _ _ _ (sym (c .before .is-done .ensures) ∙ not-false _ (c .if2 .left)) (c .before .before .before .give-back .ensures .0)
+      ∙ sym (down-step (c .before .before .before .before .before .before .before .before .args .dangles) (c .before .before .before .before .before .before .before .before .args .first .0) (c .before .before .before .before .before .loop .i) ((c .before .before .before .before .before .loop .i) - 1) (view (c .before .before .before .before .before .loop .t)) (omega arith)) ∙ c .before .before .before .before .before .loop .inv .2,
 )
 
 returns-3 : tie.Need-returns-3 Inv-loop μ-loop
-returns-3 c = (ap (toldOnly (view (c .before .before .before .args .s))) (sym (down-none (c .before .before .before .args .dangles) (c .before .before .before .args .first) (c .before .loop .i) (view (c .before .loop .t)) (omega arith)) ∙ c .before .loop .inv .2), c .before .loop .inv .1)
+returns-3 c = (ap (toldOnly (view (c .before .before .before .before .args .s))) (sym (down-none (c .before .before .before .before .args .dangles) (c .before .before .before .before .args .first .0) (c .before .loop .i) (view (c .before .loop .t)) (omega arith)) ∙ c .before .loop .inv .2), c .before .loop .inv .1)
 
 pub give-back-run-spec : {M : Type 1} → statement M
 give-back-run-spec =
@@ -67,6 +70,7 @@ give-back-run-spec =
     (tie.spec
     Inv-loop
     μ-loop
+    cast-from
     add-if1
     returns
     loop-holds

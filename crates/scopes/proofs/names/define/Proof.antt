@@ -1,6 +1,8 @@
 -- A name is bound in the top scope, by value. Assumes nothing.
 use borrow.Author.Needs.{needs}
-use Rattle.scopes.specs.View.{defined, toldOnly}
+use Rattle.rules.specs.Sizes.{base}
+use Rattle.rules.specs.Scopes as rule
+use Rattle.scopes.specs.View.{toldOnly}
 use Rattle.scopes.specs.Lent.{Whole}
 use Rattle.scopes.proofs.Wraps.{lends, by-value}
 use Rattle.scopes.proofs.names.define.Statement.{statement}
@@ -27,7 +29,7 @@ with-names-requires : tie.Need-with-names-requires
 with-names-requires c κs = search needs
 
 returns : tie.Need-returns
-returns c = let n = lending (c .before .before) in by-value _ (whole (n .before)) _ (n .numbers-of .ensures) _ _ (λ x. toldOnly x (defined (n .before .args .name) (n .before .args .address .0) (n .before .args .handle .0) x)) (c .before .define .ensures (n .before .args .s)) _ (c .with-names .ensures)
+returns c = let n = lending (c .before .before) in by-value _ (whole (n .before)) _ (n .numbers-of .ensures) _ _ (λ x. toldOnly x (rule.defineName base (n .before .args .name) (n .before .args .address .0) (n .before .args .handle .0) x)) (c .before .define .ensures (n .before .args .s)) _ (c .with-names .ensures)
 
 pub define-spec : {M : Type 1} → statement M
 define-spec = tie.close (tie.spec numbers-of-requires define-requires with-names-requires returns)
