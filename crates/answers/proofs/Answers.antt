@@ -38,7 +38,7 @@ module _ (text out : List ℕ) (answer : ℕ) (out′ : List ℕ) where
 
 -- ---- translate
 
-translation-says : (o : Outcome) → translation.Comes o → (out : List ℕ) → TEXT ≤ length out → (r : ℕ) (out′ : List ℕ) → translate.Leaves (listLeft o out) r out′
+translation-says : (o : Outcome) → translation.Comes o → (out : List ℕ) → TEXT ≤ length out → (r : ℕ) (out′ : List ℕ) → translate.LeavesList (listLeft o out) r out′
     → Says (outcomeText o) out r out′
 unfolding listLeft outcomeText if_then_else_
 translation-says _ (translation.to-stop n i a b c) out h r out′ l = refusal n i (l .answered) a (omega arith) c refl (l .list-left)
@@ -59,7 +59,7 @@ module _ (script : List ℕ) where
   unfolding base
   come = translation.comes script
 
-  pub translate-says : length script ≤ TEXT → (out : List ℕ) → TEXT ≤ length out → (r : ℕ) (out′ : List ℕ) → translate.Leaves (translateEntry base script out) r out′
+  pub translate-says : length script ≤ TEXT → (out : List ℕ) → TEXT ≤ length out → (r : ℕ) (out′ : List ℕ) → translate.LeavesList (translateEntry base script out) r out′
       → Says (translatorPrints base script) out r out′
   unfolding translateEntry
   translate-says h out wide r out′ l =
@@ -68,7 +68,7 @@ module _ (script : List ℕ) where
 -- ---- run
 
 run-left : (o : RunOutcome) → running.Comes LINES o → (cells out : List ℕ) → TEXT ≤ length out → (r : ℕ) (cells′ out′ : List ℕ)
-    → machine.Leaves (runLeft o cells out) r cells′ out′ → Says (runText o) out r out′
+    → machine.LeavesFrame (runLeft o cells out) r cells′ out′ → Says (runText o) out r out′
 unfolding runLeft runText if_then_else_
 run-left _ (running.to-stop n i a b c) cells out h r cells′ out′ l = refusal n i (l .answered) a (omega arith) c refl (l .out-left)
 run-left _ (running.to-end {r = x} a) cells out h r cells′ out′ l =
@@ -95,7 +95,7 @@ module _ (list : List ℕ) where
     unfolding base
     come-to = running.comes base (omega arith) (cellsOf cells) list
 
-    pub run-says : (r : ℕ) (cells′ out′ : List ℕ) → machine.Leaves (runEntry base list cells out) r cells′ out′ → Says (runnerPrints base list) out r out′
+    pub run-says : (r : ℕ) (cells′ out′ : List ℕ) → machine.LeavesFrame (runEntry base list cells out) r cells′ out′ → Says (runnerPrints base list) out r out′
     unfolding runEntry
     run-says r cells′ out′ l =
         subst (λ (t : List ℕ). Says t out r out′) list-fits (run-left (ranOn base (cellsOf cells) list) come-to cells out wide r cells′ out′ l)

@@ -14,7 +14,7 @@ use Rattle.rules.specs.Sound.{soundSlots}
 use Rattle.rules.specs.Slots as rule
 use Rattle.rules.proofs.Kept.{base-fair}
 use Rattle.slots.specs.Halves.{occ, slotsOf, firstClear}
-use Rattle.slots.specs.Promises.{Seen, placedOr7, removal, checked}
+use Rattle.slots.specs.Promises.{SeenSlots, placedOr7, removal, checked}
 use Rattle.slots.proofs.Steps.{checked-yes, insert-within, insert-none, insert-some}
 use Rattle.bare.specs.Bare.{Called, numbered, placeNumber, removeNumber, inserting, insertingLowest, pushing, called, callRow, rows, addressGiven, inserts, halfFull, summed, segmentsAfter, headAfter, addressAt, Inserted}
 
@@ -38,7 +38,7 @@ inserted-sound s y = go (rule.insert SEGMENTS s) refl
     go (some p) e = rw e (base-fair rule.byHead .placed 1 s p e y .0)
 
 -- what an entry shows of sound slots
-pub unchecked : {A : Type 0} (s : rule.Slots) (x y : Seen A) → Sound s → x ≡ checked (base .segments) s y → x ≡ y
+pub unchecked : {A : Type 0} (s : rule.Slots) (x y : SeenSlots A) → Sound s → x ≡ checked (base .segments) s y → x ≡ y
 unchecked s x y h e = e ∙ sym (checked-yes (base .segments) s y h)
 
 -- ---- half full
@@ -72,10 +72,10 @@ module _ (stride n : ℕ) where
   summed-start s t e = let k : n - 0 ≡ n = omega arith in λ u. summed stride (k u) 0 (e u) 0
 
 -- a pair by value: s before, t between, x what the insert shows
-pub pair-shown : (a : ℕ) (s t : rule.Slots) (b : Answer Bool) (x : Seen ℕ) → Sound s → record { next = t; says = b } ≡ checked (base .segments) s (removal a s)
+pub pair-shown : (a : ℕ) (s t : rule.Slots) (b : Answer Bool) (x : SeenSlots ℕ) → Sound s → record { next = t; says = b } ≡ checked (base .segments) s (removal a s)
     → x ≡ checked (base .segments) t (inserting t) → x ≡ inserting (rule.remove a s)
 pair-shown a s t b x y p q =
-    let e : t ≡ rule.remove a s = ap (λ (z : Seen Bool). z .next) (unchecked s _ _ y p) in
+    let e : t ≡ rule.remove a s = ap (λ (z : SeenSlots Bool). z .next) (unchecked s _ _ y p) in
     unchecked t x (inserting t) (subst Sound (sym e) (removed-sound a s y)) q ∙ ap inserting e
 
 -- ---- rows
@@ -129,8 +129,8 @@ module _ (hs : List ℕ) (l h : ℕ) (y : Sound (slotsOf hs l h)) (m a : ℕ) (s
       let q : placedOr7 (slotsOf hs l h) none ≡ inserting (slotsOf hs l h) = ap (placedOr7 (slotsOf hs l h)) (sym (insert-none SEGMENTS (slotsOf hs l h) y m a start e z)) in
       record {
         within = put-within;
-        next = (λ u. record { occupied = occ hs; segments = sym (segments-none a z l) u; head = sym (head-none a z h) u }) ∙ ap (λ (x : Seen ℕ). x .next) q;
-        gives = sym (address-none a z) ∙ ap (λ (x : Seen ℕ). addressGiven (x .says)) q;
+        next = (λ u. record { occupied = occ hs; segments = sym (segments-none a z l) u; head = sym (head-none a z h) u }) ∙ ap (λ (x : SeenSlots ℕ). x .next) q;
+        gives = sym (address-none a z) ∙ ap (λ (x : SeenSlots ℕ). addressGiven (x .says)) q;
       }
 
   pub put-some : (new : List ℕ) → (a ≡ SLOTS → ⊥) → occ new ≡ put (occ hs) a true → Inserted (slotsOf hs l h) new a
@@ -139,8 +139,8 @@ module _ (hs : List ℕ) (l h : ℕ) (y : Sound (slotsOf hs l h)) (m a : ℕ) (s
       let q = ap (placedOr7 (slotsOf hs l h)) (sym (insert-some SEGMENTS (slotsOf hs l h) y m a start e z)) in
       record {
         within = put-within;
-        next = (λ u. record { occupied = p u; segments = sym (segments-some a z l) u; head = sym (head-some a z h) u }) ∙ ap (λ (x : Seen ℕ). x .next) q;
-        gives = sym (address-some a z) ∙ ap (λ (x : Seen ℕ). addressGiven (x .says)) q;
+        next = (λ u. record { occupied = p u; segments = sym (segments-some a z l) u; head = sym (head-some a z h) u }) ∙ ap (λ (x : SeenSlots ℕ). x .next) q;
+        gives = sym (address-some a z) ∙ ap (λ (x : SeenSlots ℕ). addressGiven (x .says)) q;
       }
 
 -- a pair on lent halves: s before, t between, `hs` after
@@ -154,19 +154,19 @@ module _ (a : ℕ) (s t : rule.Slots) (hs : List ℕ) (b : ℕ) (e : t ≡ rule.
 -- ---- one call, by number
 
 module _ (c : ℕ) (s : rule.Slots) (r : Called) where
-  pub call-insert : {x : Seen ℕ} → c ≡ 65535 → r ≡ numbered placeNumber x → x ≡ checked (base .segments) s (inserting s) → r ≡ called c s
+  pub call-insert : {x : SeenSlots ℕ} → c ≡ 65535 → r ≡ numbered placeNumber x → x ≡ checked (base .segments) s (inserting s) → r ≡ called c s
   unfolding called
   call-insert e p q = rw (eq-eqb c 65535 e, called) (p ∙ ap (numbered placeNumber) q)
 
-  pub call-push : {x : Seen ℕ} → (c ≡ 65535 → ⊥) → c ≡ 65534 → r ≡ numbered placeNumber x → x ≡ checked (base .segments) s (pushing s) → r ≡ called c s
+  pub call-push : {x : SeenSlots ℕ} → (c ≡ 65535 → ⊥) → c ≡ 65534 → r ≡ numbered placeNumber x → x ≡ checked (base .segments) s (pushing s) → r ≡ called c s
   unfolding called
   call-push n e p q = rw (ne-eqb c 65535 n, eq-eqb c 65534 e, called) (p ∙ ap (numbered placeNumber) q)
 
-  pub call-lowest : {x : Seen ℕ} → (c ≡ 65535 → ⊥) → (c ≡ 65534 → ⊥) → c ≡ 65533 → r ≡ numbered placeNumber x → x ≡ checked (base .segments) s (insertingLowest s)
+  pub call-lowest : {x : SeenSlots ℕ} → (c ≡ 65535 → ⊥) → (c ≡ 65534 → ⊥) → c ≡ 65533 → r ≡ numbered placeNumber x → x ≡ checked (base .segments) s (insertingLowest s)
       → r ≡ called c s
   unfolding called
   call-lowest n m e p q = rw (ne-eqb c 65535 n, ne-eqb c 65534 m, eq-eqb c 65533 e, called) (p ∙ ap (numbered placeNumber) q)
 
-  pub call-remove : {x : Seen Bool} → (c ≡ 65535 → ⊥) → (c ≡ 65534 → ⊥) → (c ≡ 65533 → ⊥) → r ≡ numbered removeNumber x → x ≡ checked (base .segments) s (removal c s) → r ≡ called c s
+  pub call-remove : {x : SeenSlots Bool} → (c ≡ 65535 → ⊥) → (c ≡ 65534 → ⊥) → (c ≡ 65533 → ⊥) → r ≡ numbered removeNumber x → x ≡ checked (base .segments) s (removal c s) → r ≡ called c s
   unfolding called
   call-remove n m o p q = rw (ne-eqb c 65535 n, ne-eqb c 65534 m, ne-eqb c 65533 o, called) (p ∙ ap (numbered removeNumber) q)

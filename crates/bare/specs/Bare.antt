@@ -9,7 +9,7 @@ use Rattle.rules.specs.Notation.{Answer, given, refused}
 use Rattle.rules.specs.Sizes.{base, SLOTS}
 use Rattle.rules.specs.Slots as rule
 use Rattle.slots.specs.Halves.{occ}
-use Rattle.slots.specs.Promises.{view, Seen, placedOr7, removal, checked}
+use Rattle.slots.specs.Promises.{view, SeenSlots, placedOr7, removal, checked}
 use Rattle.bare.specs.declared.calls.Shown.{Shown}
 
 -- ---- one call, by number
@@ -32,18 +32,18 @@ removeNumber (given true) = 1
 removeNumber (given false) = 0
 removeNumber (refused n) = 65536 + n
 
-abbrev pub numbered : {A : Type 0} → (Answer A → ℕ) → Seen A → Called
+abbrev pub numbered : {A : Type 0} → (Answer A → ℕ) → SeenSlots A → Called
 numbered f x = record { next = x .next; says = f (x .says) }
 
 -- what insert shows of slots that are sound
-abbrev pub inserting : rule.Slots → Seen ℕ
+abbrev pub inserting : rule.Slots → SeenSlots ℕ
 inserting s = placedOr7 s (rule.insert (base .segments) s)
 
 -- .. and what edition 2's insert shows
-abbrev pub insertingLowest : rule.Slots → Seen ℕ
+abbrev pub insertingLowest : rule.Slots → SeenSlots ℕ
 insertingLowest s = placedOr7 s (rule.insertLowest (base .segments) s)
 
-abbrev pub pushing : rule.Slots → Seen ℕ
+abbrev pub pushing : rule.Slots → SeenSlots ℕ
 pushing s = placedOr7 s (rule.push (base .segments) s)
 
 -- 65,535 inserts, 65,534 pushes, 65,533 inserts by edition 2, every other number removes; 29 first

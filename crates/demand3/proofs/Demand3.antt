@@ -37,7 +37,7 @@ pub record Listing (script list : List ℕ) : Type 0 where
   pub ok : translated base script ≡ accepted lines size
   pub is : list ≡ listText lines size
 
-listing : (script list : List ℕ) (o : Outcome) → translated base script ≡ o → Comes o → (r : ℕ) (list′ : List ℕ) → translate.Leaves (listLeft o list) r list′ → Accepts r → Listing script (take r list′)
+listing : (script list : List ℕ) (o : Outcome) → translated base script ≡ o → Comes o → (r : ℕ) (list′ : List ℕ) → translate.LeavesList (listLeft o list) r list′ → Accepts r → Listing script (take r list′)
 unfolding listLeft if_then_else_
 listing script list _ e (to-stop n i a b c) r list′ h k = absurd (omega (arith, h .answered))
 listing script list _ e (to-list {ls = ls} {size = size} a) r list′ h k = go (leb (length (listText ls size)) (length list)) refl

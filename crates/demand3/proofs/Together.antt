@@ -17,7 +17,7 @@ use Rattle.rules.specs.Entries.{translated, listLeft, translateEntry, overFront
 use Rattle.translate.specs.Whole as translate
 use Rattle.text.proofs.Halves.{by-number}
 use Rattle.translate.proofs.Numbers.{Comes, to-list, to-stop, Halves, count, number, translate-halves}
-use Rattle.machine.specs.Machine.{Leaves, Bytes, refusal}
+use Rattle.machine.specs.Machine.{LeavesFrame, Bytes, refusal}
 use Rattle.rules.proofs.Bytes.{Held, held-base}
 use Rattle.rules.proofs.SampleCells.{cells-length}
 use Rattle.machine.proofs.Answer as machine
@@ -86,22 +86,22 @@ module _ (script page : List ℕ) (r : ℕ) (page′ : List ℕ) (said : Transla
       go (count a b c) = omega (arith, said .answered)
       go (number n i a b c d e f) = absurd (omega (arith, said .answered))
 
-  pub accepted-both : Accepts r → (cells out : List ℕ) → Bytes cells → (a : ℕ) (cells′ out′ : List ℕ) → RunPromise (take r page′) cells out a cells′ out′ → Leaves (together script cells out) a cells′ out′
+  pub accepted-both : Accepts r → (cells out : List ℕ) → Bytes cells → (a : ℕ) (cells′ out′ : List ℕ) → RunPromise (take r page′) cells out a cells′ out′ → LeavesFrame (together script cells out) a cells′ out′
   unfolding together
   accepted-both k cells out bytes a cells′ out′ run =
       let l = listed-by script page r page′ said k in
-      subst (λ (x : Running). Leaves x a cells′ out′)
+      subst (λ (x : Running). LeavesFrame x a cells′ out′)
       (ap (λ (t : List ℕ). runEntry base t cells out) (l .is)
       ∙ run-is script (l .lines) (l .size) (held-base script (l .lines) (l .size) (l .ok)) cells out bytes
       ∙ ap (λ (o : Outcome). togetherOn o (means script []) cells out) (sym (l .ok)))
       run
 
   -- 17 is no answer here: every list goes on the page
-  pub refused-both : PAGE ≤ length page → REFUSAL ≤ r → (cells out : List ℕ) → Leaves (together script cells out) r cells out
+  pub refused-both : PAGE ≤ length page → REFUSAL ≤ r → (cells out : List ℕ) → LeavesFrame (together script cells out) r cells out
   unfolding together translateEntry togetherOn listLeft if_then_else_
   refused-both room k cells out = go (translated base script) (come script) (said .answered)
     where
-      go : (o : Outcome) → Comes o → r ≡ listLeft o page .answer → Leaves (togetherOn o (means script []) cells out) r cells out
+      go : (o : Outcome) → Comes o → r ≡ listLeft o page .answer → LeavesFrame (togetherOn o (means script []) cells out) r cells out
       go _ (to-stop n i a b c) e = record { answered = e; cells-left = refl; out-left = refl }
       go _ (to-list {ls = ls} {size = size} a) e =
           let x : r ≡ length (listText ls size) = rw (le-leb (length (listText ls size)) (length page) (omega arith), if_then_else_) at e in
@@ -110,24 +110,24 @@ module _ (script page : List ℕ) (r : ℕ) (page′ : List ℕ) (said : Transla
 -- ---- of the promise
 
 -- demand 3: an answer below 2^32 counts the bytes of the script's meaning, and they lie at the front of out
-pub together-prints : (script cells out : List ℕ) (r : ℕ) (cells′ out′ : List ℕ) → Leaves (together script cells out) r cells′ out′ → Accepts r → PrintsMeaning script [] out r out′
+pub together-prints : (script cells out : List ℕ) (r : ℕ) (cells′ out′ : List ℕ) → LeavesFrame (together script cells out) r cells′ out′ → Accepts r → PrintsMeaning script [] out r out′
 unfolding together togetherOn if_then_else_
 together-prints script cells out r cells′ out′ h k = go (translated base script) (come script) h
   where
-    go : (o : Outcome) → Comes o → Leaves (togetherOn o (means script []) cells out) r cells′ out′ → PrintsMeaning script [] out r out′
+    go : (o : Outcome) → Comes o → LeavesFrame (togetherOn o (means script []) cells out) r cells′ out′ → PrintsMeaning script [] out r out′
     go _ (to-stop n i a b c) h = absurd (omega (arith, h .answered))
     go _ (to-list {ls = ls} {size = size} a) h = on (lacking 0 0 ls) (leb (2 * size) (length cells) && leb (7 * length (means script [])) (length out)) h
       where
         on : (o : Option ℕ) (b : Bool)
-            → Leaves (elim o [ some i ↦ refusal 23 i cells out | none ↦ if b then worked ls size (means script []) cells out else refusal 17 0 cells out ]) r cells′ out′
+            → LeavesFrame (elim o [ some i ↦ refusal 23 i cells out | none ↦ if b then worked ls size (means script []) cells out else refusal 17 0 cells out ]) r cells′ out′
             → PrintsMeaning script [] out r out′
         on (some i) b h = absurd (omega (arith, h .answered))
         on none true h = record { count = h .answered; text = h .out-left }
         on none false h = absurd (omega (arith, h .answered))
 
 -- any two results that the promise admits are equal
-pub together-one : (script cells out : List ℕ) (r r′ : ℕ) (cells′ cells″ out′ out″ : List ℕ) → Leaves (together script cells out) r cells′ out′
-    → Leaves (together script cells out) r′ cells″ out″ → (r ≡ r′) × (cells′ ≡ cells″) × (out′ ≡ out″)
+pub together-one : (script cells out : List ℕ) (r r′ : ℕ) (cells′ cells″ out′ out″ : List ℕ) → LeavesFrame (together script cells out) r cells′ out′
+    → LeavesFrame (together script cells out) r′ cells″ out″ → (r ≡ r′) × (cells′ ≡ cells″) × (out′ ≡ out″)
 together-one script cells out r r′ cells′ cells″ out′ out″ a b = machine.leaves-one a b
 
 -- the two halves of the answer can't be mistaken for each other

@@ -23,11 +23,11 @@ use Rattle.recordings.specs.Reading as recordings
 
 -- translate may answer r and leave list′, where it was lent list
 abbrev pub TranslatePromise : List ℕ → List ℕ → ℕ → List ℕ → Type 0
-TranslatePromise script list r list′ = translate.Leaves (translateEntry base script list) r list′
+TranslatePromise script list r list′ = translate.LeavesList (translateEntry base script list) r list′
 
 -- run may answer a and leave cells′ and out′, where it was lent cells and out
 abbrev pub RunPromise : List ℕ → List ℕ → List ℕ → ℕ → List ℕ → List ℕ → Type 0
-RunPromise list cells out a cells′ out′ = machine.Leaves (runEntry base list cells out) a cells′ out′
+RunPromise list cells out a cells′ out′ = machine.LeavesFrame (runEntry base list cells out) a cells′ out′
 
 -- run_recorded may answer a and leave cells′, out′ and left′
 abbrev pub RecordedPromise : List ℕ → ℕ → List ℕ → List ℕ → List ℕ → List ℕ → ℕ → List ℕ → List ℕ → List ℕ → Type 0
@@ -37,7 +37,7 @@ RecordedPromise list state samples cells out left a cells′ out′ left′ = Le
 pub data Fed : List (List ℕ) → ℕ → List ℕ → ℕ → List ℕ → Type 0 where
   all : {state : ℕ} {samples : List ℕ} → Fed [] state samples state samples
   part : {p : List ℕ} {ps : List (List ℕ)} {state state′ state″ : ℕ} {samples samples′ samples″ : List ℕ}
-      → recordings.Leaves (readEntry state samples p) state′ samples′ → Fed ps state′ samples′ state″ samples″ → Fed (p ∷ ps) state samples state″ samples″
+      → recordings.LeavesSamples (readEntry state samples p) state′ samples′ → Fed ps state′ samples′ state″ samples″ → Fed (p ∷ ps) state samples state″ samples″
 
 -- the parts together
 unfoldable pub joined : List (List ℕ) → List ℕ

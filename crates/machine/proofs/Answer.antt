@@ -19,11 +19,11 @@ use Rattle.rules.specs.Entries.{RunOutcome, ran, stopped, runSampled, runListed
 use Rattle.rules.proofs.Tells.{decided}
 use Rattle.text.proofs.Bounds.{ListIn, read-list-in}
 use Rattle.text.proofs.Halves.{Halves, by-count, by-number}
-use Rattle.machine.specs.Machine.{Leaves}
+use Rattle.machine.specs.Machine.{LeavesFrame}
 use Rattle.machine.proofs.Link.{text-most}
 
 -- any two results that the promise admits are equal
-pub leaves-one : {l : Running} {r r′ : ℕ} {cells cells′ out out′ : List ℕ} → Leaves l r cells out → Leaves l r′ cells′ out′ → (r ≡ r′) × (cells ≡ cells′) × (out ≡ out′)
+pub leaves-one : {l : Running} {r r′ : ℕ} {cells cells′ out out′ : List ℕ} → LeavesFrame l r cells out → LeavesFrame l r′ cells′ out′ → (r ≡ r′) × (cells ≡ cells′) × (out ≡ out′)
 leaves-one a b = (a .answered ∙ sym (b .answered), a .cells-left ∙ sym (b .cells-left), a .out-left ∙ sym (b .out-left))
 
 -- ---- what a run comes to, in a room of so many lines

@@ -20,7 +20,7 @@ use Rattle.rules.specs.Entries.{RunOutcome, ran, stopped, runSampled, runListed
 use Rattle.rules.proofs.Tells.{decided}
 use Rattle.rules.proofs.Taking.{enough}
 use Rattle.text.specs.Whole.{ofListed, listing}
-use Rattle.machine.specs.Machine.{Leaves, Bytes}
+use Rattle.machine.specs.Machine.{LeavesFrame, Bytes}
 use Rattle.machine.specs.Entries.{entries}
 use Rattle.machine.specs.Recorded.{LeavesAll, enoughLeft, wholeLeft, surveyedLeft, listedLeft, listLeft}
 use Rattle.machine.specs.declared.entries.Entry.{Entry}
@@ -150,7 +150,7 @@ module _ (room : Room) (list : List ℕ) (state : ℕ) (samples cells out left :
 -- ---- no recording
 
 -- with lent memory for the number left over, that number is all that `run_recorded` leaves besides
-same-left : (o : RunOutcome) (cells out left : List ℕ) → 4 ≤ length left → (r : ℕ) (cells′ out′ left′ : List ℕ) → LeavesAll (recordedLeft o cells out left) r cells′ out′ left′ → Leaves (runLeft o cells out) r cells′ out′
+same-left : (o : RunOutcome) (cells out left : List ℕ) → 4 ≤ length left → (r : ℕ) (cells′ out′ left′ : List ℕ) → LeavesAll (recordedLeft o cells out left) r cells′ out′ left′ → LeavesFrame (runLeft o cells out) r cells′ out′
 unfolding runLeft recordedLeft if_then_else_
 same-left (stopped n i) cells out left h r cells′ out′ left′ l = record { answered = l .answered; cells-left = l .cells-left; out-left = l .out-left }
 same-left (ran x n) cells out left h r cells′ out′ left′ l = go (leb (length (loadsText (x .loaded))) (length out)) refl
@@ -158,7 +158,7 @@ same-left (ran x n) cells out left h r cells′ out′ left′ l = go (leb (leng
     four : leb 4 (length left) ≡ true
     four = le-leb 4 (length left) h
 
-    go : (b : Bool) → leb (length (loadsText (x .loaded))) (length out) ≡ b → Leaves (runLeft (ran x n) cells out) r cells′ out′
+    go : (b : Bool) → leb (length (loadsText (x .loaded))) (length out) ≡ b → LeavesFrame (runLeft (ran x n) cells out) r cells′ out′
     go true e = let k = rw (e, four) at l in rw (e, runLeft) (record { answered = k .answered; cells-left = k .cells-left; out-left = k .out-left })
     go false e = let k = rw e at l in rw (e, runLeft) (record { answered = k .answered; cells-left = k .cells-left; out-left = k .out-left })
 
@@ -174,7 +174,7 @@ module _ (cells : List ℕ) (m : List ℕ) where
       go (b ∷ d ∷ bs) k = absurd (omega arith)
 
 pub run-none : (room : Room) (list m cells out left : List ℕ) → length m ≤ 1 → 4 ≤ length left → (r : ℕ) (cells′ out′ left′ : List ℕ)
-    → LeavesAll (recordedEntry room list 0 m cells out left) r cells′ out′ left′ → Leaves (runEntry room list cells out) r cells′ out′
+    → LeavesAll (recordedEntry room list 0 m cells out left) r cells′ out′ left′ → LeavesFrame (runEntry room list cells out) r cells′ out′
 unfolding runEntry ranOn recordedOn recordedEntry if_then_else_ isReader limit
 run-none room list m cells out left hm h r cells′ out′ left′ l =
     same-left (runListed (cellsOf cells) (recorded 0 []) (readList room list)) cells out left h r cells′ out′ left′

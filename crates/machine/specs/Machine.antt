@@ -5,7 +5,7 @@ use Prim.Native.Nat.{ℕ, _<_}
 use lib.ListN.{getD}
 use Rattle.rules.specs.Entries.{refusalAnswer, Running}
 
-pub record Leaves (l : Running) (answer : ℕ) (cells out : List ℕ) : Type 0 where
+pub record LeavesFrame (l : Running) (answer : ℕ) (cells out : List ℕ) : Type 0 where
   pub answered : answer ≡ l .answer
   pub cells-left : cells ≡ l .cells
   pub out-left : out ≡ l .out

@@ -2,7 +2,7 @@
 use recorded::run_recorded;
 ghost use Rattle.rules.specs.Sizes.{base};
 ghost use Rattle.rules.specs.Entries.{runEntry};
-ghost use Rattle.machine.specs.Machine.{Leaves};
+ghost use Rattle.machine.specs.Machine.{LeavesFrame};
 
 pub mod entries; // what a line asks of the machine
 pub mod survey; // what a whole list asks for
@@ -14,7 +14,7 @@ pub mod recorded; // a run with a recording beside the list: the refusals in the
 // its line, and then cells and out are as they were.
 #[no_mangle]
 pub extern "C" fn run(list: &[u8], cells: &mut [u8], out: &mut [u8]) -> u64
-    ensures { λ r. ⌜ Leaves (runEntry base (now (list .entry)) (now (cells .entry)) (now (out .entry))) r (now (cells .exit)) (now (out .exit)) ⌝ }
+    ensures { λ r. ⌜ LeavesFrame (runEntry base (now (list .entry)) (now (cells .entry)) (now (out .entry))) r (now (cells .exit)) (now (out .exit)) ⌝ }
 {
     let none = [0u8; 1];
     let mut left = [0u8; 4];

@@ -5,7 +5,7 @@ use Prim.Native.Nat.{ℕ, _*_, _≤_}
 use lib.ListN.{length}
 use Rattle.rules.specs.Sizes.{base, LINES}
 use Rattle.rules.specs.Entries.{readEntry, recordedPrints}
-use Rattle.recordings.specs.Reading.{Leaves}
+use Rattle.recordings.specs.Reading.{LeavesSamples}
 use Rattle.recordings.proofs.ReadOn.{read-none, read-on}
 use Rattle.answers.specs.Prints.{besidePrints}
 use Rattle.answers.proofs.Told.{told-prints}
@@ -14,7 +14,7 @@ use Rattle.programs.specs.Recorded.{OfBytes}
 pub of-none : (samples : List ℕ) → OfBytes 0 samples samples
 of-none samples = let r = read-none samples in record { bytes = []; leaves-state = r .0; leaves-samples = r .1 }
 
-pub of-more : (samples : List ℕ) (state : ℕ) (samples′ : List ℕ) → OfBytes state samples samples′ → (p : List ℕ) (state″ : ℕ) (samples″ : List ℕ) → Leaves (readEntry state samples′ p) state″ samples″ → OfBytes state″ samples samples″
+pub of-more : (samples : List ℕ) (state : ℕ) (samples′ : List ℕ) → OfBytes state samples samples′ → (p : List ℕ) (state″ : ℕ) (samples″ : List ℕ) → LeavesSamples (readEntry state samples′ p) state″ samples″ → OfBytes state″ samples samples″
 of-more samples state samples′ h p state″ samples″ l =
     let r = read-on samples (h .bytes) state samples′ (h .leaves-state, h .leaves-samples) p state″ samples″ l in
     record { bytes = h .bytes ++ p; leaves-state = r .0; leaves-samples = r .1 }

@@ -14,7 +14,7 @@ abbrev pub seen : code.Reader → Reader
 seen r = reader (r .line) (r .column) (r .value)
 
 -- the promise: the answer and the lent samples at exit are these
-pub record Leaves (l : PartRead) (answer : ℕ) (samples : List ℕ) : Type 0 where
+pub record LeavesSamples (l : PartRead) (answer : ℕ) (samples : List ℕ) : Type 0 where
   pub answered : answer ≡ l .answer
   pub samples-left : samples ≡ l .samples
 

@@ -6,7 +6,7 @@ use states::is_reader;
 use states::opened;
 use text::refusal::refuse;
 ghost use Rattle.rules.specs.Entries.{readEntry};
-ghost use Rattle.recordings.specs.Reading.{Leaves};
+ghost use Rattle.recordings.specs.Reading.{LeavesSamples};
 
 pub mod states; // a reader, and the number that stands for it
 pub mod bytes; // one byte
@@ -18,7 +18,7 @@ pub mod parts; // the bytes of a part
 // reader's state is refused by 29, and lent memory stays.
 #[no_mangle]
 pub extern "C" fn read_recording(state: u64, samples: &mut [u8], part: &[u8]) -> u64
-    ensures { λ r. ⌜ Leaves (readEntry state (now (samples .entry)) (now (part .entry))) r (now (samples .exit)) ⌝ }
+    ensures { λ r. ⌜ LeavesSamples (readEntry state (now (samples .entry)) (now (part .entry))) r (now (samples .exit)) ⌝ }
 {
     let r = opened(state);
     if is_reader(r) {

@@ -15,7 +15,7 @@ use Rattle.rules.specs.Needs.{Address, allocAddress, allocAddressIn, all
 use Rattle.rules.specs.Demand3.{Fair}
 use Rattle.rules.proofs.Chains.{All, all-given, all-then, all-when, all-if}
 use Rattle.rules.proofs.Sets.{once-nil, within-nil}
-use Rattle.rules.proofs.Sound.{every-nil, SlotsSound, Leads, root, binds-nil, Sound}
+use Rattle.rules.proofs.Sound.{every-nil, SlotsSound, LeadsToRoot, root, binds-nil, Sound}
 use Rattle.rules.proofs.Tells.{clash}
 use Rattle.rules.proofs.Naming.{id-here}
 use Rattle.rules.proofs.Parents.{top-some}
@@ -93,6 +93,6 @@ fresh-sound room segments scopes =
       size = record { above = λ a l t. clash t refl; fits = omega arith };
     }
   where
-    go : (i : ℕ) → isSome (freshScopes .live i) ≡ true → Leads (room .scopes) (freshScopes .live) i
+    go : (i : ℕ) → isSome (freshScopes .live i) ≡ true → LeadsToRoot (room .scopes) (freshScopes .live) i
     go zero e = root (newScope 0 none) refl refl refl refl
     go (suc i) e = clash e refl

@@ -22,8 +22,8 @@ pub left : (d : Scopes) → Leaves (d .slots) (d .bindings) (d .counter) (d .siz
 left d = record { slots-are = refl; bindings-are = refl; counter-is = refl; size-is = refl }
 
 -- all four as they were
-abbrev pub LeavesAll : Scopes → Scopes → Type 0
-LeavesAll c d = Leaves (c .slots) (c .bindings) (c .counter) (c .size) d
+abbrev pub LeavesSame : Scopes → Scopes → Type 0
+LeavesSame c d = Leaves (c .slots) (c .bindings) (c .counter) (c .size) d
 
 module _ (room : Room) (c : Scopes) where
   pub child-leaves : All (λ r. (r .0 .number ≡ c .counter) × Leaves (c .slots) (c .bindings) (afterCounter (c .counter)) (c .size) (r .1)) (openChild room c)
@@ -41,11 +41,11 @@ module _ (room : Room) (c : Scopes) where
   take-leaves name = all-then λ b e. all-given (got room name c .at b e, left _)
 
 module _ (c : Scopes) where
-  pub dangle-leaves : (o : Option Found) → All (LeavesAll c) (dangleScope o c)
+  pub dangle-leaves : (o : Option Found) → All (LeavesSame c) (dangleScope o c)
   unfolding dangleScope setScope
   dangle-leaves o = all-unless 4 λ k _. all-when 5 _ λ _. all-given (left _)
 
-  pub restore-leaves : (o : Option Found) → All (LeavesAll c) (restoreScope o c)
+  pub restore-leaves : (o : Option Found) → All (LeavesSame c) (restoreScope o c)
   unfolding restoreScope setScope
   restore-leaves o = all-unless 4 λ k _. all-when 5 _ λ _. all-given (left _)
 

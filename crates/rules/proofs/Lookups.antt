@@ -6,7 +6,7 @@ use Prim.Native.Nat.{ℕ, zero, suc, _<_}
 use native.Mathlib.Omega.{arith}
 use Rattle.rules.specs.Sizes.{Room}
 use Rattle.rules.specs.Scopes.{Scope, Binding, Scopes, boundIn, lookup}
-use Rattle.rules.proofs.Sound.{Leads, root, up, Sound}
+use Rattle.rules.proofs.Sound.{LeadsToRoot, root, up, Sound}
 use Rattle.rules.proofs.Climb.{height, height-below}
 
 -- what is met first on the way from i to root: a binding of the name, or none
@@ -48,7 +48,7 @@ module _ (c : Scopes) (name : ℕ) where
       go (some b) q = subst (Nearest c name i) (sym (look-here n i k b e q)) (here k b e q)
       go none q = further q
 
-  looks : {m : ℕ} (n : ℕ) {i : ℕ} (d : Leads m (c .live) i) → height d < n → Nearest c name i (lookup n c name (some i))
+  looks : {m : ℕ} (n : ℕ) {i : ℕ} (d : LeadsToRoot m (c .live) i) → height d < n → Nearest c name i (lookup n c name (some i))
   unfolding height
   looks zero d h = absurd (omega arith)
   looks (suc n) {i = i} (root k e p z w) h =

@@ -8,7 +8,7 @@ use Rattle.rules.specs.Notation.{isSome, put}
 use Rattle.rules.specs.Scopes.{Scope, Found, childOf}
 use Rattle.rules.proofs.Chains.{none-some}
 use Rattle.rules.proofs.Tables.{by-eqb, put-same, put-other, put-alike}
-use Rattle.rules.proofs.Sound.{IsLive, TopSound, Leads, root, up, Rooted}
+use Rattle.rules.proofs.Sound.{IsLive, TopSound, LeadsToRoot, root, up, Rooted}
 use Rattle.rules.proofs.Tells.{clash, is-false}
 use Rattle.rules.proofs.Naming.{Here}
 
@@ -28,12 +28,12 @@ is-some e = rw e
 pub here-live : {n : ℕ} {live : ℕ → Option Scope} {k : Found} → Here n live k → IsLive n live (k .index)
 here-live h = (h .below, is-some (h .is))
 
-pub leads-live : {n : ℕ} {live : ℕ → Option Scope} {i : ℕ} → Leads n live i → isSome (live i) ≡ true
+pub leads-live : {n : ℕ} {live : ℕ → Option Scope} {i : ℕ} → LeadsToRoot n live i → isSome (live i) ≡ true
 leads-live (root k e p z m) = is-some e
 leads-live (up k p e q z l d) = is-some e
 
 -- whatever leads anywhere leads to a live root
-pub root-live : {n : ℕ} {live : ℕ → Option Scope} {i : ℕ} → Leads n live i → isSome (live 0) ≡ true
+pub root-live : {n : ℕ} {live : ℕ → Option Scope} {i : ℕ} → LeadsToRoot n live i → isSome (live 0) ≡ true
 root-live {live = live} (root k e p z m) = subst (λ (j : ℕ). isSome (live j) ≡ true) z (is-some e)
 root-live (up k p e q z l d) = root-live d
 
@@ -46,11 +46,11 @@ pub record Parent (n : ℕ) (live : ℕ → Option Scope) (k : Scope) : Type 0 w
   pub is : k .parent ≡ some index
   pub live-at : IsLive n live index
 
-pub parent-of : {n : ℕ} {live : ℕ → Option Scope} {i : ℕ} (k : Scope) → live i ≡ some k → (i ≡ 0 → ⊥) → Leads n live i → Parent n live k
+pub parent-of : {n : ℕ} {live : ℕ → Option Scope} {i : ℕ} (k : Scope) → live i ≡ some k → (i ≡ 0 → ⊥) → LeadsToRoot n live i → Parent n live k
 parent-of k e nz (root k′ e′ p z m) = absurd (nz z)
 parent-of k e nz (up k′ p e′ q z l d) = record { index = p; is = (let s : k ≡ k′ = cc in ap (λ (y : Scope). y .parent) s ∙ q); live-at = (l, leads-live d) }
 
-no-parent : {n : ℕ} {live : ℕ → Option Scope} {i : ℕ} (k : Scope) → live i ≡ some k → i ≡ 0 → Leads n live i → k .parent ≡ none
+no-parent : {n : ℕ} {live : ℕ → Option Scope} {i : ℕ} (k : Scope) → live i ≡ some k → i ≡ 0 → LeadsToRoot n live i → k .parent ≡ none
 no-parent k e z (root k′ e′ p z′ m) = let s : k ≡ k′ = cc in ap (λ (y : Scope). y .parent) s ∙ p
 no-parent k e z (up k′ p e′ q z′ l d) = absurd (z′ z)
 
@@ -69,7 +69,7 @@ module _ (n : ℕ) (live : ℕ → Option Scope) where
   leads-in : (next : ℕ → Option Scope) (P : ℕ → Type 0)
       → ((i p : ℕ) (k : Scope) → P i → live i ≡ some k → k .parent ≡ some p → p < n → P p)
       → ((i : ℕ) (k : Scope) → P i → live i ≡ some k → (x : Scope) × (next i ≡ some x) × (x .parent ≡ k .parent) × (x .number ≡ k .number))
-      → (i : ℕ) → P i → Leads n live i → Leads n next i
+      → (i : ℕ) → P i → LeadsToRoot n live i → LeadsToRoot n next i
   leads-in next P above same i h (root k e p z m) = let s = same i k h e in root (s .0) (s .1) (s .2 ∙ p) z (s .3 ∙ m)
   leads-in next P above same i h (up k p e q z l d) =
       let s = same i k h e in
@@ -78,7 +78,7 @@ module _ (n : ℕ) (live : ℕ → Option Scope) where
   -- ---- a scope is opened at i
 
   module _ (i : ℕ) (x : Scope) (free : live i ≡ none) where
-    opened-leads : (j : ℕ) → Leads n live j → Leads n (put live i (some x)) j
+    opened-leads : (j : ℕ) → LeadsToRoot n live j → LeadsToRoot n (put live i (some x)) j
     opened-leads j d =
         leads-in (put live i (some x)) (λ _. Unit {0}) (λ _ _ _ _ _ _ _. tt)
         (λ a k _ e. by-eqb i a (λ q. none-some (sym (subst (λ (y : ℕ). live y ≡ none) q free) ∙ e)) (λ ne. (k, put-other live i (some x) a ne ∙ e, refl, refl)))
@@ -91,7 +91,7 @@ module _ (n : ℕ) (live : ℕ → Option Scope) where
     pub opened-rooted : (p : ℕ) → x .parent ≡ some p → IsLive n live p → (i ≡ 0 → ⊥) → Rooted n live → Rooted n (put live i (some x))
     opened-rooted p up-to h nz r j l e =
         by-eqb i j
-        (λ q. subst (Leads n (put live i (some x))) q (up x p (put-same live i (some x)) up-to nz (h .0) (opened-leads p (r p (h .0) (h .1)))))
+        (λ q. subst (LeadsToRoot n (put live i (some x))) q (up x p (put-same live i (some x)) up-to nz (h .0) (opened-leads p (r p (h .0) (h .1)))))
         (λ ne. opened-leads j (r j l (sym (ap isSome (put-other live i (some x) j ne)) ∙ e)))
 
   -- ---- the scope k is changed to x, with its parent and number

@@ -40,13 +40,13 @@ pub record TopSound (n : ℕ) (live : ℕ → Option Scope) (top : Option ℕ) :
   pub no-live : top ≡ none → (i : ℕ) → i < n → isSome (live i) ≡ false
 
 -- from i over live scopes to root, which is (0, 0) and has no parent
-pub data Leads (n : ℕ) (live : ℕ → Option Scope) : ℕ → Type 0 where
-  root : {i : ℕ} (k : Scope) → live i ≡ some k → k .parent ≡ none → i ≡ 0 → k .number ≡ 0 → Leads n live i
-  up : {i : ℕ} (k : Scope) (p : ℕ) → live i ≡ some k → k .parent ≡ some p → (i ≡ 0 → ⊥) → p < n → Leads n live p → Leads n live i
+pub data LeadsToRoot (n : ℕ) (live : ℕ → Option Scope) : ℕ → Type 0 where
+  root : {i : ℕ} (k : Scope) → live i ≡ some k → k .parent ≡ none → i ≡ 0 → k .number ≡ 0 → LeadsToRoot n live i
+  up : {i : ℕ} (k : Scope) (p : ℕ) → live i ≡ some k → k .parent ≡ some p → (i ≡ 0 → ⊥) → p < n → LeadsToRoot n live p → LeadsToRoot n live i
 
 -- "every live scope's parents are live and lead to root"
 abbrev pub Rooted : ℕ → (ℕ → Option Scope) → Type 0
-Rooted n live = (i : ℕ) → i < n → isSome (live i) ≡ true → Leads n live i
+Rooted n live = (i : ℕ) → i < n → isSome (live i) ≡ true → LeadsToRoot n live i
 
 -- ---- owned addresses: m slots, n lists
 

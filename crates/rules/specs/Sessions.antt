@@ -239,17 +239,18 @@ titledLists =
     ∷ []
 
 -- what an accepted script's list prints; nothing is run where it was refused
-abbrev pub runOf : Room → Outcome → List ℕ
-runOf room (accepted ls size) = runText (ranOn room (replicate size 0) (listText ls size))
-runOf room (refusedAt n i) = []
+abbrev pub listPrints : Room → Outcome → List ℕ
+listPrints room (accepted ls size) = runText (ranOn room (replicate size 0) (listText ls size))
+listPrints room (refusedAt n i) = []
 
-abbrev pub held : Room → List ℕ → Session
-held room script =
+-- the session of a script, and of a list beside a recording, as the rules have it
+abbrev pub sessionOf : Room → List ℕ → Session
+sessionOf room script =
     let o : Outcome = translated room script in
-    record { script = script; list = outcomeText o; output = runOf room o }
+    record { script = script; list = outcomeText o; output = listPrints room o }
 
-abbrev pub heldBeside : RecordedSession → RecordedSession
-heldBeside s =
+abbrev pub recordedSessionOf : RecordedSession → RecordedSession
+recordedSessionOf s =
     record {
       list = s .list;
       samples = s .samples;
@@ -259,7 +260,7 @@ heldBeside s =
 
 -- each session is as the rules say
 abbrev pub Hold : Room → List Session → Type 0
-Hold room l = map (λ s. held room (s .script)) l ≡ l
+Hold room l = map (λ s. sessionOf room (s .script)) l ≡ l
 
 unfoldable pub SessionsHold : Type 0
 SessionsHold = Hold base sessions
@@ -268,7 +269,7 @@ unfoldable pub NeedSessionsHold : Type 0
 NeedSessionsHold = Hold base needSessions × Hold (narrow 128) noHandle × Hold (narrow 129) oneHandle
 
 unfoldable pub RecordedSessionsHold : Type 0
-RecordedSessionsHold = Hold base sampleSessions × (map heldBeside recordedSessions ≡ recordedSessions)
+RecordedSessionsHold = Hold base sampleSessions × (map recordedSessionOf recordedSessions ≡ recordedSessions)
 
 unfoldable pub EditionSessionsHold : Type 0
-EditionSessionsHold = Hold base editionSessions × Hold twoSegments oneHole × (map heldBeside titledLists ≡ titledLists)
+EditionSessionsHold = Hold base editionSessions × Hold twoSegments oneHole × (map recordedSessionOf titledLists ≡ titledLists)

@@ -19,7 +19,7 @@ use Rattle.links.specs.Links.{Held, On, nextIn, leaves}
 use Rattle.links.specs.Follow.{Ahead}
 use Rattle.links.proofs.Walks.{chains-lists, walk}
 use Rattle.links.proofs.Moves.{told-on, leaves-tells}
-use Rattle.scopes.specs.View.{held, index, view}
+use Rattle.scopes.specs.View.{listOf, index, view}
 use Rattle.scopes.specs.Sound.{Sound, Sized}
 use Rattle.scopes.specs.declared.Scopes.{Scopes}
 use Rattle.scopes.proofs.Tables.{put-nothing}
@@ -48,7 +48,7 @@ lighter t a links =
 
 -- the loop: n addresses have gone from t₀ into `out`, and a is next
 pub record Draining (t₀ : Scopes) (out₀ : List ℕ) (t : Scopes) (a n : ℕ) (out : List ℕ) : Type 0 where
-  pub at : Ahead (nextIn (t .links)) a (held (t .links) SCOPES) (SLOTS + SCOPES)
+  pub at : Ahead (nextIn (t .links)) a (listOf (t .links) SCOPES) (SLOTS + SCOPES)
   pub sound : Sound t
   pub sized : Sized t
   pub rest : rule.drainDangling (view t) .1 ≡ rule.drainDangling (view t₀) .1
@@ -57,22 +57,22 @@ pub record Draining (t₀ : Scopes) (out₀ : List ℕ) (t : Scopes) (a n : ℕ)
   pub long : length out ≡ SLOTS
   pub kept : (k : ℕ) → n ≤ k → getD out k 0 ≡ getD out₀ k 0
 
-pub draining-none : (t : Scopes) (out : List ℕ) (a : ℕ) → Ahead (nextIn (t .links)) a (held (t .links) SCOPES) (SLOTS + SCOPES) → Sound t → Sized t → length out ≡ SLOTS → Draining t out t a 0 out
+pub draining-none : (t : Scopes) (out : List ℕ) (a : ℕ) → Ahead (nextIn (t .links)) a (listOf (t .links) SCOPES) (SLOTS + SCOPES) → Sound t → Sized t → length out ≡ SLOTS → Draining t out t a 0 out
 draining-none t out a e h z l =
-    record { at = e; sound = h; sized = z; rest = refl; done = refl; room = omega (arith, walk SLOTS LISTS (t .links) (held (t .links)) (h .ringed .rings) SCOPES (omega arith) .1); long = l; kept = λ k _. refl }
+    record { at = e; sound = h; sized = z; rest = refl; done = refl; room = omega (arith, walk SLOTS LISTS (t .links) (listOf (t .links)) (h .ringed .rings) SCOPES (omega arith) .1); long = l; kept = λ k _. refl }
 
 module _ (t₀ : Scopes) (out₀ : List ℕ) (t : Scopes) (a n : ℕ) (out : List ℕ) (g : Draining t₀ out₀ t a n out) (u : Turn t SCOPES a) where
-  pub on : On LISTS (held (t .links)) a
-  on = told-on SLOTS LISTS (owners (t .owner)) (held (t .links)) (g .sound .ringed .tells) a (u .small) (omega (arith, u .owner))
+  pub on : On LISTS (listOf (t .links)) a
+  on = told-on SLOTS LISTS (owners (t .owner)) (listOf (t .links)) (g .sound .ringed .tells) a (u .small) (omega (arith, u .owner))
 
   pub has-room : n < SLOTS
   has-room = let e : length (view t .dangling) ≡ suc (length (u .zs)) = ap length (u .is) in omega (arith, g .room)
 
-  module _ (links : List ℕ) (ll : length links ≡ LINKS) (c : Held SLOTS LISTS links (leaves a (held (t .links)))) where
-    now : (j : ℕ) → j < LISTS → held links j ≡ without a (held (t .links) j)
-    now j hj = chains-lists SLOTS LISTS links (leaves a (held (t .links))) c j hj
+  module _ (links : List ℕ) (ll : length links ≡ LINKS) (c : Held SLOTS LISTS links (leaves a (listOf (t .links)))) where
+    now : (j : ℕ) → j < LISTS → listOf links j ≡ without a (listOf (t .links) j)
+    now j hj = chains-lists SLOTS LISTS links (leaves a (listOf (t .links))) c j hj
 
-    now-64 : held links SCOPES ≡ u .zs
+    now-64 : listOf links SCOPES ≡ u .zs
     now-64 = now SCOPES (omega arith) ∙ u .rest
 
     slot : occ (t .halves) ≡ put (occ (t .halves)) a false
@@ -82,8 +82,8 @@ module _ (t₀ : Scopes) (out₀ : List ℕ) (t : Scopes) (a n : ℕ) (out : Lis
     sound =
         record {
           slotted = g .sound .slotted;
-          ringed = ringed (t .links) (t .owner) links (leaves a (held (t .links))) a LISTS (g .sound .ringed) (u .small) (g .sized .owner) (omega arith) c
-              (leaves-tells SLOTS LISTS (owners (t .owner)) (held (t .links)) (g .sound .ringed .tells) a (u .small) LISTS (omega arith));
+          ringed = ringed (t .links) (t .owner) links (leaves a (listOf (t .links))) a LISTS (g .sound .ringed) (u .small) (g .sized .owner) (omega arith) c
+              (leaves-tells SLOTS LISTS (owners (t .owner)) (listOf (t .links)) (g .sound .ringed .tells) a (u .small) LISTS (omega arith));
           owned = owned (t .halves) (t .owner) (t .live) (t .size) (t .halves) a LISTS false (t .size) (g .sound .owned) (u .small) (g .sized .owner) slot refl (λ z. absurd (omega arith)) (λ z. absurd (omega arith)) (omega arith) (g .sound .owned .most);
           rooted = g .sound .rooted;
           named = g .sound .named;
@@ -95,9 +95,9 @@ module _ (t₀ : Scopes) (out₀ : List ℕ) (t : Scopes) (a n : ℕ) (out : Lis
         λ v. record {
           slots = view t .slots;
           live = λ j.
-              scopes-other (t .live) (t .dangled) (t .parent) (t .number) (held (t .links)) (held links) j
+              scopes-other (t .live) (t .dangled) (t .parent) (t .number) (listOf (t .links)) (listOf links) j
               (λ lj. let hj : j < SCOPES = in-range t (g .sized .live) j lj in
-              now j (omega arith) ∙ without-none a (held (t .links) j) (g .sound .ringed .tells a j (u .small) (omega arith) ∙ ne-eqb (getD (t .owner) a 0) j (omega (arith, u .owner)))) v;
+              now j (omega arith) ∙ without-none a (listOf (t .links) j) (g .sound .ringed .tells a j (u .small) (omega arith) ∙ ne-eqb (getD (t .owner) a 0) j (omega (arith, u .owner)))) v;
           top = index (t .top);
           counter = t .counter;
           bindings = view t .bindings;
@@ -105,10 +105,10 @@ module _ (t₀ : Scopes) (out₀ : List ℕ) (t : Scopes) (a n : ℕ) (out : Lis
           size = t .size;
         }
 
-    pub draining-rings : Held SLOTS LISTS links (held links)
+    pub draining-rings : Held SLOTS LISTS links (listOf links)
     draining-rings = sound .ringed .rings
 
-    pub draining-on : (b : ℕ) → Ahead (nextIn links) b (held links SCOPES) (SLOTS + SCOPES) → Draining t₀ out₀ (lighter t a links) b (n + 1) (set out n a)
+    pub draining-on : (b : ℕ) → Ahead (nextIn links) b (listOf links SCOPES) (SLOTS + SCOPES) → Draining t₀ out₀ (lighter t a links) b (n + 1) (set out n a)
     draining-on b at =
         record {
           at = at;
@@ -121,10 +121,10 @@ module _ (t₀ : Scopes) (out₀ : List ℕ) (t : Scopes) (a n : ℕ) (out : Lis
           kept = λ k l. getD-set-other out n k a 0 (omega arith) ∙ g .kept k (omega arith);
         }
 
-    pub draining-less : length (held links SCOPES) < length (held (t .links) SCOPES)
+    pub draining-less : length (listOf links SCOPES) < length (listOf (t .links) SCOPES)
     draining-less = rw (now-64, u .is) (omega arith)
 
-pub drained : (t₀ : Scopes) (out₀ : List ℕ) (t : Scopes) (a n : ℕ) (out : List ℕ) → Draining t₀ out₀ t a n out → held (t .links) SCOPES ≡ []
+pub drained : (t₀ : Scopes) (out₀ : List ℕ) (t : Scopes) (a n : ℕ) (out : List ℕ) → Draining t₀ out₀ t a n out → listOf (t .links) SCOPES ≡ []
     → (view t ≡ rule.drainDangling (view t₀) .1) × (take n out ≡ rule.drainDangling (view t₀) .0)
 unfolding rule.drainDangling
 drained t₀ out₀ t a n out g e = (

@@ -22,7 +22,7 @@ use Rattle.slots.specs.Halves.{occ, slotsOf}
 use Rattle.links.specs.Links.{Held, On, leaves, gains}
 use Rattle.links.proofs.Walks.{chains-lists}
 use Rattle.links.proofs.Moves.{Tells, told-on, leaves-tells, places-tells}
-use Rattle.scopes.specs.View.{held, index, view, scopeOf, foundAt, toldOnly}
+use Rattle.scopes.specs.View.{listOf, index, view, scopeOf, foundAt, toldOnly}
 use Rattle.scopes.specs.Sound.{Slotted, Ringed, Sound, Sized}
 use Rattle.scopes.specs.Lent.{Whole}
 use Rattle.scopes.specs.declared.Scopes.{Scopes}
@@ -55,15 +55,15 @@ released-sized s z a o halves links lh ll =
     record { halves = lh; links = ll; owner = length-set (s .owner) a o ∙ z .owner; live = z .live; dangled = z .dangled; parent = z .parent; number = z .number; bindings = z .bindings }
 
 -- a number that is no address is on no list
-pub far : (links owner : List ℕ) (a i : ℕ) → Ringed links owner → SLOTS ≤ a → i < LISTS → member a (held links i) ≡ false
-far links owner a i h l hi = no-member a (held links i) (λ m. omega (arith, h .rings .ring i hi .addr a m))
+pub far : (links owner : List ℕ) (a i : ℕ) → Ringed links owner → SLOTS ≤ a → i < LISTS → member a (listOf links i) ≡ false
+far links owner a i h l hi = no-member a (listOf links i) (λ m. omega (arith, h .rings .ring i hi .addr a m))
 
 module _ (s : Scopes) (dangles : Bool) (a : ℕ) where
   pub free-no-top : s .top ≡ SCOPES → record { next = view s; says = Refused 12 } ≡ toldOnly (view s) (giveBack dangles a (view s))
   unfolding giveBack _>>=_ refuse_unless_
   free-no-top e = rw (no-top s e)
 
-  pub free-not-owned : Topped s → member a (held (s .links) (s .top)) ≡ false → record { next = view s; says = Refused 12 } ≡ toldOnly (view s) (giveBack dangles a (view s))
+  pub free-not-owned : Topped s → member a (listOf (s .links) (s .top)) ≡ false → record { next = view s; says = Refused 12 } ≡ toldOnly (view s) (giveBack dangles a (view s))
   unfolding giveBack _>>=_ refuse_unless_ refuse_when_
   free-not-owned t e = rw (t .is, e)
 
@@ -78,14 +78,14 @@ module _ (s : Scopes) (h : Sound s) (z : Sized s) (a k : ℕ) (ha : a < SLOTS) (
   inside : a < 128 * s .segments
   inside = by-cases (decLt a (128 * s .segments)) (λ l. l) (λ n. clash full (h .slotted .none a (omega arith) ha))
 
-  pub on : On LISTS (held (s .links)) a
-  on = told-on SLOTS LISTS (owners (s .owner)) (held (s .links)) (h .ringed .tells) a ha (omega arith)
+  pub on : On LISTS (listOf (s .links)) a
+  on = told-on SLOTS LISTS (owners (s .owner)) (listOf (s .links)) (h .ringed .tells) a ha (omega arith)
 
-  pub owns : member a (held (s .links) k) ≡ true
+  pub owns : member a (listOf (s .links) k) ≡ true
   owns = h .ringed .tells a k ha (omega arith) ∙ eq-eqb (getD (s .owner) a 0) k ek
 
-  unowned : (j : ℕ) → j < LISTS → j ≢ k → without a (held (s .links) j) ≡ held (s .links) j
-  unowned j hj n = without-none a (held (s .links) j) (h .ringed .tells a j ha hj ∙ ne-eqb (getD (s .owner) a 0) j (λ e. n (sym e ∙ ek)))
+  unowned : (j : ℕ) → j < LISTS → j ≢ k → without a (listOf (s .links) j) ≡ listOf (s .links) j
+  unowned j hj n = without-none a (listOf (s .links) j) (h .ringed .tells a j ha hj ∙ ne-eqb (getD (s .owner) a 0) j (λ e. n (sym e ∙ ek)))
 
   module _ (halves : List ℕ) (slot : occ halves ≡ put (occ (s .halves)) a false) where
     pub removed : remove a (view s .slots) ≡ slotsOf halves (s .segments) (a / 128)
@@ -104,13 +104,13 @@ module _ (s : Scopes) (h : Sound s) (z : Sized s) (a k : ℕ) (ha : a < SLOTS) (
 
     -- the lists ys that are held then differ from the old ones at k, where a is gone, and at 64
     module _ (links : List ℕ) (o : ℕ) (lo : SCOPES ≤ o) (ho : o ≤ LISTS) (ys : ℕ → List ℕ) (c : Held SLOTS LISTS links ys) (t : Tells SLOTS LISTS (put (owners (s .owner)) a o) ys)
-        (here : ys k ≡ without a (held (s .links) k)) (other : (j : ℕ) → j < SCOPES → j ≢ k → ys j ≡ held (s .links) j) where
-      pub now : (j : ℕ) → j < LISTS → held links j ≡ ys j
+        (here : ys k ≡ without a (listOf (s .links) k)) (other : (j : ℕ) → j < SCOPES → j ≢ k → ys j ≡ listOf (s .links) j) where
+      pub now : (j : ℕ) → j < LISTS → listOf links j ≡ ys j
       now j hj = chains-lists SLOTS LISTS links ys c j hj
 
-      pub live-is : view (released s a o halves links) .live ≡ put (view s .live) k (some (rule.owned≔ (without a (held (s .links) k)) (scopeOf s k)))
+      pub live-is : view (released s a o halves links) .live ≡ put (view s .live) k (some (rule.owned≔ (without a (listOf (s .links) k)) (scopeOf s k)))
       live-is =
-          scopes-put (s .live) (s .dangled) (s .parent) (s .number) (held (s .links)) (held links) k (without a (held (s .links) k)) lives (now k (omega arith) ∙ here)
+          scopes-put (s .live) (s .dangled) (s .parent) (s .number) (listOf (s .links)) (listOf links) k (without a (listOf (s .links) k)) lives (now k (omega arith) ∙ here)
           (λ j lj n. let hj : j < SCOPES = in-range s (z .live) j lj in now j (omega arith) ∙ other j hj n)
 
       pub sound : Sound (released s a o halves links)
@@ -124,15 +124,15 @@ module _ (s : Scopes) (h : Sound s) (z : Sized s) (a k : ℕ) (ha : a < SLOTS) (
           }
 
       -- where k is the top
-      rule-is : (dangles : Bool) → s .top ≡ k → Topped s → ys SCOPES ≡ elim dangles [ true ↦ added a (held (s .links) SCOPES) | false ↦ held (s .links) SCOPES ]
+      rule-is : (dangles : Bool) → s .top ≡ k → Topped s → ys SCOPES ≡ elim dangles [ true ↦ added a (listOf (s .links) SCOPES) | false ↦ listOf (s .links) SCOPES ]
           → record { next = view (released s a o halves links); says = Done } ≡ toldOnly (view s) (giveBack dangles a (view s))
       unfolding giveBack rule.setScope _>>=_ refuse_unless_ refuse_when_
       rule-is dangles et top e64 =
-          let l : view (released s a o halves links) .live ≡ put (view s .live) (s .top) (some (rule.owned≔ (without a (held (s .links) (s .top))) (scopeOf s (s .top)))) =
-          subst (λ (x : ℕ). view (released s a o halves links) .live ≡ put (view s .live) x (some (rule.owned≔ (without a (held (s .links) x)) (scopeOf s x)))) (sym et) live-is in
-          let d : held links SCOPES ≡ elim dangles [ true ↦ added a (held (s .links) SCOPES) | false ↦ held (s .links) SCOPES ] = now SCOPES (omega arith) ∙ e64 in
+          let l : view (released s a o halves links) .live ≡ put (view s .live) (s .top) (some (rule.owned≔ (without a (listOf (s .links) (s .top))) (scopeOf s (s .top)))) =
+          subst (λ (x : ℕ). view (released s a o halves links) .live ≡ put (view s .live) x (some (rule.owned≔ (without a (listOf (s .links) x)) (scopeOf s x)))) (sym et) live-is in
+          let d : listOf links SCOPES ≡ elim dangles [ true ↦ added a (listOf (s .links) SCOPES) | false ↦ listOf (s .links) SCOPES ] = now SCOPES (omega arith) ∙ e64 in
           let r : remove a (view s .slots) ≡ slotsOf halves (s .segments) (a / 128) = removed in
-          let m : member a (held (s .links) (s .top)) ≡ true = ap (λ (x : ℕ). member a (held (s .links) x)) et ∙ owns in
+          let m : member a (listOf (s .links) (s .top)) ≡ true = ap (λ (x : ℕ). member a (listOf (s .links) x)) et ∙ owns in
           rw (top .is, m) (λ u. record {
             next = record { slots = sym r u; live = l u; top = index (s .top); counter = s .counter; bindings = view s .bindings; dangling = d u; size = s .size };
             says = Done;
@@ -140,26 +140,26 @@ module _ (s : Scopes) (h : Sound s) (z : Sized s) (a k : ℕ) (ha : a < SLOTS) (
 
     -- ---- to the dangling list
 
-    module _ (links : List ℕ) (c : Held SLOTS LISTS links (gains SCOPES a (leaves a (held (s .links))))) where
-      told-there : Tells SLOTS LISTS (put (owners (s .owner)) a SCOPES) (gains SCOPES a (leaves a (held (s .links))))
-      told-there = places-tells SLOTS LISTS (owners (s .owner)) (held (s .links)) (h .ringed .tells) a ha SCOPES (omega arith)
+    module _ (links : List ℕ) (c : Held SLOTS LISTS links (gains SCOPES a (leaves a (listOf (s .links))))) where
+      told-there : Tells SLOTS LISTS (put (owners (s .owner)) a SCOPES) (gains SCOPES a (leaves a (listOf (s .links))))
+      told-there = places-tells SLOTS LISTS (owners (s .owner)) (listOf (s .links)) (h .ringed .tells) a ha SCOPES (omega arith)
 
-      pub back-k : gains SCOPES a (leaves a (held (s .links))) k ≡ without a (held (s .links) k)
-      back-k = put-other (leaves a (held (s .links))) SCOPES _ k (omega arith)
+      pub back-k : gains SCOPES a (leaves a (listOf (s .links))) k ≡ without a (listOf (s .links) k)
+      back-k = put-other (leaves a (listOf (s .links))) SCOPES _ k (omega arith)
 
-      pub back-64 : gains SCOPES a (leaves a (held (s .links))) SCOPES ≡ added a (held (s .links) SCOPES)
-      back-64 = put-same (leaves a (held (s .links))) SCOPES _ ∙ ap (added a) (unowned SCOPES (omega arith) (omega arith))
+      pub back-64 : gains SCOPES a (leaves a (listOf (s .links))) SCOPES ≡ added a (listOf (s .links) SCOPES)
+      back-64 = put-same (leaves a (listOf (s .links))) SCOPES _ ∙ ap (added a) (unowned SCOPES (omega arith) (omega arith))
 
-      pub back-other : (j : ℕ) → j < SCOPES → j ≢ k → gains SCOPES a (leaves a (held (s .links))) j ≡ held (s .links) j
-      back-other j hj n = put-other (leaves a (held (s .links))) SCOPES _ j (omega arith) ∙ unowned j (omega arith) n
+      pub back-other : (j : ℕ) → j < SCOPES → j ≢ k → gains SCOPES a (leaves a (listOf (s .links))) j ≡ listOf (s .links) j
+      back-other j hj n = put-other (leaves a (listOf (s .links))) SCOPES _ j (omega arith) ∙ unowned j (omega arith) n
 
       pub back-sound : Sound (released s a SCOPES halves links)
       back-sound = sound links SCOPES (omega arith) (omega arith) _ c told-there back-k back-other
 
-      pub back-live : view (released s a SCOPES halves links) .live ≡ put (view s .live) k (some (rule.owned≔ (without a (held (s .links) k)) (scopeOf s k)))
+      pub back-live : view (released s a SCOPES halves links) .live ≡ put (view s .live) k (some (rule.owned≔ (without a (listOf (s .links) k)) (scopeOf s k)))
       back-live = live-is links SCOPES (omega arith) (omega arith) _ c told-there back-k back-other
 
-      pub back-lists : (held links k ≡ without a (held (s .links) k)) × (held links SCOPES ≡ added a (held (s .links) SCOPES))
+      pub back-lists : (listOf links k ≡ without a (listOf (s .links) k)) × (listOf links SCOPES ≡ added a (listOf (s .links) SCOPES))
       back-lists = (
         now links SCOPES (omega arith) (omega arith) _ c told-there back-k back-other k (omega arith) ∙ back-k,
         now links SCOPES (omega arith) (omega arith) _ c told-there back-k back-other SCOPES (omega arith) ∙ back-64,
@@ -174,11 +174,11 @@ module _ (s : Scopes) (h : Sound s) (z : Sized s) (a k : ℕ) (ha : a < SLOTS) (
 
     -- ---- to none
 
-    pub gives-quietly : (links : List ℕ) → Held SLOTS LISTS links (leaves a (held (s .links))) → length halves ≡ HALVES → length links ≡ LINKS → (dangles : Bool) → dangles ≡ false → s .top ≡ k → Topped s
+    pub gives-quietly : (links : List ℕ) → Held SLOTS LISTS links (leaves a (listOf (s .links))) → length halves ≡ HALVES → length links ≡ LINKS → (dangles : Bool) → dangles ≡ false → s .top ≡ k → Topped s
         → (record { next = view (released s a LISTS halves links); says = Done } ≡ toldOnly (view s) (giveBack dangles a (view s))) × Whole (released s a LISTS halves links)
     gives-quietly links c lh ll dangles e et top =
-        let t = leaves-tells SLOTS LISTS (owners (s .owner)) (held (s .links)) (h .ringed .tells) a ha LISTS (omega arith) in
-        let other : (j : ℕ) → j < SCOPES → j ≢ k → leaves a (held (s .links)) j ≡ held (s .links) j = λ j hj n. unowned j (omega arith) n in (
+        let t = leaves-tells SLOTS LISTS (owners (s .owner)) (listOf (s .links)) (h .ringed .tells) a ha LISTS (omega arith) in
+        let other : (j : ℕ) → j < SCOPES → j ≢ k → leaves a (listOf (s .links)) j ≡ listOf (s .links) j = λ j hj n. unowned j (omega arith) n in (
           rule-is links LISTS (omega arith) (omega arith) _ c t refl other dangles et top (unowned SCOPES (omega arith) (omega arith) ∙ rw e),
           record { sound = sound links LISTS (omega arith) (omega arith) _ c t refl other; sized = released-sized s z a LISTS halves links lh ll },
         )

@@ -11,7 +11,7 @@ use borrow.Author.Tests.{lt-ltb, le-ltb, eq-eqb, ne-eqb}
 use Rattle.rules.specs.Notation.{Answer, given, refused, _>>=_, refuse_unless_, refuse_when_}
 use Rattle.rules.specs.Sizes.{base, BINDINGS, SCOPES}
 use Rattle.rules.specs.Scopes as rule
-use Rattle.scopes.specs.View.{held, view, index, onlyIf, scopeAt, scopesFrom, binding, bindingsOf, bound, told}
+use Rattle.scopes.specs.View.{listOf, view, index, onlyIf, scopeAt, scopesFrom, binding, bindingsOf, bound, told}
 use Rattle.scopes.specs.Sound.{Sound, Sized}
 use Rattle.scopes.specs.Leaves.{There, Spot, spotted, Climbs}
 use Rattle.scopes.specs.Lent.{Whole}
@@ -82,7 +82,7 @@ module _ (s : Scopes) (name : ℕ) where
 
   module _ (t : Topped s) (r : ℕ) (f : Climbs (s .live) (s .parent) (s .bindings) (s .count) name (s .top) SCOPES r) where
     is : rule.lookup SCOPES (view s) name (index (s .top)) ≡ spotted (s .bindings) r
-    is = f .is (view s) (s .dangled) (s .number) (held (s .links)) refl refl
+    is = f .is (view s) (s .dangled) (s .number) (listOf (s .links)) refl refl
 
     pub get-missing : BINDINGS ≤ r → rule.getName base name (view s) ≡ refused 10
     unfolding rule.getName _>>=_ refuse_unless_ refuse_when_ base

@@ -15,7 +15,7 @@ use Rattle.rules.specs.Sizes.{base, SCOPES}
 use Rattle.rules.specs.Scopes as rule
 use Rattle.rules.proofs.Tells.{clash}
 use Rattle.scopes.specs.View.{index, view, scopeOf, toldOnly}
-use Rattle.scopes.specs.Sound.{Sound, Leads, root, up, Sized}
+use Rattle.scopes.specs.Sound.{Sound, LeadsToRoot, root, up, Sized}
 use Rattle.scopes.specs.Leaves.{placeOf, refusal}
 use Rattle.scopes.specs.Lent.{Whole}
 use Rattle.scopes.specs.declared.Scopes.{Scopes}
@@ -43,12 +43,12 @@ marked s i b top =
       size = s .size;
     }
 
-pub leads-live : {live : List Bool} {parent : List ℕ} {j : ℕ} → Leads live parent j → getD live j false ≡ true
+pub leads-live : {live : List Bool} {parent : List ℕ} {j : ℕ} → LeadsToRoot live parent j → getD live j false ≡ true
 leads-live (root l q) = l
 leads-live (up n l r) = l
 
 -- root is live where any scope is
-pub leads-root : {live : List Bool} {parent : List ℕ} {j : ℕ} → Leads live parent j → (getD live 0 false ≡ true) × (getD parent 0 0 ≡ SCOPES)
+pub leads-root : {live : List Bool} {parent : List ℕ} {j : ℕ} → LeadsToRoot live parent j → (getD live 0 false ≡ true) × (getD parent 0 0 ≡ SCOPES)
 leads-root (root l q) = (l, q)
 leads-root (up n l r) = leads-root r
 
@@ -56,7 +56,7 @@ leads-root (up n l r) = leads-root r
 pub parent-live : (s : Scopes) → Sound s → (i : ℕ) → getD (s .live) i false ≡ true → i ≢ 0 → getD (s .live) (getD (s .parent) i 0) false ≡ true
 parent-live s h i l nz = go i refl (h .rooted .leads i l)
   where
-    go : (j : ℕ) → j ≡ i → Leads (s .live) (s .parent) j → getD (s .live) (getD (s .parent) i 0) false ≡ true
+    go : (j : ℕ) → j ≡ i → LeadsToRoot (s .live) (s .parent) j → getD (s .live) (getD (s .parent) i 0) false ≡ true
     go j e (root _ _) = absurd (nz (sym e))
     go j e (up n _ r) = subst (λ (x : ℕ). getD (s .live) (getD (s .parent) x 0) false ≡ true) e (leads-live r)
 

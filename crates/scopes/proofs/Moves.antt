@@ -19,7 +19,7 @@ use Rattle.slots.specs.Halves.{occ}
 use Rattle.links.specs.Links.{Held}
 use Rattle.links.proofs.Walks.{held-lists}
 use Rattle.links.proofs.Moves.{Tells, lists-tell}
-use Rattle.scopes.specs.View.{held, index, scopeAt, scopesFrom}
+use Rattle.scopes.specs.View.{listOf, index, scopeAt, scopesFrom}
 use Rattle.scopes.specs.Sound.{Ringed, Owned}
 use Rattle.scopes.proofs.Tables.{put-ext}
 
@@ -36,7 +36,7 @@ ringed links owner links′ ys a o h ha len ho c t =
     let e = owners-put owner a o (omega arith) in
     record {
       rings = held-lists SLOTS LISTS links′ ys c;
-      tells = subst (λ (f : ℕ → ℕ). Tells SLOTS LISTS f (held links′)) (sym e) (lists-tell SLOTS LISTS links′ _ ys c t);
+      tells = subst (λ (f : ℕ → ℕ). Tells SLOTS LISTS f (listOf links′)) (sym e) (lists-tell SLOTS LISTS links′ _ ys c t);
       most = λ b hb. most b hb (ℕ-discrete b a);
     }
   where

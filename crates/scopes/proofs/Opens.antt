@@ -16,8 +16,8 @@ use Rattle.rules.specs.Sizes.{base, SCOPES, SLOTS, COUNTERS}
 use Rattle.rules.specs.Scopes as rule
 use Rattle.rules.proofs.Sets.{member-same}
 use Rattle.rules.proofs.Tells.{clash}
-use Rattle.scopes.specs.View.{held, index, bindingsOf, view, opened, told}
-use Rattle.scopes.specs.Sound.{Sound, Leads, root, up, Each, Sized}
+use Rattle.scopes.specs.View.{listOf, index, bindingsOf, view, opened, told}
+use Rattle.scopes.specs.Sound.{Sound, LeadsToRoot, root, up, Each, Sized}
 use Rattle.scopes.specs.Lent.{Whole}
 use Rattle.scopes.specs.Leaves.{lowest, isFree}
 use Rattle.scopes.specs.declared.Scopes.{Scopes}
@@ -53,9 +53,9 @@ no-members [] h = refl
 no-members (x ∷ l) h = absurd (h x (member-same x l))
 
 -- a scope that is not live owns nothing
-pub owns-none : (s : Scopes) → Sound s → (i : ℕ) → i < SCOPES → getD (s .live) i false ≡ false → held (s .links) i ≡ []
+pub owns-none : (s : Scopes) → Sound s → (i : ℕ) → i < SCOPES → getD (s .live) i false ≡ false → listOf (s .links) i ≡ []
 owns-none s h i hi d =
-    no-members (held (s .links) i)
+    no-members (listOf (s .links) i)
     (λ a m.
     let ha : a < SLOTS = h .ringed .rings .ring i (omega arith) .addr a m in
     clash m (h .ringed .tells a i ha (omega arith) ∙ ne-eqb (getD (s .owner) a 0) i (λ e. clash (h .owned .alive a ha (omega arith)) (rw e d))))
@@ -75,11 +75,11 @@ module _ (live : List Bool) (parent : List ℕ) (i p : ℕ) (d : getD live i fal
   differs : (j : ℕ) → getD live j false ≡ true → j ≢ i
   differs j l e = clash l (rw e d)
 
-  leads-on : {j : ℕ} → Leads live parent j → Leads (set live i true) (set parent i p) j
+  leads-on : {j : ℕ} → LeadsToRoot live parent j → LeadsToRoot (set live i true) (set parent i p) j
   leads-on (root l q) = root (getD-set-other live i 0 true false (differs 0 l) ∙ l) (getD-set-other parent i 0 p 0 (differs 0 l) ∙ q)
   leads-on (up {i = j} n l r) =
       up n (getD-set-other live i j true false (differs j l) ∙ l)
-      (subst (λ (x : ℕ). Leads (set live i true) (set parent i p) x) (sym (getD-set-other parent i j p 0 (differs j l))) (leads-on r))
+      (subst (λ (x : ℕ). LeadsToRoot (set live i true) (set parent i p) x) (sym (getD-set-other parent i j p 0 (differs j l))) (leads-on r))
 
 module _ (s : Scopes) where
   pub child-no-top : s .top ≡ SCOPES → record { next = view s; says = Refused 3 } ≡ told opened (view s) (rule.openChild base (view s))
@@ -144,11 +144,11 @@ module _ (s : Scopes) where
             here : getD (set (s .live) i true) i false ≡ true
             here = getD-set-same (s .live) i true false (omega (arith, below, z .live))
 
-            leads : (j : ℕ) → getD (set (s .live) i true) j false ≡ true → Dec (j ≡ i) → Leads (set (s .live) i true) (set (s .parent) i (s .top)) j
+            leads : (j : ℕ) → getD (set (s .live) i true) j false ≡ true → Dec (j ≡ i) → LeadsToRoot (set (s .live) i true) (set (s .parent) i (s .top)) j
             leads j l (yes e) =
-                subst (λ (x : ℕ). Leads (set (s .live) i true) (set (s .parent) i (s .top)) x) (sym e)
+                subst (λ (x : ℕ). LeadsToRoot (set (s .live) i true) (set (s .parent) i (s .top)) x) (sym e)
                 (up (omega (arith, f .above)) here
-                (subst (λ (x : ℕ). Leads (set (s .live) i true) (set (s .parent) i (s .top)) x) (sym (getD-set-same (s .parent) i (s .top) 0 (omega (arith, below, z .parent))))
+                (subst (λ (x : ℕ). LeadsToRoot (set (s .live) i true) (set (s .parent) i (s .top)) x) (sym (getD-set-same (s .parent) i (s .top) 0 (omega (arith, below, z .parent))))
                 (leads-on (s .live) (s .parent) i (s .top) dead (h .rooted .leads (s .top) (t .live)))))
             leads j l (no q) = leads-on (s .live) (s .parent) i (s .top) dead (h .rooted .leads j (sym (getD-set-other (s .live) i j true false q) ∙ l))
 

@@ -16,7 +16,7 @@ use Rattle.rules.proofs.Tables.{put-other}
 use Rattle.slots.specs.Halves.{occ}
 use Rattle.slots.specs.Spots.{Vacant, filled}
 use Rattle.links.specs.Links.{Held, leaves, gains}
-use Rattle.scopes.specs.View.{held, index, view, scopeOf, runFor}
+use Rattle.scopes.specs.View.{listOf, index, view, scopeOf, runFor}
 use Rattle.scopes.specs.Sound.{Slotted, Sound, Sized}
 use Rattle.scopes.specs.Lent.{Whole, Lives, roomy, Handed}
 use Rattle.scopes.specs.declared.Scopes.{Scopes}
@@ -26,20 +26,20 @@ use Rattle.scopes.proofs.Places.{taken, at-k, at-64, live-is, sound, si
 -- ---- one slot
 
 module _ (t : Scopes) (h : Sound t) (z : Sized t) (k : ℕ) (hk : k < SCOPES) (lk : getD (t .live) k false ≡ true) (a : ℕ) (ha : a < SLOTS) (clear : occ (t .halves) a ≡ false)
-    (halves links : List ℕ) (slot : occ halves ≡ put (occ (t .halves)) a true) (c : Held SLOTS LISTS links (gains k a (leaves a (held (t .links))))) where
+    (halves links : List ℕ) (slot : occ halves ≡ put (occ (t .halves)) a true) (c : Held SLOTS LISTS links (gains k a (leaves a (listOf (t .links))))) where
   abbrev then : Scopes
   then = taken t k a halves links (t .segments) (t .head) (t .size)
 
   given-one : (m : ℕ) → runFor then k (suc a) m ≡ runFor t k a (suc m)
   unfolding rule.setScope filled addedAll withoutAll run
   given-one m =
-      let o : addedAll (run (suc a) m) (held links k) ≡ addedAll (run (suc a) m) (added a (held (t .links) k)) = ap (addedAll (run (suc a) m)) (at-k t h z k hk lk a ha clear halves links slot c) in
-      let l : put (view then .live) k (some (rule.owned≔ (addedAll (run (suc a) m) (held links k)) (scopeOf t k)))
-      ≡ put (view t .live) k (some (rule.owned≔ (addedAll (run (suc a) m) (added a (held (t .links) k))) (scopeOf t k))) =
-      ap (λ (f : ℕ → Option rule.Scope). put f k (some (rule.owned≔ (addedAll (run (suc a) m) (held links k)) (scopeOf t k)))) (live-is t h z k hk lk a ha clear halves links slot c (t .segments) (t .head) (t .size))
+      let o : addedAll (run (suc a) m) (listOf links k) ≡ addedAll (run (suc a) m) (added a (listOf (t .links) k)) = ap (addedAll (run (suc a) m)) (at-k t h z k hk lk a ha clear halves links slot c) in
+      let l : put (view then .live) k (some (rule.owned≔ (addedAll (run (suc a) m) (listOf links k)) (scopeOf t k)))
+      ≡ put (view t .live) k (some (rule.owned≔ (addedAll (run (suc a) m) (added a (listOf (t .links) k))) (scopeOf t k))) =
+      ap (λ (f : ℕ → Option rule.Scope). put f k (some (rule.owned≔ (addedAll (run (suc a) m) (listOf links k)) (scopeOf t k)))) (live-is t h z k hk lk a ha clear halves links slot c (t .segments) (t .head) (t .size))
       ∙ put-again (view t .live) k _ _
       ∙ ap (λ (x : List ℕ). put (view t .live) k (some (rule.owned≔ x (scopeOf t k)))) o in
-      let d : withoutAll (run (suc a) m) (held links SCOPES) ≡ withoutAll (run (suc a) m) (without a (held (t .links) SCOPES)) = ap (withoutAll (run (suc a) m)) (at-64 t h z k hk lk a ha clear halves links slot c) in
+      let d : withoutAll (run (suc a) m) (listOf links SCOPES) ≡ withoutAll (run (suc a) m) (without a (listOf (t .links) SCOPES)) = ap (withoutAll (run (suc a) m)) (at-64 t h z k hk lk a ha clear halves links slot c) in
       let e : max (t .size) (suc a + m) ≡ max (t .size) (a + suc m) = omega arith in
       λ u. record {
         slots = record { occupied = filled (suc a) m (slot u); segments = t .segments; head = t .head };
@@ -66,7 +66,7 @@ pub record Running (s : Scopes) (k g n : ℕ) (t : Scopes) (a : ℕ) : Type 0 wh
 
 module _ (s : Scopes) (k g n : ℕ) (hk : k < SCOPES) (fits : g + n ≤ SLOTS) (t : Scopes) (a : ℕ) (r : Running s k g n t a) where
   pub running-on : (lt : a < g + n) (halves links : List ℕ) → length halves ≡ HALVES → length links ≡ LINKS → occ halves ≡ put (occ (t .halves)) a true
-      → Held SLOTS LISTS links (gains k a (leaves a (held (t .links))))
+      → Held SLOTS LISTS links (gains k a (leaves a (listOf (t .links))))
       → Running s k g n (taken t k a halves links (t .segments) (t .head) (t .size)) (a + 1)
   running-on lt halves links lh ll slot c =
       record {

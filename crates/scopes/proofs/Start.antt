@@ -16,8 +16,8 @@ use Rattle.slots.specs.Halves.{occ}
 use Rattle.slots.proofs.Occupied.{none-occupied}
 use Rattle.links.specs.Links.{Held}
 use Rattle.links.proofs.Walks.{chains-lists, held-lists}
-use Rattle.scopes.specs.View.{held, view}
-use Rattle.scopes.specs.Sound.{Sound, Leads, root, up}
+use Rattle.scopes.specs.View.{listOf, view}
+use Rattle.scopes.specs.Sound.{Sound, LeadsToRoot, root, up}
 use Rattle.scopes.specs.declared.Scopes.{Scopes}
 
 abbrev pub freshState : List ℕ → Scopes
@@ -51,7 +51,7 @@ live-is : (i : ℕ) → getD (set (replicate SCOPES false) 0 true) (suc i) false
 live-is i = all-same 63 i false
 
 module _ (links : List ℕ) (c : Held SLOTS LISTS links (λ i. [])) where
-  empty : (i : ℕ) → i < LISTS → held links i ≡ []
+  empty : (i : ℕ) → i < LISTS → listOf links i ≡ []
   empty i hi = chains-lists SLOTS LISTS links (λ i. []) c i hi
 
   pub fresh-view : view (freshState links) ≡ rule.freshScopes
@@ -96,6 +96,6 @@ module _ (links : List ℕ) (c : Held SLOTS LISTS links (λ i. [])) where
         named = record { most = omega arith; alive = tt; once = tt; clear = λ j _. all-same {A = ℕ} BINDINGS j 0 };
       }
     where
-      leads : (i : ℕ) → getD (set (replicate SCOPES false) 0 true) i false ≡ true → Leads (set (replicate SCOPES false) 0 true) (replicate SCOPES SCOPES) i
+      leads : (i : ℕ) → getD (set (replicate SCOPES false) 0 true) i false ≡ true → LeadsToRoot (set (replicate SCOPES false) 0 true) (replicate SCOPES SCOPES) i
       leads zero h = root refl refl
       leads (suc i) h = absurd (true≢false (sym h ∙ live-is i))

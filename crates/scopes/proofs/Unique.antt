@@ -18,7 +18,7 @@ use Rattle.slots.proofs.Occupied.{halves-ext}
 use Rattle.links.specs.Links.{Held}
 use Rattle.links.proofs.Rings.{chains-alike}
 use Rattle.links.proofs.Same.{same-cells}
-use Rattle.scopes.specs.View.{held, view, index, binding, bindingsOf, Seen, seen, ADDRESS_PART, HANDLE_PART, NAME_PART, SCOPE_PART}
+use Rattle.scopes.specs.View.{listOf, view, index, binding, bindingsOf, Seen, seen, ADDRESS_PART, HANDLE_PART, NAME_PART, SCOPE_PART}
 use Rattle.scopes.specs.Sound.{Sound, Sized, Typed}
 use Rattle.scopes.specs.declared.Scopes.{Scopes}
 use Rattle.scopes.specs.declared.Outcome.{Outcome}
@@ -61,7 +61,7 @@ record Read (s : Scopes) (i : ℕ) : Type 0 where
   dangled : getD (s .dangled) i false ≡ danglesOf (view s .live i)
   parent : getD (s .parent) i 0 ≡ parentOf (view s .live i)
   number : getD (s .number) i 0 ≡ numberOf (view s .live i)
-  owned : held (s .links) i ≡ ownedOf (view s .live i)
+  owned : listOf (s .links) i ≡ ownedOf (view s .live i)
 
 read : (s : Scopes) → Sound s → Sized s → (i : ℕ) → i < SCOPES → Read s i
 unfolding liveOf danglesOf parentOf numberOf ownedOf
@@ -106,7 +106,7 @@ module _ (s t : Scopes) (h : Sound s) (k : Sound t) (ts : Typed s) (tt′ : Type
   at : (i : ℕ) → view s .live i ≡ view t .live i
   at i = ap (λ (c : rule.Scopes). c .live i) e
 
-  lists : (i : ℕ) → i < LISTS → held (s .links) i ≡ held (t .links) i
+  lists : (i : ℕ) → i < LISTS → listOf (s .links) i ≡ listOf (t .links) i
   lists i hi =
       by-cases (decLt i SCOPES)
       (λ l. read s h z i l .owned ∙ ap ownedOf (at i) ∙ sym (read t k y i l .owned))
@@ -114,8 +114,8 @@ module _ (s t : Scopes) (h : Sound s) (k : Sound t) (ts : Typed s) (tt′ : Type
 
   links : s .links ≡ t .links
   links =
-      same-cells SLOTS LISTS (s .links) (t .links) (held (t .links)) (z .links) (y .links)
-      (chains-alike SLOTS LISTS _ _ (held (s .links)) (held (t .links)) (λ i hi. sym (lists i hi)) (h .ringed .rings)) (k .ringed .rings)
+      same-cells SLOTS LISTS (s .links) (t .links) (listOf (t .links)) (z .links) (y .links)
+      (chains-alike SLOTS LISTS _ _ (listOf (s .links)) (listOf (t .links)) (λ i hi. sym (lists i hi)) (h .ringed .rings)) (k .ringed .rings)
 
   owner : s .owner ≡ t .owner
   owner =

@@ -12,7 +12,7 @@ use Rattle.rules.specs.Slots.{Placement}
 use Rattle.rules.specs.Scopes as rule
 use Rattle.slots.specs.Halves.{occ}
 use Rattle.slots.specs.Spots.{Vacant}
-use Rattle.scopes.specs.View.{held, foundAt, view, Seen, at, told, toldOnly, runFor}
+use Rattle.scopes.specs.View.{listOf, foundAt, view, Seen, at, told, toldOnly, runFor}
 use Rattle.scopes.specs.Sound.{Sound, Sized}
 use Rattle.scopes.specs.declared.Scopes.{Scopes}
 use Rattle.scopes.specs.declared.LentOutcome.{LentOutcome}
@@ -125,7 +125,7 @@ TopOwns s a = (a < SLOTS) × (s .top < SCOPES) × (getD (s .owner) a 0 ≡ s .to
 
 -- list i is empty then, and closing scope i comes to the same as before
 abbrev pub Empties : Scopes → ℕ → Scopes → Type 0
-Empties s i t = Whole s → (held (t .links) i ≡ []) × (rule.closed (foundAt t i) (view t) ≡ rule.closed (foundAt s i) (view s)) × Whole t
+Empties s i t = Whole s → (listOf (t .links) i ≡ []) × (rule.closed (foundAt t i) (view t) ≡ rule.closed (foundAt s i) (view s)) × Whole t
 
 -- what closing the scope k comes to: 6
 abbrev pub shut : rule.Found → rule.Scopes → Answer rule.Scopes

@@ -12,7 +12,7 @@ use Rattle.rules.specs.AddressSets.{member}
 use Rattle.rules.specs.Scopes as rule
 use Rattle.slots.specs.Halves.{occ}
 use Rattle.links.specs.Links.{Held}
-use Rattle.scopes.specs.View.{held, bindingsOf}
+use Rattle.scopes.specs.View.{listOf, bindingsOf}
 use Rattle.scopes.specs.declared.Scopes.{Scopes}
 
 -- "L is at most 8 and H below 8; no slot from segment L on is occupied"
@@ -23,8 +23,8 @@ pub record Slotted (halves : List ℕ) (segments head : ℕ) : Type 0 where
 
 -- the cells hold the lists, and each address is on the list that its owner says (LISTS: on none)
 pub record Ringed (links owner : List ℕ) : Type 0 where
-  pub rings : Held SLOTS LISTS links (held links)
-  pub tells : (a i : ℕ) → a < SLOTS → i < LISTS → member a (held links i) ≡ eqb (getD owner a 0) i
+  pub rings : Held SLOTS LISTS links (listOf links)
+  pub tells : (a i : ℕ) → a < SLOTS → i < LISTS → member a (listOf links i) ≡ eqb (getD owner a 0) i
   pub most : (a : ℕ) → a < SLOTS → getD owner a 0 ≤ LISTS
 
 -- "each occupied slot is once on one live scope's list and no other slot is on any"; "size is above every occupied slot"
@@ -35,14 +35,14 @@ pub record Owned (halves owner : List ℕ) (live : List Bool) (size : ℕ) : Typ
   pub most : size ≤ SLOTS
 
 -- from i over live scopes to root, which has no parent
-pub data Leads (live : List Bool) (parent : List ℕ) : ℕ → Type 0 where
-  root : getD live 0 false ≡ true → getD parent 0 0 ≡ SCOPES → Leads live parent 0
-  up : {i : ℕ} → i ≢ 0 → getD live i false ≡ true → Leads live parent (getD parent i 0) → Leads live parent i
+pub data LeadsToRoot (live : List Bool) (parent : List ℕ) : ℕ → Type 0 where
+  root : getD live 0 false ≡ true → getD parent 0 0 ≡ SCOPES → LeadsToRoot live parent 0
+  up : {i : ℕ} → i ≢ 0 → getD live i false ≡ true → LeadsToRoot live parent (getD parent i 0) → LeadsToRoot live parent i
 
 -- "top is live, or nothing is; every live scope's parents are live and lead to root"; root is (0, 0)
 pub record Rooted (live dangled : List Bool) (parent number : List ℕ) (top : ℕ) : Type 0 where
   pub topped : ((top < SCOPES) × (getD live top false ≡ true)) ⊎ ((top ≡ SCOPES) × ((i : ℕ) → i < SCOPES → getD live i false ≡ false))
-  pub leads : (i : ℕ) → getD live i false ≡ true → Leads live parent i
+  pub leads : (i : ℕ) → getD live i false ≡ true → LeadsToRoot live parent i
   pub dead : (i : ℕ) → i < SCOPES → getD live i false ≡ false → (getD dangled i false ≡ false) × (getD parent i 0 ≡ SCOPES) × (getD number i 0 ≡ 0)
   pub first : getD number 0 0 ≡ 0
 

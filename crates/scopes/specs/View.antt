@@ -21,8 +21,8 @@ use Rattle.scopes.specs.declared.Outcome.{Outcome}
 -- ---- the state
 
 -- the lists: those of the scopes, and at DANGLING the dangling list
-abbrev pub held : List ℕ → ℕ → List ℕ
-held links = lists SLOTS links
+abbrev pub listOf : List ℕ → ℕ → List ℕ
+listOf links = lists SLOTS links
 
 -- an index below SCOPES, or none
 abbrev pub index : ℕ → Option ℕ
@@ -69,11 +69,11 @@ abbrev pub view : Scopes → rule.Scopes
 view s =
     record {
       slots = slotsOf (s .halves) (s .segments) (s .head);
-      live = scopesFrom (s .live) (s .dangled) (s .parent) (s .number) (held (s .links));
+      live = scopesFrom (s .live) (s .dangled) (s .parent) (s .number) (listOf (s .links));
       top = index (s .top);
       counter = s .counter;
       bindings = bindingsOf (s .bindings) (s .count);
-      dangling = held (s .links) DANGLING;
+      dangling = listOf (s .links) DANGLING;
       size = s .size;
     }
 
@@ -82,7 +82,7 @@ idOf i = record { index = i .index; number = i .number }
 
 -- the scope at index i, and where it was found
 abbrev pub scopeOf : Scopes → ℕ → rule.Scope
-scopeOf s i = scopeAt (s .dangled) (s .parent) (s .number) (held (s .links)) i
+scopeOf s i = scopeAt (s .dangled) (s .parent) (s .number) (listOf (s .links)) i
 
 abbrev pub foundAt : Scopes → ℕ → rule.Found
 foundAt s i = record { index = i; scope = scopeOf s i }
@@ -131,6 +131,6 @@ abbrev pub runFor : Scopes → ℕ → ℕ → ℕ → rule.Scopes
 runFor s k a n =
     view s
     ▹ rule.slots≔ (record { occupied = filled a n (occ (s .halves)); segments = s .segments; head = s .head })
-    ▹ rule.setScope (foundAt s k) (rule.owned≔ (addedAll (run a n) (held (s .links) k)) (scopeOf s k))
-    ▹ rule.dangling≔ (withoutAll (run a n) (held (s .links) DANGLING))
+    ▹ rule.setScope (foundAt s k) (rule.owned≔ (addedAll (run a n) (listOf (s .links) k)) (scopeOf s k))
+    ▹ rule.dangling≔ (withoutAll (run a n) (listOf (s .links) DANGLING))
     ▹ rule.size≔ (max (s .size) (a + n))

@@ -19,7 +19,7 @@ use Rattle.rules.proofs.Tables.{put-ext}
 use Rattle.rules.proofs.Tells.{is-false, clash, tells-as}
 use Rattle.rules.proofs.Tests.{tells-slots}
 use Rattle.slots.specs.Halves.{firstClear, grownTo}
-use Rattle.slots.specs.Promises.{Seen, refusing, placedOr7, removal, checked}
+use Rattle.slots.specs.Promises.{SeenSlots, refusing, placedOr7, removal, checked}
 use Rattle.slots.proofs.Finds.{clear-is, clear-of}
 
 -- two tests that tell one fact are equal
@@ -29,7 +29,7 @@ told-same false b s t = sym (is-false b (λ e. clash (s .shows (t .holds e)) ref
 
 -- two calls show the same where their slots, L and answers are equal
 shown : {A : Type 0} {f g : ℕ → Bool} {l k h : ℕ} {a : Answer A} → f ≡ g → l ≡ k
-    → _≡_ {A = Seen A} (record { next = record { occupied = f; segments = l; head = h }; says = a }) (record { next = record { occupied = g; segments = k; head = h }; says = a })
+    → _≡_ {A = SeenSlots A} (record { next = record { occupied = f; segments = l; head = h }; says = a }) (record { next = record { occupied = g; segments = k; head = h }; says = a })
 shown {h = h} {a = a} p q = λ i. record { next = record { occupied = p i; segments = q i; head = h }; says = a }
 
 -- L after a push at g
@@ -58,11 +58,11 @@ module _ (n : ℕ) (s : Slots) where
   pub sound-head : soundSlots n s ≡ true → s .head < n
   sound-head y = tells-slots n s .holds y .head
 
-  pub checked-yes : {A : Type 0} (x : Seen A) → soundSlots n s ≡ true → x ≡ checked n s x
+  pub checked-yes : {A : Type 0} (x : SeenSlots A) → soundSlots n s ≡ true → x ≡ checked n s x
   unfolding checked
   checked-yes x y = rw (y, checked)
 
-  pub checked-no : {A : Type 0} (x : Seen A) → soundSlots n s ≡ false → refusing 29 s ≡ checked n s x
+  pub checked-no : {A : Type 0} (x : SeenSlots A) → soundSlots n s ≡ false → refusing 29 s ≡ checked n s x
   unfolding checked
   checked-no x y = rw (y, checked)
 

@@ -11,7 +11,7 @@ use Rattle.rules.specs.Sizes.{base}
 use Rattle.rules.specs.Sound.{soundSlots}
 use Rattle.rules.specs.Slots as rule
 use Rattle.rules.proofs.Tells.{decided}
-use Rattle.slots.specs.Promises.{view, placeSays, removeSays, Seen, seenPlacing, seenRemoving, placedOr7, removal, checked, Typed, Promised, FreshPromise, InsertPromise, InsertLowestPromise, PushPromise, RemovePromise}
+use Rattle.slots.specs.Promises.{view, placeSays, removeSays, SeenSlots, seenPlacing, seenRemoving, placedOr7, removal, checked, Typed, Promised, FreshPromise, InsertPromise, InsertLowestPromise, PushPromise, RemovePromise}
 use Rattle.slots.specs.declared.Slots.{Slots}
 use Rattle.slots.specs.declared.SlotAddress.{SlotAddress}
 use Rattle.slots.specs.declared.Placing.{Placing}
@@ -55,11 +55,11 @@ same-remove (remove.Refused n) (remove.Refused m) e = let q : n ≡ m = cc in ap
 
 -- ---- results: y is what the rules say, of either insert or of push
 
-place-one : (y : Seen ℕ) (r q : Placing) → Promised (seenPlacing r) y (r .state .halves) → Promised (seenPlacing q) y (q .state .halves) → r ≡ q
+place-one : (y : SeenSlots ℕ) (r q : Placing) → Promised (seenPlacing r) y (r .state .halves) → Promised (seenPlacing q) y (q .state .halves) → r ≡ q
 place-one y r q p o =
     let e : seenPlacing r ≡ seenPlacing q = p .shows ∙ sym (o .shows) in
-    let s : r .state ≡ q .state = same-state (r .state) (q .state) (p .typed) (o .typed) (ap (λ (v : Seen ℕ). v .next) e) in
-    let a : r .answer ≡ q .answer = same-place (r .answer) (q .answer) (ap (λ (v : Seen ℕ). v .says) e) in
+    let s : r .state ≡ q .state = same-state (r .state) (q .state) (p .typed) (o .typed) (ap (λ (v : SeenSlots ℕ). v .next) e) in
+    let a : r .answer ≡ q .answer = same-place (r .answer) (q .answer) (ap (λ (v : SeenSlots ℕ). v .says) e) in
     λ i. record { state = s i; answer = a i }
 
 pub insert-one : (s : Slots) (r q : Placing) → InsertPromise s r → InsertPromise s q → r ≡ q
@@ -74,8 +74,8 @@ push-one s r q = place-one _ r q
 pub remove-one : (s : Slots) (a : SlotAddress) (r q : Removing) → RemovePromise s a r → RemovePromise s a q → r ≡ q
 remove-one s a r q p o =
     let e : seenRemoving r ≡ seenRemoving q = p .shows ∙ sym (o .shows) in
-    let t : r .state ≡ q .state = same-state (r .state) (q .state) (p .typed) (o .typed) (ap (λ (v : Seen Bool). v .next) e) in
-    let b : r .answer ≡ q .answer = same-remove (r .answer) (q .answer) (ap (λ (v : Seen Bool). v .says) e) in
+    let t : r .state ≡ q .state = same-state (r .state) (q .state) (p .typed) (o .typed) (ap (λ (v : SeenSlots Bool). v .next) e) in
+    let b : r .answer ≡ q .answer = same-remove (r .answer) (q .answer) (ap (λ (v : SeenSlots Bool). v .says) e) in
     λ i. record { state = t i; answer = b i }
 
 pub fresh-one : (r q : Slots) → FreshPromise r → FreshPromise q → r ≡ q
@@ -84,7 +84,7 @@ fresh-one r q p o = same-state r q (p .typed) (o .typed) (p .shows ∙ sym (o .s
 -- ---- a refusal leaves the state as it was, as a struct
 
 module _ (s : Slots) (t : Typed (s .halves)) (n : ℕ) where
-  kept-view : {A : Type 0} (x : Seen A) → (x .says ≡ refused n → x .next ≡ view s) → checked (base .segments) (view s) x .says ≡ refused n → checked (base .segments) (view s) x .next ≡ view s
+  kept-view : {A : Type 0} (x : SeenSlots A) → (x .says ≡ refused n → x .next ≡ view s) → checked (base .segments) (view s) x .says ≡ refused n → checked (base .segments) (view s) x .next ≡ view s
   unfolding checked
   kept-view x f e =
       decided (soundSlots (base .segments) (view s))
@@ -95,10 +95,10 @@ module _ (s : Slots) (t : Typed (s .halves)) (n : ℕ) where
   placed-kept none e = refl
   placed-kept (some p) e = differ e
 
-  kept : {A : Type 0} (says : Answer A) (x : Seen A) (u : Slots) → (x .says ≡ refused n → x .next ≡ view s)
+  kept : {A : Type 0} (says : Answer A) (x : SeenSlots A) (u : Slots) → (x .says ≡ refused n → x .next ≡ view s)
       → Promised (record { next = view u; says = says }) (checked (base .segments) (view s) x) (u .halves) → says ≡ refused n → u ≡ s
   kept {A = A} says x u f p e =
-      same-state u s (p .typed) t (ap (λ (v : Seen A). v .next) (p .shows) ∙ kept-view x f (sym (ap (λ (v : Seen A). v .says) (p .shows)) ∙ e))
+      same-state u s (p .typed) t (ap (λ (v : SeenSlots A). v .next) (p .shows) ∙ kept-view x f (sym (ap (λ (v : SeenSlots A). v .says) (p .shows)) ∙ e))
 
   placing-kept : (r : Placing) (o : Option rule.Placed) → Promised (seenPlacing r) (checked (base .segments) (view s) (placedOr7 (view s) o)) (r .state .halves)
       → placeSays (r .answer) ≡ refused n → r .state ≡ s

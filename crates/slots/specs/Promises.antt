@@ -40,30 +40,30 @@ removeSays (remove.Refused n) = refused n
 
 -- ---- what a call shows
 
-pub record Seen (A : Type 0) : Type 0 where
+pub record SeenSlots (A : Type 0) : Type 0 where
   pub next : rule.Slots
   pub says : Answer A
 
-abbrev pub seenPlacing : Placing → Seen ℕ
+abbrev pub seenPlacing : Placing → SeenSlots ℕ
 seenPlacing r = record { next = view (r .state); says = placeSays (r .answer) }
 
-abbrev pub seenRemoving : Removing → Seen Bool
+abbrev pub seenRemoving : Removing → SeenSlots Bool
 seenRemoving r = record { next = view (r .state); says = removeSays (r .answer) }
 
 -- "All leave state and lent memory unchanged."
-abbrev pub refusing : {A : Type 0} → ℕ → rule.Slots → Seen A
+abbrev pub refusing : {A : Type 0} → ℕ → rule.Slots → SeenSlots A
 refusing n s = record { next = s; says = refused n }
 
 -- a slot that is given, and the slots afterwards; or 7
-abbrev pub placedOr7 : rule.Slots → Option rule.Placed → Seen ℕ
+abbrev pub placedOr7 : rule.Slots → Option rule.Placed → SeenSlots ℕ
 placedOr7 s none = refusing 7 s
 placedOr7 s (some p) = record { next = p .next; says = given (p .address) }
 
-abbrev pub removal : ℕ → rule.Slots → Seen Bool
+abbrev pub removal : ℕ → rule.Slots → SeenSlots Bool
 removal a s = record { next = rule.remove a s; says = given (rule.removes a s) }
 
 -- "29 first": a state that isn't sound
-unfoldable pub checked : {A : Type 0} → ℕ → rule.Slots → Seen A → Seen A
+unfoldable pub checked : {A : Type 0} → ℕ → rule.Slots → SeenSlots A → SeenSlots A
 checked n s x = elim (soundSlots n s) [ true ↦ x | false ↦ refusing 29 s ]
 
 -- ---- the promises
@@ -74,7 +74,7 @@ pub record Typed (halves : List ℕ) : Type 0 where
   pub wide : (i : ℕ) → getD halves i 0 < 2 ^ 64
 
 -- A call with these halves in its next state shows x, where the rules say y.
-pub record Promised {A : Type 0} (x y : Seen A) (halves : List ℕ) : Type 0 where
+pub record Promised {A : Type 0} (x y : SeenSlots A) (halves : List ℕ) : Type 0 where
   pub shows : x ≡ y
   pub typed : Typed halves
 

@@ -24,8 +24,8 @@ use Rattle.rules.proofs.Tests.{tells-sound}
 use Rattle.slots.specs.Halves.{occ}
 use Rattle.links.proofs.Rings.{ring-once}
 use Rattle.links.specs.Links.{nextIn, prevIn}
-use Rattle.scopes.specs.View.{held, index, onlyIf, bindingsOf, view}
-use Rattle.scopes.specs.Sound.{Sound, Ringed, Owned, Each, BoundOnce, Leads, root, up}
+use Rattle.scopes.specs.View.{listOf, index, onlyIf, bindingsOf, view}
+use Rattle.scopes.specs.Sound.{Sound, Ringed, Owned, Each, BoundOnce, LeadsToRoot, root, up}
 use Rattle.scopes.specs.declared.Scopes.{Scopes}
 use Rattle.soundness.specs.Canonical.{Canonical, Good}
 use Rattle.soundness.proofs.Climbs.{index-some, index-none, index-is, index-over, live-below, to-rule, of-rule, root-number, leads-live}
@@ -93,7 +93,7 @@ module _ (s : Scopes) (long : length (s .live) ≡ SCOPES) (room : length (s .bi
   is-live : (i : ℕ) → isSome (seen i) ≡ live i
   is-live i = live-is (live i) _
 
-  list-live : (i : ℕ) → live i ≡ true → rule.listsOf seen i ≡ held (s .links) i
+  list-live : (i : ℕ) → live i ≡ true → rule.listsOf seen i ≡ listOf (s .links) i
   list-live i l = rw l
 
   list-dead : (i : ℕ) → live i ≡ false → rule.listsOf seen i ≡ []
@@ -101,12 +101,12 @@ module _ (s : Scopes) (long : length (s .live) ≡ SCOPES) (room : length (s .bi
 
   -- ---- the lists: those of closed scopes are empty
 
-  module _ (cells : Ringed (s .links) (s .owner)) (none : (i : ℕ) → i < SCOPES → live i ≡ false → held (s .links) i ≡ []) where
-    same : (i : ℕ) → i < SCOPES → rule.listsOf seen i ≡ held (s .links) i
+  module _ (cells : Ringed (s .links) (s .owner)) (none : (i : ℕ) → i < SCOPES → live i ≡ false → listOf (s .links) i ≡ []) where
+    same : (i : ℕ) → i < SCOPES → rule.listsOf seen i ≡ listOf (s .links) i
     same i h = decided (live i) (list-live i) (λ d. list-dead i d ∙ sym (none i h d))
 
     -- a member's owner
-    owner-is : (i a : ℕ) → i < LISTS → member a (held (s .links) i) ≡ true → (a < SLOTS) × (owner a ≡ i)
+    owner-is : (i a : ℕ) → i < LISTS → member a (listOf (s .links) i) ≡ true → (a < SLOTS) × (owner a ≡ i)
     owner-is i a h p =
         let ha : a < SLOTS = cells .rings .ring i h .addr a p in
         (ha, eqb-true (owner a) i (sym (cells .tells a i ha h) ∙ p))
@@ -117,8 +117,8 @@ module _ (s : Scopes) (long : length (s .live) ≡ SCOPES) (room : length (s .bi
     owner-has : (a : ℕ) → a < SLOTS → owner a < SCOPES → member a (rule.listsOf seen (owner a)) ≡ true
     owner-has a ha h = ap (member a) (same (owner a) h) ∙ cells .tells a (owner a) ha (omega arith) ∙ eq-eqb (owner a) (owner a) refl
 
-    once : (i : ℕ) → i < LISTS → Once (held (s .links) i)
-    once i h = ring-once SLOTS LISTS (nextIn (s .links)) (prevIn CELLS (s .links)) (SLOTS + i) (held (s .links) i) (omega arith) (cells .rings .ring i h)
+    once : (i : ℕ) → i < LISTS → Once (listOf (s .links) i)
+    once i h = ring-once SLOTS LISTS (nextIn (s .links)) (prevIn CELLS (s .links)) (SLOTS + i) (listOf (s .links) i) (omega arith) (cells .rings .ring i h)
 
     owned-rule : Owned (s .halves) (s .owner) (s .live) (s .size) → rule.OwnedSound SLOTS SCOPES (occ (s .halves)) (rule.listsOf seen)
     owned-rule h =
@@ -141,7 +141,7 @@ module _ (s : Scopes) (long : length (s .live) ≡ SCOPES) (room : length (s .bi
           most = z .fits;
         }
 
-    dangling-rule : Owned (s .halves) (s .owner) (s .live) (s .size) → rule.DanglingSound SLOTS (occ (s .halves)) (held (s .links) SCOPES)
+    dangling-rule : Owned (s .halves) (s .owner) (s .live) (s .size) → rule.DanglingSound SLOTS (occ (s .halves)) (listOf (s .links) SCOPES)
     dangling-rule h =
         record {
           once = once SCOPES (omega arith);
@@ -152,14 +152,14 @@ module _ (s : Scopes) (long : length (s .live) ≡ SCOPES) (room : length (s .bi
   -- ---- from the record to the rules
 
   module _ (h : Sound s) where
-    closed-list : (i : ℕ) → i < SCOPES → live i ≡ false → held (s .links) i ≡ []
+    closed-list : (i : ℕ) → i < SCOPES → live i ≡ false → listOf (s .links) i ≡ []
     closed-list i l d =
-        empty (held (s .links) i) (λ a p.
+        empty (listOf (s .links) i) (λ a p.
         let ha : a < SLOTS = h .ringed .rings .ring i (omega arith) .addr a p in
         let e : owner a ≡ i = eqb-true (owner a) i (sym (h .ringed .tells a i ha (omega arith)) ∙ p) in
         clash (subst (λ (j : ℕ). live j ≡ true) e (h .owned .alive a ha (omega arith))) d)
 
-    parent-most : (i : ℕ) → Leads (s .live) (s .parent) i → getD (s .parent) i 0 ≤ SCOPES
+    parent-most : (i : ℕ) → LeadsToRoot (s .live) (s .parent) i → getD (s .parent) i 0 ≤ SCOPES
     parent-most i (root l q) = omega (arith, q)
     parent-most i (up n l r) = omega (arith, live-below (s .live) long (getD (s .parent) i 0) (leads-live (s .live) (s .parent) (getD (s .parent) i 0) r))
 
@@ -188,7 +188,7 @@ module _ (s : Scopes) (long : length (s .live) ≡ SCOPES) (room : length (s .bi
         record {
           slots = slots-rule (s .halves) (s .segments) (s .head) (h .slotted);
           top = top-rule;
-          rooted = λ i l e. to-rule (s .live) (s .dangled) (s .parent) (s .number) (held (s .links)) long (h .rooted .first) i (h .rooted .leads i (sym (is-live i) ∙ e));
+          rooted = λ i l e. to-rule (s .live) (s .dangled) (s .parent) (s .number) (listOf (s .links)) long (h .rooted .first) i (h .rooted .leads i (sym (is-live i) ∙ e));
           owned = owned-rule (h .ringed) closed-list (h .owned);
           dangling = dangling-rule (h .ringed) closed-list (h .owned);
           bindings = record {
@@ -215,10 +215,10 @@ module _ (s : Scopes) (long : length (s .live) ≡ SCOPES) (room : length (s .bi
           topped = by-cases (decLt (s .top) SCOPES)
               (λ l. inl (l, sym (is-live (s .top)) ∙ h .top .is-live (s .top) (index-some (s .top) l) .1))
               (λ l. inr ((let m : s .top ≤ SCOPES = c .top in omega arith), λ i b. sym (is-live i) ∙ h .top .no-live (index-none (s .top) (omega arith)) i b));
-          leads = λ i l. of-rule (s .live) (s .dangled) (s .parent) (s .number) (held (s .links)) (c .parents 0 (omega arith)) i (h .rooted i (live-below (s .live) long i l) (is-live i ∙ l));
+          leads = λ i l. of-rule (s .live) (s .dangled) (s .parent) (s .number) (listOf (s .links)) (c .parents 0 (omega arith)) i (h .rooted i (live-below (s .live) long i l) (is-live i ∙ l));
           dead = λ i l d. let z = c .closed i l d in (z .unmarked, z .no-parent, z .no-number);
           first = decided (live 0)
-              (λ l. root-number (s .live) (s .dangled) (s .parent) (s .number) (held (s .links)) (h .rooted 0 (omega arith) (is-live 0 ∙ l)))
+              (λ l. root-number (s .live) (s .dangled) (s .parent) (s .number) (listOf (s .links)) (h .rooted 0 (omega arith) (is-live 0 ∙ l)))
               (λ d. c .closed 0 (omega arith) d .no-number);
         };
         named = record {

@@ -21,7 +21,7 @@ use Rattle.rules.proofs.Sound as rule
 use Rattle.rules.proofs.Climb.{height, height-below}
 use Rattle.rules.proofs.Tells.{decided, clash}
 use Rattle.scopes.specs.View.{index, onlyIf, scopeAt, scopesFrom}
-use Rattle.scopes.specs.Sound.{Leads, root, up}
+use Rattle.scopes.specs.Sound.{LeadsToRoot, root, up}
 use Rattle.soundness.specs.Parts.{climb, Known}
 
 -- ---- an index below SCOPES, or none
@@ -46,12 +46,12 @@ index-over n e = by-cases (decLt n SCOPES) (λ l. none-some (sym e ∙ index-som
 pub live-below : (live : List Bool) → length live ≡ SCOPES → (i : ℕ) → getD live i false ≡ true → i < SCOPES
 live-below live len i l = by-cases (decLt i SCOPES) (λ h. h) (λ h. clash l (List·getD-eq-default live false (omega arith)))
 
-pub leads-live : (live : List Bool) (parent : List ℕ) (i : ℕ) → Leads live parent i → getD live i false ≡ true
+pub leads-live : (live : List Bool) (parent : List ℕ) (i : ℕ) → LeadsToRoot live parent i → getD live i false ≡ true
 leads-live live parent i (root l q) = l
 leads-live live parent i (up n l r) = l
 
 -- root has no parent
-pub leads-root : (live : List Bool) (parent : List ℕ) (i : ℕ) → Leads live parent i → getD parent 0 0 ≡ SCOPES
+pub leads-root : (live : List Bool) (parent : List ℕ) (i : ℕ) → LeadsToRoot live parent i → getD parent 0 0 ≡ SCOPES
 leads-root live parent i (root l q) = q
 leads-root live parent i (up n l r) = leads-root live parent (getD parent i 0) r
 
@@ -71,28 +71,28 @@ module _ (live dangled : List Bool) (parent number : List ℕ) (owned : ℕ → 
   pub seen-live : (i : ℕ) → getD live i false ≡ true → seen i ≡ some (scope i)
   seen-live i l = ap (λ (b : Bool). onlyIf b (scope i)) l
 
-  pub to-rule : length live ≡ SCOPES → getD number 0 0 ≡ 0 → (i : ℕ) → Leads live parent i → rule.Leads SCOPES seen i
+  pub to-rule : length live ≡ SCOPES → getD number 0 0 ≡ 0 → (i : ℕ) → LeadsToRoot live parent i → rule.LeadsToRoot SCOPES seen i
   to-rule len z i (root l q) = rule.root (scope 0) (seen-live 0 l) (index-none (getD parent 0 0) (omega (arith, q))) refl z
   to-rule len z i (up n l r) =
       let below : getD parent i 0 < SCOPES = live-below live len (getD parent i 0) (leads-live live parent (getD parent i 0) r) in
       rule.up (scope i) (getD parent i 0) (seen-live i l) (index-some (getD parent i 0) below) n below (to-rule len z (getD parent i 0) r)
 
-  pub of-rule : getD parent 0 0 ≤ SCOPES → (i : ℕ) → rule.Leads SCOPES seen i → Leads live parent i
+  pub of-rule : getD parent 0 0 ≤ SCOPES → (i : ℕ) → rule.LeadsToRoot SCOPES seen i → LeadsToRoot live parent i
   of-rule most i (rule.root k e p z q) =
       let w : (getD live i false ≡ true) × (scope i ≡ k) = some-live (getD live i false) (scope i) k e in
       let over : SCOPES ≤ getD parent i 0 = index-over (getD parent i 0) (ap (λ (x : Scope). x .parent) (w .1) ∙ p) in
-      subst (Leads live parent) (sym z)
+      subst (LeadsToRoot live parent) (sym z)
       (root (subst (λ (j : ℕ). getD live j false ≡ true) z (w .0)) (omega (arith, subst (λ (j : ℕ). SCOPES ≤ getD parent j 0) z over, most)))
   of-rule most i (rule.up k p e q z l d) =
       let w : (getD live i false ≡ true) × (scope i ≡ k) = some-live (getD live i false) (scope i) k e in
       let to : getD parent i 0 ≡ p = index-is (getD parent i 0) p (ap (λ (x : Scope). x .parent) (w .1) ∙ q) .0 in
-      up z (w .0) (subst (Leads live parent) (sym to) (of-rule most p d))
+      up z (w .0) (subst (LeadsToRoot live parent) (sym to) (of-rule most p d))
 
   -- root's number
-  pub root-number : rule.Leads SCOPES seen 0 → getD number 0 0 ≡ 0
+  pub root-number : rule.LeadsToRoot SCOPES seen 0 → getD number 0 0 ≡ 0
   root-number d = go 0 refl d
     where
-      go : (i : ℕ) → i ≡ 0 → rule.Leads SCOPES seen i → getD number 0 0 ≡ 0
+      go : (i : ℕ) → i ≡ 0 → rule.LeadsToRoot SCOPES seen i → getD number 0 0 ≡ 0
       go i e (rule.root k f p z q) =
           subst (λ (j : ℕ). getD number j 0 ≡ 0) z (ap (λ (x : Scope). x .number) (some-live (getD live i false) (scope i) k f .1) ∙ q)
       go i e (rule.up k p f q z l d) = absurd (z e)
@@ -113,21 +113,21 @@ module _ (live : List Bool) (parent : List ℕ) where
   unfolding climb
   climb-up k i e z = rw (e, ne-eqb i 0 z, climb)
 
-  climb-leads : (k i : ℕ) → climb live parent k i ≡ true → Leads live parent i
+  climb-leads : (k i : ℕ) → climb live parent k i ≡ true → LeadsToRoot live parent i
   unfolding climb
   climb-leads zero i e = clash e refl
   climb-leads (suc k) i e = decided (getD live i false) (on (climb-leads k (getD parent i 0))) (λ l. clash e (climb-dead (suc k) i l))
     where
-      on : (climb live parent k (getD parent i 0) ≡ true → Leads live parent (getD parent i 0)) → getD live i false ≡ true → Leads live parent i
+      on : (climb live parent k (getD parent i 0) ≡ true → LeadsToRoot live parent (getD parent i 0)) → getD live i false ≡ true → LeadsToRoot live parent i
       on ih l =
           by-eqb i 0
-          (λ z. subst (Leads live parent) (sym z)
+          (λ z. subst (LeadsToRoot live parent) (sym z)
           (root (subst (λ (j : ℕ). getD live j false ≡ true) z l) (subst (λ (j : ℕ). getD parent j 0 ≡ SCOPES) z (eqb-true _ _ (sym (climb-root k i l z) ∙ e)))))
           (λ z. up z l (ih (sym (climb-up k i l z) ∙ e)))
 
   -- the rules' way up, of which the height is known
   abbrev Way : ℕ → Type 0
-  Way i = rule.Leads SCOPES (scopesFrom live [] parent [] (λ j. [])) i
+  Way i = rule.LeadsToRoot SCOPES (scopesFrom live [] parent [] (λ j. [])) i
 
   climbs : getD parent 0 0 ≡ SCOPES → (k : ℕ) (i : ℕ) (d : Way i) → height d < k → climb live parent k i ≡ true
   unfolding height
@@ -140,7 +140,7 @@ module _ (live : List Bool) (parent : List ℕ) where
       ∙ ap (climb live parent k) (index-is (getD parent i 0) p (ap (λ (y : Scope). y .parent) (w .1) ∙ q) .0)
       ∙ climbs z k p d (omega arith)
 
-  pub climb-tells : length live ≡ SCOPES → (r : Bool) (i : ℕ) → r ≡ climb live parent SCOPES i → Tells r (Leads live parent i)
+  pub climb-tells : length live ≡ SCOPES → (r : Bool) (i : ℕ) → r ≡ climb live parent SCOPES i → Tells r (LeadsToRoot live parent i)
   climb-tells len r i e =
       record {
         holds = λ t. climb-leads SCOPES i (sym e ∙ t);
@@ -167,15 +167,15 @@ module _ (live : List Bool) (parent : List ℕ) where
 
   -- ---- a way, scope by scope, and what is known of the scopes
 
-  pub leads-below : length live ≡ SCOPES → (i : ℕ) → Leads live parent i → i < SCOPES
+  pub leads-below : length live ≡ SCOPES → (i : ℕ) → LeadsToRoot live parent i → i < SCOPES
   leads-below len i h = live-below live len i (leads-live live parent i h)
 
-  pub further : (i p : ℕ) → getD live i false ≡ true → i ≢ 0 → p ≡ getD parent i 0 → Leads live parent p → Leads live parent i
-  further i p l z q h = up z l (subst (Leads live parent) q h)
+  pub further : (i p : ℕ) → getD live i false ≡ true → i ≢ 0 → p ≡ getD parent i 0 → LeadsToRoot live parent p → LeadsToRoot live parent i
+  further i p l z q h = up z l (subst (LeadsToRoot live parent) q h)
 
-  pub nearer : (i p : ℕ) → i ≢ 0 → p ≡ getD parent i 0 → Leads live parent i → Leads live parent p
+  pub nearer : (i p : ℕ) → i ≢ 0 → p ≡ getD parent i 0 → LeadsToRoot live parent i → LeadsToRoot live parent p
   nearer i p z q (root l e) = absurd (z refl)
-  nearer i p z q (up n l h) = subst (Leads live parent) (sym q) h
+  nearer i p z q (up n l h) = subst (LeadsToRoot live parent) (sym q) h
 
   pub known-none : Known live parent (replicate SCOPES false)
   known-none = record { long = length-replicate SCOPES false; leads = λ k e. clash e (none SCOPES k) }
@@ -185,9 +185,9 @@ module _ (live : List Bool) (parent : List ℕ) where
       none (suc n) zero = refl
       none (suc n) (suc k) = none n k
 
-  pub known-more : (known : List Bool) (i : ℕ) → Known live parent known → Leads live parent i → Known live parent (set known i true)
+  pub known-more : (known : List Bool) (i : ℕ) → Known live parent known → LeadsToRoot live parent i → Known live parent (set known i true)
   known-more known i m h =
       record {
         long = length-set known i true ∙ m .long;
-        leads = λ k e. by-eqb k i (λ q. subst (Leads live parent) (sym q) h) (λ q. m .leads k (sym (getD-set-other known i k true false q) ∙ e));
+        leads = λ k e. by-eqb k i (λ q. subst (LeadsToRoot live parent) (sym q) h) (λ q. m .leads k (sym (getD-set-other known i k true false q) ∙ e));
       }

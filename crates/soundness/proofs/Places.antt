@@ -16,7 +16,7 @@ use Rattle.rules.proofs.Sound.{SlotsSound}
 use Rattle.rules.proofs.Tests.{tells-slots}
 use Rattle.rules.proofs.Tells.{is-false, clash, tells-as}
 use Rattle.slots.specs.Halves.{occ, slotsOf}
-use Rattle.scopes.specs.Sound.{Slotted, Leads, Rooted, Owned}
+use Rattle.scopes.specs.Sound.{Slotted, LeadsToRoot, Rooted, Owned}
 use Rattle.soundness.specs.Parts.{Below, ownerOf, OwnedAt, RootedAt, Topped}
 use Rattle.soundness.proofs.Climbs.{live-below}
 
@@ -69,7 +69,7 @@ of-owned halves owner live size s a l = record { taken = s .taken a l; alive = s
 -- ---- a scope
 
 module _ (live dangled : List Bool) (parent number : List ℕ) (i : ℕ) where
-  pub root-live : (r : Bool) → getD live i false ≡ true → Tells r (Leads live parent i) → Tells r (RootedAt live dangled parent number i)
+  pub root-live : (r : Bool) → getD live i false ≡ true → Tells r (LeadsToRoot live parent i) → Tells r (RootedAt live dangled parent number i)
   root-live r l t = tells-as t (λ h. record { leads = λ _. h; dead = λ e. clash l e }) (λ h. h .leads l)
 
   pub root-last : getD live i false ≡ false → getD dangled i false ≡ false → getD parent i 0 ≡ SCOPES → Tells (eqb (getD number i 0) 0) (RootedAt live dangled parent number i)

@@ -6,7 +6,7 @@ use Prim.Native.Nat.{ℕ, _≤_, _<_}
 use lib.ListN.{getD}
 use Rattle.rules.specs.Sizes.{base, BINDINGS, SCOPES}
 use Rattle.rules.specs.Sound.{sound}
-use Rattle.scopes.specs.View.{held, view}
+use Rattle.scopes.specs.View.{listOf, view}
 use Rattle.scopes.specs.Sound.{Ringed}
 use Rattle.scopes.specs.declared.Scopes.{Scopes}
 
@@ -15,7 +15,7 @@ pub record Blank (links : List ℕ) (dangled : List Bool) (parent number : List 
   pub unmarked : getD dangled i false ≡ false
   pub no-parent : getD parent i 0 ≡ SCOPES
   pub no-number : getD number i 0 ≡ 0
-  pub no-list : held links i ≡ []
+  pub no-list : listOf links i ≡ []
 
 pub record Canonical (s : Scopes) : Type 0 where
   -- the link cells hold LISTS lists and nothing else, and the owner table says on which of them each address is (LISTS: on none)

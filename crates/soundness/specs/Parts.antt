@@ -12,7 +12,7 @@ use Rattle.slots.specs.Halves.{bit, occ}
 use Rattle.links.specs.Links.{nextIn, prevIn, nowhere}
 use Rattle.links.specs.Follow.{lists}
 use Rattle.scopes.specs.View.{binding}
-use Rattle.scopes.specs.Sound.{Leads}
+use Rattle.scopes.specs.Sound.{LeadsToRoot}
 
 abbrev pub Below : ℕ → (ℕ → Type 0) → Type 0
 Below n P = (j : ℕ) → j < n → P j
@@ -86,10 +86,10 @@ climb live parent (suc k) i =
 -- the scopes of which it is known that parents lead to root
 pub record Known (live : List Bool) (parent : List ℕ) (known : List Bool) : Type 0 where
   pub long : length known ≡ SCOPES
-  pub leads : (k : ℕ) → getD known k false ≡ true → Leads live parent k
+  pub leads : (k : ℕ) → getD known k false ≡ true → LeadsToRoot live parent k
 
 pub record RootedAt (live dangled : List Bool) (parent number : List ℕ) (i : ℕ) : Type 0 where
-  pub leads : getD live i false ≡ true → Leads live parent i
+  pub leads : getD live i false ≡ true → LeadsToRoot live parent i
   pub dead : getD live i false ≡ false → (getD dangled i false ≡ false) × (getD parent i 0 ≡ SCOPES) × (getD number i 0 ≡ 0)
 
 -- "top is live, or nothing is"

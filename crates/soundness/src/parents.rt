@@ -5,7 +5,7 @@ ghost use Prim.Native.Nat.{_<_};
 ghost use lib.ListN.{length, getD};
 ghost use Rattle.rules.specs.Sizes.{SCOPES};
 ghost use Rattle.rules.specs.Tells.{Tells};
-ghost use Rattle.scopes.specs.Sound.{Rooted, Leads};
+ghost use Rattle.scopes.specs.Sound.{Rooted, LeadsToRoot};
 ghost use Rattle.soundness.specs.Parts.{Below, Known, RootedAt, Topped};
 use rules::SCOPES;
 use scopes::open;
@@ -18,7 +18,7 @@ pub fn leads<'a>(
     i: usize,
 ) -> bool
     requires { ⌜ (length (now live) ≡ SCOPES) × Known (now live) (now parent) (now known) ⌝ }
-    ensures { λ r. ⌜ Tells r (Leads (now (live .entry)) (now (parent .entry)) i) ⌝ }
+    ensures { λ r. ⌜ Tells r (LeadsToRoot (now (live .entry)) (now (parent .entry)) i) ⌝ }
 {
     let mut k = i;
     let mut n: usize = SCOPES;
@@ -49,7 +49,7 @@ pub fn learn<'a>(
     known: &mut [bool; SCOPES],
     i: usize,
 )
-    requires { ⌜ (length (now live) ≡ SCOPES) × Known (now live) (now parent) (now known) × Leads (now live) (now parent) i ⌝ }
+    requires { ⌜ (length (now live) ≡ SCOPES) × Known (now live) (now parent) (now known) × LeadsToRoot (now live) (now parent) i ⌝ }
     ensures { λ r. ⌜ Known (now (live .entry)) (now (parent .entry)) (now (known .exit)) ⌝ }
 {
     let mut k = i;

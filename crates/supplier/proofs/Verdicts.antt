@@ -25,7 +25,7 @@ use Rattle.text.proofs.Bounds.{ListIn, read-list-in}
 use Rattle.text.specs.Table.{Tabled}
 use Rattle.text.specs.Titles.{Titles}
 use Rattle.text.specs.Whole.{ofScript, scriptChecked, ofListed, listing}
-use Rattle.text.specs.declared.whole.Checked.the-variants as checked
+use Rattle.text.specs.declared.whole.CheckedScript.the-variants as checked
 use Rattle.text.specs.declared.whole.Listing.{Listing}
 use Rattle.text.specs.declared.whole.Listing.the-variants as lists
 use Rattle.translate.specs.Whole.{framesOf, guideAt, walked, Read, Ends, listed as stands, refused as stopped}

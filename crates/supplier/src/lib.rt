@@ -3,7 +3,7 @@
 use rules::LINES;
 use rules::PAGE;
 use text::refusal::refuse;
-use text::whole::Checked;
+use text::whole::CheckedScript;
 use text::whole::Listing;
 use text::whole::check_list;
 use text::whole::check_script;
@@ -93,7 +93,7 @@ pub extern "C" fn agrees(script: &[u8], list: &[u8]) -> u64
     ensures { λ r. ⌜ r ≡ verdictAnswer (verdict base (now (script .entry)) (now (list .entry))) ⌝ }
 {
     match check_script(script) {
-        Checked::Refused(m, i) => refuse(m, i),
-        Checked::Good(_) => agrees_read(script, list),
+        CheckedScript::Refused(m, i) => refuse(m, i),
+        CheckedScript::Good(_) => agrees_read(script, list),
     }
 }

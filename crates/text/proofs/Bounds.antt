@@ -15,7 +15,7 @@ use Rattle.rules.specs.Frames as rules
 use Rattle.rules.specs.Frames.{Line}
 use Rattle.rules.specs.Text.{Split, split, lineOf, frameTable, lineTable, sizeTable, Script, frames, unread, frameBefore, scriptFrom, titled, title, readScript, Listed, listed, unlisted, lineBefore, sizeOr, listFrom, underTitle, readList}
 use Rattle.text.specs.Whole.{ofScript, ofListed, scriptChecked, listing}
-use Rattle.text.specs.declared.whole.Checked.the-variants.{Good, Refused}
+use Rattle.text.specs.declared.whole.CheckedScript.the-variants.{Good, Refused}
 use Rattle.text.specs.declared.whole.Listing.the-variants.{Read, Unread}
 
 abbrev pub Refusal : Room → ℕ → ℕ → Type 0

@@ -17,7 +17,7 @@ use Rattle.text.specs.declared.lines.Digits.{Digits}
 use Rattle.text.specs.declared.lines.Reading.{Reading}
 use Rattle.text.specs.declared.lines.Frame.{Frame}
 use Rattle.text.specs.declared.lines.Reading.the-variants.{Malformed, One}
-use Rattle.text.specs.declared.lines.Taken.{Taken}
+use Rattle.text.specs.declared.lines.TakenLine.{TakenLine}
 use Rattle.text.specs.declared.lines.Coded.{Coded}
 use Rattle.text.proofs.Rows.{reading-open, reading-none}
 use Rattle.text.proofs.Words.{raw-short}
@@ -170,7 +170,7 @@ pub took-as : (f : Split → Reading) (s : List ℕ) (p : ℕ) (t : Coded) → T
 took-as f s p t k x e = record { line = k .line; here = k .here; as-read = e ∙ k .as-read; place = k .place; forward = k .forward; within = k .within }
 
 -- any two readings of the line at p are equal
-pub took-one : {f : Split → Reading} {s : List ℕ} {p : ℕ} {r r′ : Taken} → Took f s p r → Took f s p r′ → r ≡ r′
+pub took-one : {f : Split → Reading} {s : List ℕ} {p : ℕ} {r r′ : TakenLine} → Took f s p r → Took f s p r′ → r ≡ r′
 took-one {f} {s} {p} {r} {r′} t t′ =
     let l : t .line ≡ t′ .line = cc (t .here, t′ .here) in
     let a : r .reading ≡ r′ .reading = t .as-read ∙ ap f l ∙ sym (t′ .as-read) in
@@ -190,5 +190,5 @@ wide list t true f e = go (ltb (length t) 2) refl
     go true q = not-one (sym (reading-none list t (raw-short t (ltb-true (length t) 2 q))) ∙ e)
     go false q = omega (arith, ltb-false (length t) 2 q)
 
-pub took-wide : (list : Bool) (s : List ℕ) (p : ℕ) (t : Taken) → Took (readingOf list) s p t → (f : Frame) → t .reading ≡ One f → p + 3 ≤ t .next
+pub took-wide : (list : Bool) (s : List ℕ) (p : ℕ) (t : TakenLine) → Took (readingOf list) s p t → (f : Frame) → t .reading ≡ One f → p + 3 ≤ t .next
 took-wide list s p t k f e = omega (arith, wide list (k .line .text) (k .line .ended) f (sym (k .as-read) ∙ e), k .place)

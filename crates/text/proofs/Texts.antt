@@ -20,10 +20,10 @@ use Rattle.text.specs.Whole.{ofScript, ofListed, sizeListing, lineThen}
 use Rattle.text.specs.declared.lines.Frame.{Frame}
 use Rattle.text.specs.declared.lines.Reading.{Reading}
 use Rattle.text.specs.declared.lines.Reading.the-variants.{Malformed, One}
-use Rattle.text.specs.declared.lines.Taken.{Taken}
+use Rattle.text.specs.declared.lines.TakenLine.{TakenLine}
 use Rattle.text.specs.declared.lines.Coded.{Coded}
-use Rattle.text.specs.declared.whole.Checked.{Checked}
-use Rattle.text.specs.declared.whole.Checked.the-variants.{Good, Refused}
+use Rattle.text.specs.declared.whole.CheckedScript.{CheckedScript}
+use Rattle.text.specs.declared.whole.CheckedScript.the-variants.{Good, Refused}
 use Rattle.text.specs.declared.whole.Listing.{Listing}
 use Rattle.text.specs.declared.whole.Listing.the-variants.{Read, Unread}
 use Rattle.text.proofs.Numbers.{coded, uncoded}
@@ -32,7 +32,7 @@ use Rattle.text.proofs.Told.{told, told-line, told-other}
 
 -- ---- scripts
 
-abbrev frameThen : ℕ → Reading → Checked → Checked
+abbrev frameThen : ℕ → Reading → CheckedScript → CheckedScript
 frameThen i Malformed rest = Refused 1 i
 frameThen i (One f) rest = rest
 
@@ -42,7 +42,7 @@ before-frame i (some f) (frames fs) = ap Good (omega arith)
 before-frame i (some f) (unread n j) = refl
 
 module _ (room : Room) (s : List ℕ) (p i : ℕ) where
-  abbrev scriptLeft : ℕ → ℕ → Checked
+  abbrev scriptLeft : ℕ → ℕ → CheckedScript
   scriptLeft p i = ofScript i (scriptFrom room i (split (drop p s)))
 
   pub script-end : length s ≤ p → scriptLeft p i ≡ Good i
@@ -57,7 +57,7 @@ module _ (room : Room) (s : List ℕ) (p i : ℕ) where
       go [] q = absurd (true≢false q)
       go (l ∷ ls) q = rw (eq-eqb i (room .lines) e, scriptFrom)
 
-  module _ (t : Taken) (k : Took frameReading s p t) (h : i ≡ room .lines → ⊥) where
+  module _ (t : TakenLine) (k : Took frameReading s p t) (h : i ≡ room .lines → ⊥) where
     script-step : scriptLeft p i ≡ frameThen i (t .reading) (scriptLeft (t .next) (i + 1))
     unfolding scriptFrom frameReading
     script-step = rw (k .here, k .as-read, ne-eqb i (room .lines) h, scriptFrom, add-one) (before-frame i (lineOf frameTable (k .line)) _)

@@ -12,7 +12,7 @@ use Rattle.rules.specs.Text.{value, Split, split, rowed, lineOf, frameTable, li
 use Rattle.text.specs.declared.lines.Frame.{Frame}
 use Rattle.text.specs.declared.lines.Reading.{Reading}
 use Rattle.text.specs.declared.lines.Reading.the-variants.{Malformed, One}
-use Rattle.text.specs.declared.lines.Taken.{Taken}
+use Rattle.text.specs.declared.lines.TakenLine.{TakenLine}
 use Rattle.text.specs.declared.lines.Coded.{Coded}
 use Rattle.text.specs.declared.lines.Digits.{Digits}
 use Rattle.text.specs.Shapes.{pick, frame, shapeOf, readAs}
@@ -148,7 +148,7 @@ unpacked code = frame (code / 0x100000000 % 0x100) (code / 0x10000 % 0x10000) (c
 abbrev pub decoded : ℕ → Reading
 decoded code = pick (ltb code 0x10000000000) (One (unpacked code)) Malformed
 
-abbrev pub takenOf : Coded → Taken
+abbrev pub takenOf : Coded → TakenLine
 takenOf r = record { reading = decoded (r .code); next = r .next }
 
 -- ---- a line that was taken at p, by the reading f, and where the next begins
@@ -156,7 +156,7 @@ takenOf r = record { reading = decoded (r .code); next = r .next }
 abbrev pub width : Split → ℕ
 width l = elim (l .ended) [ true ↦ length (l .text) + 1 | false ↦ length (l .text) ]
 
-pub record Took (f : Split → Reading) (s : List ℕ) (p : ℕ) (r : Taken) : Type 0 where
+pub record Took (f : Split → Reading) (s : List ℕ) (p : ℕ) (r : TakenLine) : Type 0 where
   pub line : Split
   pub here : split (drop p s) ≡ line ∷ split (drop (r .next) s)
   pub as-read : r .reading ≡ f line

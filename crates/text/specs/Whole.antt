@@ -8,14 +8,14 @@ use Rattle.rules.specs.Sizes.{Room}
 use Rattle.rules.specs.Text.{Script, frames, unread, title, readScript, Listed, listed, unlisted, readList}
 use Rattle.text.specs.declared.lines.Reading.{Reading}
 use Rattle.text.specs.declared.lines.Reading.the-variants.{Malformed, One}
-use Rattle.text.specs.declared.whole.Checked.{Checked}
-use Rattle.text.specs.declared.whole.Checked.the-variants.{Good, Refused}
+use Rattle.text.specs.declared.whole.CheckedScript.{CheckedScript}
+use Rattle.text.specs.declared.whole.CheckedScript.the-variants.{Good, Refused}
 use Rattle.text.specs.declared.whole.Listing.{Listing}
 use Rattle.text.specs.declared.whole.Listing.the-variants.{Read, Unread}
 use Rattle.text.specs.Shapes.{pick}
 
 -- a script that is read: how many frames it has after those before line i
-abbrev pub ofScript : ℕ → Script → Checked
+abbrev pub ofScript : ℕ → Script → CheckedScript
 ofScript i (frames fs) = Good (i + length fs)
 ofScript i (unread n j) = Refused n j
 
@@ -25,7 +25,7 @@ ofListed i (listed ls size) = Read size (i + length ls)
 ofListed i (unlisted n j) = Unread n j
 
 -- a script's title, if it has one, is line 0
-unfoldable pub scriptChecked : Room → List ℕ → Checked
+unfoldable pub scriptChecked : Room → List ℕ → CheckedScript
 scriptChecked room s = ofScript (length (title (readScript room s .place))) (readScript room s .script)
 
 -- a list's title is one of its lines

@@ -22,7 +22,7 @@ pub enum Reading {
 }
 
 // What was read, and where the next line begins.
-pub struct Taken {
+pub struct TakenLine {
     pub reading: Reading,
     pub next: usize,
 }
@@ -238,14 +238,14 @@ fn reading_of(code: u64) -> Reading
 }
 
 // The line of a script at p.
-pub fn frame_at(s: &[u8], p: usize) -> Taken
+pub fn frame_at(s: &[u8], p: usize) -> TakenLine
     requires { ⌜ p < length (now s) ⌝ }
     ensures { λ r. ⌜ Took frameReading (now (s .entry)) p r ⌝ }
 {
     let t = line_at(s, p, false);
     let next = t.next;
     let reading = reading_of(t.code);
-    Taken { reading, next }
+    TakenLine { reading, next }
 }
 
 // The line of a list at p; the size line is one too, with opcode 90.

@@ -18,7 +18,7 @@ ghost use Rattle.text.specs.Table.{RowsFor, Tabled};
 const TITLE: u64 = 0xf0_0002_0000;
 
 // Of a script how many frames it has, its title among them; or the number and the line of a refusal.
-pub enum Checked {
+pub enum CheckedScript {
     Good(usize),
     Refused(u8, usize),
 }
@@ -52,7 +52,7 @@ pub fn title_lines(s: &[u8]) -> usize
 }
 
 // Begins behind the title, which is line 0.
-pub fn check_script(s: &[u8]) -> Checked
+pub fn check_script(s: &[u8]) -> CheckedScript
     ensures { λ r. ⌜ r ≡ scriptChecked base (now (s .entry)) ⌝ }
 {
     let first = title_lines(s);
@@ -60,20 +60,20 @@ pub fn check_script(s: &[u8]) -> Checked
     let mut i = first;
     while p < s.len() {
         if i == LINES {
-            return Checked::Refused(2, i);
+            return CheckedScript::Refused(2, i);
         }
         let t = frame_at(s, p);
         let x = t.reading;
         let q = t.next;
         match x {
-            Reading::Malformed => return Checked::Refused(1, i),
+            Reading::Malformed => return CheckedScript::Refused(1, i),
             Reading::One(_) => {
                 p = q;
                 i += 1;
             }
         }
     }
-    Checked::Good(i)
+    CheckedScript::Good(i)
 }
 
 // The size line, which is line i.

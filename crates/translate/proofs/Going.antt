@@ -36,7 +36,7 @@ use Rattle.text.specs.Writing.{over}
 use Rattle.text.specs.declared.lines.Frame as code
 use Rattle.text.specs.declared.lines.Reading.{Reading}
 use Rattle.text.specs.declared.lines.Reading.the-variants as reading
-use Rattle.text.specs.declared.lines.Taken.{Taken}
+use Rattle.text.specs.declared.lines.TakenLine.{TakenLine}
 use Rattle.text.proofs.Splits.{split-end}
 use Rattle.text.proofs.Rows.{frame-code}
 use Rattle.text.proofs.Bounds.{ScriptIn, script-in}
@@ -240,7 +240,7 @@ module _ (pl : ℕ → Place) (o : Outcome) (script page₀ : List ℕ) (s : Sco
   here-sound : StateSound base here
   here-sound = stands-sound s handles holders handed nd (g .stands)
 
-  module _ (t : Taken) (k : Took frameReading script p t) (f : code.Frame) (ef : f ≡ frameIn (t .reading))
+  module _ (t : TakenLine) (k : Took frameReading script p t) (f : code.Frame) (ef : f ≡ frameIn (t .reading))
       (r : Reached) (handles′ holders′ drained′ : List ℕ) (nd′ : Needing)
       (at : Place) (same : at ≡ pl i) (works : (x : Frame) → frameOf f ≡ some x → WorksWith (by at) x (f .opcode) s handles holders handed nd r handles′ holders′ nd′ drained′) where
     taken : Taking base i (frameReading (k .line)) (split (drop (t .next) script)) (g .left)

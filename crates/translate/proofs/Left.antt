@@ -15,8 +15,8 @@ use Rattle.rules.specs.Frames.{Outcome}
 use Rattle.rules.specs.Text.{Script, frames, unread, title, readScript, listText}
 use Rattle.rules.specs.Entries.{outcome, translated, refusalAnswer, Translation, listLeft, translateEntry}
 use Rattle.text.specs.Whole.{ofScript, scriptChecked}
-use Rattle.text.specs.declared.whole.Checked.the-variants.{Good, Refused}
-use Rattle.translate.specs.Whole.{Leaves, Read, Ends, listed, refused}
+use Rattle.text.specs.declared.whole.CheckedScript.the-variants.{Good, Refused}
+use Rattle.translate.specs.Whole.{LeavesList, Read, Ends, listed, refused}
 use Rattle.translate.specs.declared.whole.Ended.{Ended}
 use Rattle.translate.specs.declared.whole.Ended.the-variants as ended
 
@@ -43,19 +43,19 @@ module _ (script list page : List ℕ) (e : Ended) (h : Ends (translated base sc
       go (refused {i = j} b) q = let z : j ≡ i = cc in omega arith
       go (listed a b c) q = absurd (let z : _≡_ {A = ℕ} 0 1 = cc in omega arith)
 
-  pub left-refused : (n i r : ℕ) → e ≡ ended.Refused n i → r ≡ refusalAnswer n i → Leaves (translateEntry base script list) r list
+  pub left-refused : (n i r : ℕ) → e ≡ ended.Refused n i → r ≡ refusalAnswer n i → LeavesList (translateEntry base script list) r list
   unfolding translateEntry listLeft
   left-refused n i r q a = go h q
     where
-      go : {o : Outcome} {x : Ended} → Ends o x page → x ≡ ended.Refused n i → Leaves (listLeft o list) r list
+      go : {o : Outcome} {x : Ended} → Ends o x page → x ≡ ended.Refused n i → LeavesList (listLeft o list) r list
       go (refused {n = m} {i = j} b) q = let y : m ≡ n = cc in let z : j ≡ i = cc in record { answered = rw (y, z) a; list-left = refl }
       go (listed a b c) q = absurd (let z : _≡_ {A = ℕ} 0 1 = cc in omega arith)
 
-  pub left-short : (n k r : ℕ) → e ≡ ended.Listed n k → length list < n → r ≡ refusalAnswer 17 0 → Leaves (translateEntry base script list) r list
+  pub left-short : (n k r : ℕ) → e ≡ ended.Listed n k → length list < n → r ≡ refusalAnswer 17 0 → LeavesList (translateEntry base script list) r list
   unfolding translateEntry listLeft if_then_else_
   left-short n k r q l a = go h q
     where
-      go : {o : Outcome} {x : Ended} → Ends o x page → x ≡ ended.Listed n k → Leaves (listLeft o list) r list
+      go : {o : Outcome} {x : Ended} → Ends o x page → x ≡ ended.Listed n k → LeavesList (listLeft o list) r list
       go (refused b) q = absurd (let z : _≡_ {A = ℕ} 0 1 = cc in omega arith)
       go (listed {ls = ls} {size = size} {n = m} x y z) q =
           let same : m ≡ n = cc in
@@ -68,11 +68,11 @@ module _ (script list page : List ℕ) (e : Ended) (h : Ends (translated base sc
       go (refused b) q = absurd (let z : _≡_ {A = ℕ} 0 1 = cc in omega arith)
       go (listed {n = m} x y z) q = let same : m ≡ n = cc in omega arith
 
-  pub left-list : (n k : ℕ) (list′ : List ℕ) → e ≡ ended.Listed n k → n ≤ length list → list′ ≡ take n page ++ drop n list → Leaves (translateEntry base script list) n list′
+  pub left-list : (n k : ℕ) (list′ : List ℕ) → e ≡ ended.Listed n k → n ≤ length list → list′ ≡ take n page ++ drop n list → LeavesList (translateEntry base script list) n list′
   unfolding translateEntry listLeft if_then_else_
   left-list n k list′ q l a = go h q
     where
-      go : {o : Outcome} {x : Ended} → Ends o x page → x ≡ ended.Listed n k → Leaves (listLeft o list) n list′
+      go : {o : Outcome} {x : Ended} → Ends o x page → x ≡ ended.Listed n k → LeavesList (listLeft o list) n list′
       go (refused b) q = absurd (let z : _≡_ {A = ℕ} 0 1 = cc in omega arith)
       go (listed {ls = ls} {size = size} {n = m} x y z) q =
           let same : m ≡ n = cc in
@@ -94,15 +94,15 @@ checked-good script n e = go (readScript base script .script) refl e
     go (frames fs) q e = record { all = fs; reads = q }
     go (unread m i) q e = good-refused (sym e)
 
-pub left-unread : (script list : List ℕ) (n i r : ℕ) → scriptChecked base script ≡ Refused n i → r ≡ refusalAnswer n i → Leaves (translateEntry base script list) r list
+pub left-unread : (script list : List ℕ) (n i r : ℕ) → scriptChecked base script ≡ Refused n i → r ≡ refusalAnswer n i → LeavesList (translateEntry base script list) r list
 unfolding scriptChecked translateEntry translated outcome listLeft
 left-unread script list n i r e a = go (readScript base script .place) (readScript base script .script) e
   where
-    go : (p : Place) (x : Script) → ofScript (length (title p)) x ≡ Refused n i → Leaves (listLeft (outcome base p x) list) r list
+    go : (p : Place) (x : Script) → ofScript (length (title p)) x ≡ Refused n i → LeavesList (listLeft (outcome base p x) list) r list
     go p (frames fs) e = good-refused e
     go p (unread m j) e = let y : m ≡ n = cc in let z : j ≡ i = cc in record { answered = rw (y, z) a; list-left = refl }
 
 -- ---- any two results that the promise admits are equal
 
-pub leaves-one : {l : Translation} {r r′ : ℕ} {list list′ : List ℕ} → Leaves l r list → Leaves l r′ list′ → (r ≡ r′) × (list ≡ list′)
+pub leaves-one : {l : Translation} {r r′ : ℕ} {list list′ : List ℕ} → LeavesList l r list → LeavesList l r′ list′ → (r ≡ r′) × (list ≡ list′)
 leaves-one a b = (a .answered ∙ sym (b .answered), a .list-left ∙ sym (b .list-left))

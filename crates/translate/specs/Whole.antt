@@ -29,7 +29,7 @@ use Rattle.translate.specs.declared.whole.Ended.the-variants as ended
 
 -- ---- the promise: the answer and the lent list at exit are these
 
-pub record Leaves (l : Translation) (answer : ℕ) (list : List ℕ) : Type 0 where
+pub record LeavesList (l : Translation) (answer : ℕ) (list : List ℕ) : Type 0 where
   pub answered : answer ≡ l .answer
   pub list-left : list ≡ l .list
 

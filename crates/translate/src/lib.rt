@@ -1,7 +1,7 @@
 // Scripts into lists: the steps of all frames, the page, and translate.
 use rules::PAGE;
 use text::refusal::refuse;
-use text::whole::Checked;
+use text::whole::CheckedScript;
 use text::whole::check_script;
 use whole::Ended;
 use whole::steps as whole_steps;
@@ -11,7 +11,7 @@ ghost use Prim.Native.Nat.{_≤_};
 ghost use lib.ListN.{length, take, drop};
 ghost use Rattle.rules.specs.Sizes.{base};
 ghost use Rattle.rules.specs.Entries.{translateEntry};
-ghost use Rattle.translate.specs.Whole.{Leaves, Read};
+ghost use Rattle.translate.specs.Whole.{LeavesList, Read};
 
 pub mod whole; // all steps of a script, and the page
 
@@ -30,7 +30,7 @@ fn copy(page: &[u8], list: &mut [u8], n: usize)
 // The script is read: its steps, and 17 last.
 fn translate_read(script: &[u8], list: &mut [u8]) -> u64
     requires { ⌜ Read (now script) ⌝ }
-    ensures { λ r. ⌜ Leaves (translateEntry base (now (script .entry)) (now (list .entry))) r (now (list .exit)) ⌝ }
+    ensures { λ r. ⌜ LeavesList (translateEntry base (now (script .entry)) (now (list .entry))) r (now (list .exit)) ⌝ }
 {
     let mut page = [0u8; PAGE];
     match whole_steps(script, &mut page) {
@@ -49,10 +49,10 @@ fn translate_read(script: &[u8], list: &mut [u8]) -> u64
 // as it was.
 #[no_mangle]
 pub extern "C" fn translate(script: &[u8], list: &mut [u8]) -> u64
-    ensures { λ r. ⌜ Leaves (translateEntry base (now (script .entry)) (now (list .entry))) r (now (list .exit)) ⌝ }
+    ensures { λ r. ⌜ LeavesList (translateEntry base (now (script .entry)) (now (list .entry))) r (now (list .exit)) ⌝ }
 {
     match check_script(script) {
-        Checked::Refused(m, i) => refuse(m, i),
-        Checked::Good(_) => translate_read(script, list),
+        CheckedScript::Refused(m, i) => refuse(m, i),
+        CheckedScript::Good(_) => translate_read(script, list),
     }
 }

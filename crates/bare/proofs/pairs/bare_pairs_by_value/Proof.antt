@@ -2,7 +2,7 @@ use mathlib.Core.Path.{_≡_, sym, ap, subst, _∙_}
 use Prim.Native.Nat.{ℕ, _+_, _-_, _%_, _^_}
 use native.Mathlib.Omega.{arith}
 use borrow.Author.Needs.{needs}
-use Rattle.slots.specs.Promises.{view, Seen}
+use Rattle.slots.specs.Promises.{view, SeenSlots}
 use Rattle.bare.specs.Bare.{addressGiven, summed, pairsSum}
 use Rattle.bare.proofs.Runs.{Sound, removed-sound, inserted-sound, pair-shown, summed-start, summed-turn, summed-end}
 use Rattle.bare.proofs.pairs.bare_pairs_by_value.Statement.{statement}
@@ -46,8 +46,8 @@ loop-again : tie.Need-loop-again Inv-loop μ-loop
 loop-again c =
     let l = c .before .before .before .before .before .before .before .before .loop in
     let e = pair-shown _ _ _ _ _ (l .inv .0) (c .before .before .before .before .before .before .remove .ensures .shows) (c .before .before .before .before .insert .ensures .shows) in
-    let n = ap (λ (x : Seen ℕ). x .next) e in
-    let g = c .before .before .address-of .ensures ∙ ap (λ (x : Seen ℕ). addressGiven (x .says)) e in (
+    let n = ap (λ (x : SeenSlots ℕ). x .next) e in
+    let g = c .before .before .address-of .ensures ∙ ap (λ (x : SeenSlots ℕ). addressGiven (x .says)) e in (
       subst Sound (sym n) (inserted-sound _ (removed-sound _ _ (l .inv .0))),
       summed-turn _ _ _ _ _ _ _ _ _ (omega arith) n (c .next .ensures) (c .before .wrapping-add-u64 .ensures ∙ ap (λ (x : ℕ). (l .sum + x) % 2 ^ 64) g) (l .inv .1),
     )

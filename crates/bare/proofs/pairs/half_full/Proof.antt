@@ -1,7 +1,7 @@
 use mathlib.Core.Path.{_≡_, sym, ap, subst}
 use native.Mathlib.Omega.{arith}
 use Prim.Native.Nat.{ℕ, _-_, _≤_}
-use Rattle.slots.specs.Promises.{view, Seen}
+use Rattle.slots.specs.Promises.{view, SeenSlots}
 use Rattle.bare.specs.Bare.{inserts, halfFull}
 use Rattle.bare.proofs.Runs.{Sound, fresh-sound, inserted-sound, unchecked, inserts-turn, inserts-end}
 use borrow.Author.Needs.{needs}
@@ -31,7 +31,7 @@ loop-less : tie.Need-loop-less Inv-loop μ-loop
 loop-less c = search needs
 
 loop-again : tie.Need-loop-again Inv-loop μ-loop
-loop-again c = let e = unchecked _ _ _ (c .before .before .before .loop .inv .1) (c .before .insert .ensures .shows) in (search needs, subst Sound (sym (ap (λ (x : Seen ℕ). x .next) e)) (inserted-sound _ (c .before .before .before .loop .inv .1)), inserts-turn _ _ _ (omega arith) (ap (λ (x : Seen ℕ). x .next) e) (c .before .before .before .loop .inv .2))
+loop-again c = let e = unchecked _ _ _ (c .before .before .before .loop .inv .1) (c .before .insert .ensures .shows) in (search needs, subst Sound (sym (ap (λ (x : SeenSlots ℕ). x .next) e)) (inserted-sound _ (c .before .before .before .loop .inv .1)), inserts-turn _ _ _ (omega arith) (ap (λ (x : SeenSlots ℕ). x .next) e) (c .before .before .before .loop .inv .2))
 
 returns : tie.Need-returns Inv-loop μ-loop
 returns c = (inserts-end _ _ (omega arith) (c .before .loop .inv .2), c .before .loop .inv .1)

@@ -6,7 +6,7 @@ use native.Mathlib.Omega.{arith}
 use borrow.Author.Tests.{not-true, not-false}
 use borrow.Author.Needs.{needs}
 use Rattle.rules.specs.Sizes.{SCOPES}
-use Rattle.scopes.specs.Sound.{Leads}
+use Rattle.scopes.specs.Sound.{LeadsToRoot}
 use Rattle.soundness.specs.Parts.{climb}
 use Rattle.soundness.proofs.Tested.{yes}
 use Rattle.soundness.proofs.Climbs.{climb-dead, root-at, up-at, climb-zero, beyond, further, climb-tells}
@@ -14,7 +14,7 @@ use Rattle.soundness.proofs.parents.leads.Statement.{statement}
 use Rattle.soundness.proofs.parents.leads.Tie as tie
 
 abbrev Inv-loop : tie.InvT-loop
-Inv-loop live parent known i k₀ n₀ k n = (n ≤ SCOPES) × (climb live parent SCOPES i ≡ climb live parent n k) × (Leads live parent k → Leads live parent i)
+Inv-loop live parent known i k₀ n₀ k n = (n ≤ SCOPES) × (climb live parent SCOPES i ≡ climb live parent n k) × (LeadsToRoot live parent k → LeadsToRoot live parent i)
 
 abbrev μ-loop : tie.MeasureT-loop
 μ-loop live parent known i k₀ n₀ k n = n

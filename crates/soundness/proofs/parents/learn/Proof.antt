@@ -2,19 +2,19 @@
 use Prim.Native.Nat.{ℕ, _-_, _<_}
 use borrow.Author.Needs.{needs}
 use Rattle.rules.specs.Sizes.{SCOPES}
-use Rattle.scopes.specs.Sound.{Leads}
+use Rattle.scopes.specs.Sound.{LeadsToRoot}
 use Rattle.soundness.specs.Parts.{Known}
 use Rattle.soundness.proofs.Climbs.{leads-below, nearer, known-more}
 use Rattle.soundness.proofs.parents.learn.Statement.{statement}
 use Rattle.soundness.proofs.parents.learn.Tie as tie
 
 abbrev Inv-loop : tie.InvT-loop
-Inv-loop live parent known₀ i k₀ n₀ known k n = Leads live parent k × Known live parent known
+Inv-loop live parent known₀ i k₀ n₀ known k n = LeadsToRoot live parent k × Known live parent known
 
 abbrev μ-loop : tie.MeasureT-loop
 μ-loop live parent known₀ i k₀ n₀ known k n = n
 
-inside : (s : tie.Start Inv-loop μ-loop) (k : ℕ) → Leads (s .args .live .now) (s .args .parent .now) k → k < SCOPES
+inside : (s : tie.Start Inv-loop μ-loop) (k : ℕ) → LeadsToRoot (s .args .live .now) (s .args .parent .now) k → k < SCOPES
 inside s k h = leads-below (s .args .live .now) (s .args .parent .now) (s .pre .0) k h
 
 loop-holds : tie.Need-loop-holds Inv-loop μ-loop

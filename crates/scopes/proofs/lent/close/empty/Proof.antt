@@ -5,7 +5,7 @@ use native.Mathlib.Omega.{arith}
 use borrow.Author.Needs.{needs}
 use lib.ListN.{length}
 use Rattle.rules.specs.Sizes.{SCOPES}
-use Rattle.scopes.specs.View.{held}
+use Rattle.scopes.specs.View.{listOf}
 use Rattle.scopes.specs.Lent.{withSlots, Whole, Lives}
 use Rattle.scopes.specs.declared.Scopes.{Scopes}
 use Rattle.scopes.specs.declared.Numbers.{Numbers}
@@ -26,7 +26,7 @@ Inv-loop halves₀ links₀ owner₀ n i e head₀ a₀ halves links owner head 
     (s : Scopes) → Lives s i → Whole (withSlots s halves₀ links₀ owner₀ n) → Closing i (withSlots s halves₀ links₀ owner₀ n) (withSlots s halves links owner (numbers n head)) a
 
 abbrev μ-loop : tie.MeasureT-loop
-μ-loop halves₀ links₀ owner₀ n i e head₀ a₀ halves links owner head a = length (held links i)
+μ-loop halves₀ links₀ owner₀ n i e head₀ a₀ halves links owner head a = length (listOf links i)
 
 abbrev start : tie.At-loop Inv-loop μ-loop → tie.Start Inv-loop μ-loop
 start c = c .before .before .before
@@ -61,13 +61,13 @@ first-requires c κs = let p = c .before .pre in (omega (arith, p .2 .0), p .1 .
 loop-holds : tie.Need-loop-holds Inv-loop μ-loop
 loop-holds c s l h =
     let w = c .before .before in
-    record { at = c .first .ensures (held (w .args .links .now)) (h .sound .ringed .rings); sound = h .sound; sized = h .sized; live = l .1; closes = refl }
+    record { at = c .first .ensures (listOf (w .args .links .now)) (h .sound .ringed .rings); sound = h .sound; sized = h .sized; live = l .1; closes = refl }
 
 vacate-requires : tie.Need-vacate-requires Inv-loop μ-loop
 vacate-requires c κs = (tn (c .before) .small, closing (c .before .before) .sized .halves)
 
 place-requires : tie.Need-place-requires Inv-loop μ-loop
-place-requires c κs = let e = c .before .before .before in let g = closing (e .before) in ((omega arith, tn e .small, g .sized .links), (held (e .before .loop .links), g .sound .ringed .rings))
+place-requires c κs = let e = c .before .before .before in let g = closing (e .before) in ((omega arith, tn e .small, g .sized .links), (listOf (e .before .loop .links), g .sound .ringed .rings))
 
 element-write-owner : tie.Need-element-write-owner Inv-loop μ-loop
 element-write-owner c = tn (c .before .before .before .before) .small
@@ -82,7 +82,7 @@ loop-less c =
     let e = v .before .before in
     let m = e .before in
     let g = closing m in
-    closing-less _ _ _ (m .loop .a) (small m) g (tn e) (v .vacate .last .0) (p .place .last .0) (v .vacate .ensures .1) (p .place .ensures .1) (v .vacate .ensures .0) (p .place .ensures .0 (held (m .loop .links)) (g .sound .ringed .rings))
+    closing-less _ _ _ (m .loop .a) (small m) g (tn e) (v .vacate .last .0) (p .place .last .0) (v .vacate .ensures .1) (p .place .ensures .1) (v .vacate .ensures .0) (p .place .ensures .0 (listOf (m .loop .links)) (g .sound .ringed .rings))
 
 loop-again : tie.Need-loop-again Inv-loop μ-loop
 loop-again c s l h =
@@ -92,9 +92,9 @@ loop-again c s l h =
     let m = e .before in
     let g = m .loop .inv s l h in
     let u = turns e s g in
-    let x = p .place .ensures .0 (held (m .loop .links)) (g .sound .ringed .rings) in
+    let x = p .place .ensures .0 (listOf (m .loop .links)) (g .sound .ringed .rings) in
     closing-on _ _ _ (m .loop .a) (small m) g u (v .vacate .last .0) (p .place .last .0) (v .vacate .ensures .1) (p .place .ensures .1) (v .vacate .ensures .0) x (c .first2 .result)
-    (c .first2 .ensures (held (p .place .last .0)) (closing-sound _ _ _ (m .loop .a) (small m) g u (v .vacate .last .0) (p .place .last .0) (v .vacate .ensures .1) (p .place .ensures .1) (v .vacate .ensures .0) x .ringed .rings))
+    (c .first2 .ensures (listOf (p .place .last .0)) (closing-sound _ _ _ (m .loop .a) (small m) g u (v .vacate .last .0) (p .place .last .0) (v .vacate .ensures .1) (p .place .ensures .1) (v .vacate .ensures .0) x .ringed .rings))
 
 returns : tie.Need-returns Inv-loop μ-loop
 returns c s l h =

@@ -4,7 +4,7 @@ use Prim.Native.Nat.{ℕ, _<_}
 use native.Mathlib.Omega.{arith}
 use lib.ListN.{length}
 use Rattle.rules.specs.Sizes.{SCOPES, SLOTS}
-use Rattle.scopes.specs.View.{held}
+use Rattle.scopes.specs.View.{listOf}
 use Rattle.scopes.specs.Lent.{numbersOf, withSlots, Whole}
 use Rattle.scopes.specs.declared.Scopes.{Scopes}
 use Rattle.scopes.proofs.Closes.{Turn, turn, ended}
@@ -24,7 +24,7 @@ abbrev Inv-loop : tie.InvT-loop
 Inv-loop links₀ owner₀ out₀ n₀ a₀ links owner out n a = (s : Scopes) → Whole (lent s links₀ owner₀) → Draining (lent s links₀ owner₀) out₀ (lent s links owner) a n out
 
 abbrev μ-loop : tie.MeasureT-loop
-μ-loop links₀ owner₀ out₀ n₀ a₀ links owner out n a = length (held links SCOPES)
+μ-loop links₀ owner₀ out₀ n₀ a₀ links owner out n a = length (listOf links SCOPES)
 
 abbrev start : tie.At-loop Inv-loop μ-loop → tie.Start Inv-loop μ-loop
 start c = c .before .before .before
@@ -51,7 +51,7 @@ first-requires : tie.Need-first-requires Inv-loop μ-loop
 first-requires c κs = (omega arith, c .before .pre .1 .sized .links)
 
 loop-holds : tie.Need-loop-holds Inv-loop μ-loop
-loop-holds c s h = let w = c .before .before in draining-none (lent s (w .args .links .now) (w .args .owner .now)) _ _ (c .first .ensures (held (w .args .links .now)) (h .sound .ringed .rings)) (h .sound) (h .sized) (w .pre .2)
+loop-holds c s h = let w = c .before .before in draining-none (lent s (w .args .links .now) (w .args .owner .now)) _ _ (c .first .ensures (listOf (w .args .links .now)) (h .sound .ringed .rings)) (h .sound) (h .sized) (w .pre .2)
 
 cast-out : tie.Need-cast-out Inv-loop μ-loop
 cast-out c = omega (arith, tn c .small)
@@ -69,7 +69,7 @@ unlink-requires : tie.Need-unlink-requires Inv-loop μ-loop
 unlink-requires c κs =
     let e = c .before in
     let g = draining (e .before) in
-    ((tn e .small, g .sized .links), (held (e .before .loop .links), g .sound .ringed .rings, on _ _ _ _ _ _ g (tn e)))
+    ((tn e .small, g .sized .links), (listOf (e .before .loop .links), g .sound .ringed .rings, on _ _ _ _ _ _ g (tn e)))
 
 element-write-owner : tie.Need-element-write-owner Inv-loop μ-loop
 element-write-owner c = tn (c .before .before) .small
@@ -83,7 +83,7 @@ loop-less c =
     let e = u .before .before in
     let m = e .before in
     let g = draining m in
-    draining-less _ _ _ _ _ _ g (tn e) (u .unlink .last .0) (u .unlink .ensures .1) (u .unlink .ensures .0 (held (m .loop .links)) (g .sound .ringed .rings) (on _ _ _ _ _ _ g (tn e)))
+    draining-less _ _ _ _ _ _ g (tn e) (u .unlink .last .0) (u .unlink .ensures .1) (u .unlink .ensures .0 (listOf (m .loop .links)) (g .sound .ringed .rings) (on _ _ _ _ _ _ g (tn e)))
 
 loop-again : tie.Need-loop-again Inv-loop μ-loop
 loop-again c s h =
@@ -92,9 +92,9 @@ loop-again c s h =
     let m = e .before in
     let g = m .loop .inv s h in
     let t = turns e s g in
-    let x = u .unlink .ensures .0 (held (m .loop .links)) (g .sound .ringed .rings) (on _ _ _ _ _ _ g t) in
+    let x = u .unlink .ensures .0 (listOf (m .loop .links)) (g .sound .ringed .rings) (on _ _ _ _ _ _ g t) in
     draining-on _ _ _ _ _ _ g t (u .unlink .last .0) (u .unlink .ensures .1) x (c .first2 .result)
-    (c .first2 .ensures (held (u .unlink .last .0)) (draining-rings _ _ _ _ _ _ g t (u .unlink .last .0) (u .unlink .ensures .1) x))
+    (c .first2 .ensures (listOf (u .unlink .last .0)) (draining-rings _ _ _ _ _ _ g t (u .unlink .last .0) (u .unlink .ensures .1) x))
 
 returns : tie.Need-returns Inv-loop μ-loop
 returns c =

@@ -1,7 +1,7 @@
 -- A slot of the top goes back. Assumes nothing.
 use mathlib.Core.Path.{refl}
 use native.Mathlib.Omega.{arith}
-use Rattle.scopes.specs.View.{held}
+use Rattle.scopes.specs.View.{listOf}
 use Rattle.scopes.specs.Lent.{withSlots}
 use Rattle.scopes.specs.declared.Scopes.{Scopes}
 use Rattle.scopes.proofs.Finds.{topped}
@@ -34,14 +34,14 @@ returns c s o h =
     let w = v .before .before in
     let t = topped (state w s) (h .sound) (λ e. omega (arith, o .1)) in
     gives-back (state w s) (h .sound) (h .sized) (w .args .a) (w .args .n .top) (o .0) (o .1) (o .2) (v .vacate .last .0) (v .vacate .ensures .0) (c .place .last .0)
-    (c .place .ensures .0 (held (w .args .links .now)) (h .sound .ringed .rings)) (v .vacate .ensures .1) (c .place .ensures .1) _ (c .before .before .if1 .taken) refl t
+    (c .place .ensures .0 (listOf (w .args .links .now)) (h .sound .ringed .rings)) (v .vacate .ensures .1) (c .place .ensures .1) _ (c .before .before .if1 .taken) refl t
 
 unlink-requires : tie.Need-unlink-requires
 unlink-requires c κs =
     let w = c .before .before .before .before in
     let h = w .pre .1 in
     let o = w .pre .2 in
-    ((o .0, h .sized .links), (held (w .args .links .now), h .sound .ringed .rings, on (state w (w .pre .0)) (h .sound) (h .sized) (w .args .a) (w .args .n .top) (o .0) (o .1) (o .2)))
+    ((o .0, h .sized .links), (listOf (w .args .links .now), h .sound .ringed .rings, on (state w (w .pre .0)) (h .sound) (h .sized) (w .args .a) (w .args .n .top) (o .0) (o .1) (o .2)))
 
 element-write-owner-2 : tie.Need-element-write-owner-2
 element-write-owner-2 c = search needs
@@ -53,7 +53,7 @@ returns-2 c s o h =
     let x = state w s in
     let t = topped x (h .sound) (λ e. omega (arith, o .1)) in
     gives-quietly x (h .sound) (h .sized) (w .args .a) (w .args .n .top) (o .0) (o .1) (o .2) (v .vacate .last .0) (v .vacate .ensures .0) (c .unlink .last .0)
-    (c .unlink .ensures .0 (held (w .args .links .now)) (h .sound .ringed .rings) (on x (h .sound) (h .sized) (w .args .a) (w .args .n .top) (o .0) (o .1) (o .2))) (v .vacate .ensures .1) (c .unlink .ensures .1) _ (c .before .before .if1 .left) refl t
+    (c .unlink .ensures .0 (listOf (w .args .links .now)) (h .sound .ringed .rings) (on x (h .sound) (h .sized) (w .args .a) (w .args .n .top) (o .0) (o .1) (o .2))) (v .vacate .ensures .1) (c .unlink .ensures .1) _ (c .before .before .if1 .left) refl t
 
 pub release-spec : {M : Type 1} → statement M
 release-spec =

@@ -6,7 +6,7 @@ use borrow.Author.Needs.{needs}
 use Rattle.rules.specs.Sizes.{SLOTS}
 use Rattle.slots.specs.Halves.{occ}
 use Rattle.slots.specs.Spots.{Vacant}
-use Rattle.scopes.specs.View.{held}
+use Rattle.scopes.specs.View.{listOf}
 use Rattle.scopes.specs.Lent.{withSlots, numbersOf, Whole, Lives, roomy}
 use Rattle.scopes.specs.declared.Scopes.{Scopes}
 use Rattle.scopes.proofs.Runs.{Running, running-none, running-on, handed}
@@ -49,7 +49,7 @@ occupy-requires : tie.Need-occupy-requires Inv-loop μ-loop
 occupy-requires c κs = (small (c .before), runs (c .before .before) .sized .halves)
 
 place-requires : tie.Need-place-requires Inv-loop μ-loop
-place-requires c κs = let e = c .before .before .before in let r = runs (e .before) in ((omega (arith, start (e .before) .pre .2 .0), small e, r .sized .links), (held (e .before .loop .links), r .sound .ringed .rings))
+place-requires c κs = let e = c .before .before .before in let r = runs (e .before) in ((omega (arith, start (e .before) .pre .2 .0), small e, r .sized .links), (listOf (e .before .loop .links), r .sound .ringed .rings))
 
 cast-owner : tie.Need-cast-owner Inv-loop μ-loop
 cast-owner c = search needs
@@ -72,7 +72,7 @@ loop-again c s h l v =
     let w = start m in
     let r = m .loop .inv s h l v in
     running-on _ (w .args .k) (w .args .a) (w .args .many) (l .0) (v .0) _ (m .loop .b) r (e .loop-test .taken) (o .occupy .last .0) (p .place .last .0) (o .occupy .ensures .1) (p .place .ensures .1) (o .occupy .ensures .0)
-    (p .place .ensures .0 (held (m .loop .links)) (r .sound .ringed .rings))
+    (p .place .ensures .0 (listOf (m .loop .links)) (r .sound .ringed .rings))
 
 returns : tie.Need-returns Inv-loop μ-loop
 returns c s h l v =
