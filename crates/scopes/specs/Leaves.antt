@@ -7,10 +7,12 @@ use mathlib.Core.List.{List, [], _∷_, _++_}
 use Prim.Native.Nat.{ℕ, _-_, _≤_, _<_}
 use lib.ListN.{length, getD, set, take}
 use lib.Dec.{ltb, eqb}
+use denote.Ref.{now}
 use Rattle.rules.specs.Sizes.{BINDINGS, SCOPES}
 use Rattle.rules.specs.Notation.{orElse, first, isSome}
 use Rattle.rules.specs.Scopes as rule
 use Rattle.scopes.specs.View.{index, scopesFrom, binding, bindingsOf}
+use Rattle.scopes.specs.Lent.{LentArray}
 
 -- ---- which scope
 
@@ -85,6 +87,12 @@ pub record Earliest (f : ℕ → Bool) (from to r : ℕ) : Type 0 where
 abbrev pub Noted : List ℕ → ℕ → ℕ → ℕ → List ℕ → Type 0
 Noted bindings name from to places = (i : ℕ) → i < SCOPES → Earliest (binds bindings name i) from to (getD places i 0)
 
+-- where `places` had the first ones from `to` on, it has those from `from` on then
+abbrev pub NotesFrom : (places bindings : LentArray ℕ) → (from to name : ℕ) → Type 0
+NotesFrom places bindings from to name =
+    (length (now (places .exit)) ≡ SCOPES) × ((count : ℕ) → to ≤ count → count ≤ BINDINGS → Noted (now (bindings .entry)) name to count (now (places .entry))
+    → Noted (now (bindings .entry)) name from count (now (places .exit)))
+
 abbrev pub spotted : List ℕ → ℕ → Option rule.Binding
 spotted bindings r = elim (ltb r BINDINGS) [ true ↦ some (binding (getD bindings r 0)) | false ↦ none ]
 
@@ -93,6 +101,11 @@ pub record Climbs (live : List Bool) (parent bindings : List ℕ) (count name i 
   pub is : (c : rule.Scopes) (dangled : List Bool) (number : List ℕ) (owned : ℕ → List ℕ) → c .live ≡ scopesFrom live dangled parent number owned → c .bindings ≡ bindingsOf bindings count
       → rule.lookup left c name (index i) ≡ spotted bindings r
   pub spot : r < BINDINGS → (k : ℕ) × There bindings count k name r
+
+-- the same by `places`, of whatever bindings and name these are
+abbrev pub ClimbsBy : LentArray Bool → (parent places : LentArray ℕ) → (i left r : ℕ) → Type 0
+ClimbsBy live parent places i left r =
+    (bindings : List ℕ) (count name : ℕ) → Placed bindings count name (now (places .entry)) → Climbs (now (live .entry)) (now (parent .entry)) bindings count name i left r
 
 -- the places from `from` up to `to` hold 0, and the others what they held
 pub record Wiped (old : List ℕ) (from to : ℕ) (new : List ℕ) : Type 0 where

@@ -1,11 +1,11 @@
 // The dangling list is handed out: `lent::drain` by value.
 ghost use mathlib.Core.Path.{_≡_};
-ghost use Prim.Native.Nat.{ℕ, _≤_};
-ghost use lib.ListN.{length, getD, take};
+ghost use lib.ListN.{length, take};
 ghost use Rattle.rules.specs.Sizes.{SLOTS};
 ghost use Rattle.rules.specs.Scopes as rule;
 ghost use Rattle.scopes.specs.View.{view};
 ghost use Rattle.scopes.specs.Sound.{Sound};
+ghost use Rattle.scopes.specs.Lent.{KeepsFrom};
 use crate::Scopes;
 use crate::lent::drain as lent;
 use rules::SLOTS;
@@ -19,7 +19,7 @@ pub struct Drained {
 pub fn drain(s: Scopes, out: &mut [u16; SLOTS]) -> Drained
     requires { ⌜ Sound s × (length (now out) ≡ SLOTS) ⌝ }
     ensures { λ r. ⌜ (view (r .state) ≡ rule.drainDangling (view s) .1) × (take (r .count) (now (out .exit)) ≡ rule.drainDangling (view s) .0) × Sound (r .state) ⌝ }
-    ensures { λ r. ⌜ ((k : ℕ) → r .count ≤ k → getD (now (out .exit)) k 0 ≡ getD (now (out .entry)) k 0) × (length (now (out .exit)) ≡ SLOTS) × (r .count ≤ SLOTS) ⌝ }
+    ensures { λ r. ⌜ KeepsFrom out (r .count) ⌝ }
 {
     let mut links = s.links;
     let mut owner = s.owner;

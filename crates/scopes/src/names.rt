@@ -1,8 +1,7 @@
-// Names are bound in the top scope, and looked for from there up to root: the leaves, and `lent::names` by value.
+// Names are bound in the top scope, and looked for from there up to root: what `lent::names` is made of, and the same by value.
 ghost use mathlib.Core.Path.{_≡_};
 ghost use mathlib.Core.Bool.{false};
 ghost use mathlib.Core.Logic.{_≢_};
-ghost use mathlib.Core.List.{List};
 ghost use Prim.Native.Nat.{ℕ, _+_, _%_, _≤_, _<_};
 ghost use lib.ListN.{length, getD};
 ghost use Rattle.rules.specs.Sizes.{base, BINDINGS, SCOPES};
@@ -10,7 +9,7 @@ ghost use Rattle.rules.specs.Scopes as rule;
 ghost use Rattle.scopes.specs.View.{view, binding, bindingsOf, bound, seen, told, toldOnly, replied};
 ghost use Rattle.scopes.specs.Sound.{Sound};
 ghost use Rattle.scopes.specs.Lent.{withNames};
-ghost use Rattle.scopes.specs.Leaves.{binds, Spot, Noted, Placed, Climbs, Wiped};
+ghost use Rattle.scopes.specs.Leaves.{binds, Spot, NotesFrom, ClimbsBy, Climbs, Wiped};
 use crate::Bound;
 use crate::HandleNumber;
 use crate::LentOutcome;
@@ -57,7 +56,8 @@ pub fn find(bindings: &[u64; BINDINGS], count: usize, i: usize, name: u16) -> us
     BINDINGS
 }
 
-// Whether one of the eight bindings from `from` on is of `name`; all eight are looked at, so that they are compared side by side.
+// Whether one of the eight bindings from `from` on is of `name`, in whatever scope: so that `lookup` may pass over eight at a time.
+// All eight are looked at, so that they are compared side by side.
 fn named(bindings: &[u64; BINDINGS], from: usize, name: u16) -> bool
     requires { ⌜ (from + 8 ≤ BINDINGS) × (length (now bindings) ≡ BINDINGS) ⌝ }
     ensures { λ r. ⌜ (r ≡ false → (i j : ℕ) → from ≤ j → j < from + 8 → binds (now (bindings .entry)) name i j ≡ false) ⌝ }
@@ -74,10 +74,11 @@ fn named(bindings: &[u64; BINDINGS], from: usize, name: u16) -> bool
     hit
 }
 
-// Where `places` has each scope's first place from `to` on, it has that from `from` on then.
+// Looks through the bindings from `from` up to `to` for `name`, and puts into `places`, at the index of each scope that binds it, where that is.
+// The last comes first, so that of two bindings in one scope the first one's place stays.
 fn note(places: &mut [u16; SCOPES], bindings: &[u64; BINDINGS], from: usize, to: usize, name: u16)
     requires { ⌜ (from ≤ to) × (to ≤ BINDINGS) × (length (now bindings) ≡ BINDINGS) × (length (now places) ≡ SCOPES) ⌝ }
-    ensures { λ r. ⌜ (length (now (places .exit)) ≡ SCOPES) × ((count : ℕ) → to ≤ count → count ≤ BINDINGS → Noted (now (bindings .entry)) name to count (now (places .entry)) → Noted (now (bindings .entry)) name from count (now (places .exit))) ⌝ }
+    ensures { λ r. ⌜ NotesFrom places bindings from to name ⌝ }
 {
     let key = name as u64;
     let mut j = to;
@@ -99,7 +100,8 @@ fn wide16(x: u16) -> usize
     x as usize
 }
 
-// Looked for in scope i, then in its parent, `left` scopes at most; `places` has the place in each.
+// The nearest binding of a name, when `places` says where each scope binds it: that of scope i, else of its parent, and so on,
+// over `left` scopes at most. BINDINGS where none of them does.
 fn climb<'a>(
     live: &'a [bool; SCOPES],
     parent: &'a [u8; SCOPES],
@@ -107,7 +109,7 @@ fn climb<'a>(
     i: usize,
     left: usize,
 ) -> usize
-    ensures { λ r. ⌜ ((bindings : List ℕ) (count name : ℕ) → Placed bindings count name (now (places .entry)) → Climbs (now (live .entry)) (now (parent .entry)) bindings count name i left r) ⌝ }
+    ensures { λ r. ⌜ ClimbsBy live parent places i left r ⌝ }
 {
     if left == 0 {
         return BINDINGS;
@@ -125,8 +127,8 @@ fn climb<'a>(
     climb(live, parent, places, wide8(parent[i]), left - 1)
 }
 
-// The nearest binding of `name`: looked for in scope i, then in its parent, `left` scopes at most.
-// One walk over the bindings serves all scopes, the last binding first, so that a scope's first place stays.
+// Where the nearest binding of `name` is: looked for in scope i, then in its parent, `left` scopes at most. BINDINGS where there is none.
+// One walk over the bindings notes the places for all scopes; then the parents are climbed.
 pub fn lookup<'a>(
     live: &'a [bool; SCOPES],
     parent: &'a [u8; SCOPES],

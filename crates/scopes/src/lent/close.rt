@@ -2,7 +2,7 @@
 ghost use Rattle.rules.specs.Sizes.{base};
 ghost use Rattle.rules.specs.Scopes as rule;
 ghost use Rattle.scopes.specs.View.{idOf, toldOnly};
-ghost use Rattle.scopes.specs.Lent.{made, withSlots, Whole, Becomes, Lives, Empties, Shuts};
+ghost use Rattle.scopes.specs.Lent.{withSlots, slotArrays, wholeNow, Whole, Lives, WholeLives, LentEmpties, WholeShuts, WholeBecomes};
 use crate::LentOutcome;
 use crate::NO_PARENT;
 use crate::Numbers;
@@ -30,7 +30,7 @@ pub fn empty(
     i: usize,
 ) -> Numbers
     requires { ⌜ ((s : Scopes) × Whole (withSlots s (now halves) (now links) (now owner) n) × Lives s i) ⌝ }
-    ensures { λ r. ⌜ ((s : Scopes) → Lives s i → Empties (withSlots s (now (halves .entry)) (now (links .entry)) (now (owner .entry)) n) i (withSlots s (now (halves .exit)) (now (links .exit)) (now (owner .exit)) r)) ⌝ }
+    ensures { λ r. ⌜ LentEmpties (slotArrays halves links owner) n i r ⌝ }
 {
     let e = SLOTS + i;
     let mut head = n.head;
@@ -60,8 +60,8 @@ pub fn close(
     n: Numbers,
     i: usize,
 ) -> LentOutcome
-    requires { ⌜ Whole (made (now halves) (now links) (now owner) (now live) (now dangled) (now parent) (now number) (now bindings) n) × Lives (made (now halves) (now links) (now owner) (now live) (now dangled) (now parent) (now number) (now bindings) n) i ⌝ }
-    ensures { λ r. ⌜ Shuts (made (now (halves .entry)) (now (links .entry)) (now (owner .entry)) (now (live .entry)) (now (dangled .entry)) (now (parent .entry)) (now (number .entry)) (now (bindings .entry)) n) i (made (now (halves .exit)) (now (links .exit)) (now (owner .exit)) (now (live .exit)) (now (dangled .exit)) (now (parent .exit)) (now (number .exit)) (now (bindings .exit)) (r .numbers)) (r .reply) ⌝ }
+    requires { ⌜ WholeLives (wholeNow halves links owner live dangled parent number bindings n) i ⌝ }
+    ensures { λ r. ⌜ WholeShuts halves links owner live dangled parent number bindings n i r ⌝ }
 {
     if leaves::has_child(live, parent, i) {
         return LentOutcome {
@@ -95,8 +95,8 @@ pub fn pop(
     n: Numbers,
     id: ScopeId,
 ) -> LentOutcome
-    requires { ⌜ Whole (made (now halves) (now links) (now owner) (now live) (now dangled) (now parent) (now number) (now bindings) n) ⌝ }
-    ensures { λ r. ⌜ Becomes (made (now (halves .entry)) (now (links .entry)) (now (owner .entry)) (now (live .entry)) (now (dangled .entry)) (now (parent .entry)) (now (number .entry)) (now (bindings .entry)) n) (made (now (halves .exit)) (now (links .exit)) (now (owner .exit)) (now (live .exit)) (now (dangled .exit)) (now (parent .exit)) (now (number .exit)) (now (bindings .exit)) (r .numbers)) (r .reply) (λ c. toldOnly c (rule.popScope base (rule.byId base c (idOf id)) c)) ⌝ }
+    requires { ⌜ Whole (wholeNow halves links owner live dangled parent number bindings n) ⌝ }
+    ensures { λ r. ⌜ WholeBecomes halves links owner live dangled parent number bindings n r (λ c. toldOnly c (rule.popScope base (rule.byId base c (idOf id)) c)) ⌝ }
 {
     let no = open::refusal(live, dangled, number, id, false);
     if no != 0 {
@@ -132,8 +132,8 @@ pub fn pop_last(
     bindings: &mut [u64; BINDINGS],
     n: Numbers,
 ) -> LentOutcome
-    requires { ⌜ Whole (made (now halves) (now links) (now owner) (now live) (now dangled) (now parent) (now number) (now bindings) n) ⌝ }
-    ensures { λ r. ⌜ Becomes (made (now (halves .entry)) (now (links .entry)) (now (owner .entry)) (now (live .entry)) (now (dangled .entry)) (now (parent .entry)) (now (number .entry)) (now (bindings .entry)) n) (made (now (halves .exit)) (now (links .exit)) (now (owner .exit)) (now (live .exit)) (now (dangled .exit)) (now (parent .exit)) (now (number .exit)) (now (bindings .exit)) (r .numbers)) (r .reply) (λ c. toldOnly c (rule.popLastScope base c)) ⌝ }
+    requires { ⌜ Whole (wholeNow halves links owner live dangled parent number bindings n) ⌝ }
+    ensures { λ r. ⌜ WholeBecomes halves links owner live dangled parent number bindings n r (λ c. toldOnly c (rule.popLastScope base c)) ⌝ }
 {
     let top = n.top;
     if top == SCOPES {

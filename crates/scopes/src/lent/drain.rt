@@ -1,9 +1,8 @@
 // The dangling list is handed out.
 ghost use mathlib.Core.Path.{_≡_};
-ghost use Prim.Native.Nat.{ℕ, _≤_};
-ghost use lib.ListN.{length, getD};
+ghost use lib.ListN.{length};
 ghost use Rattle.rules.specs.Sizes.{SLOTS};
-ghost use Rattle.scopes.specs.Lent.{numbersOf, withSlots, Whole, Drains};
+ghost use Rattle.scopes.specs.Lent.{onLists, Whole, LentDrains, KeepsFrom};
 use crate::OF_NOBODY;
 use crate::Scopes;
 use rules::DANGLING;
@@ -15,9 +14,9 @@ const END: usize = SLOTS + DANGLING;
 
 // The dangling list goes into `out`, in order, and is empty then; `out` stays as it was from there on. How many there were.
 pub fn drain(links: &mut [u16; LINKS], owner: &mut [u8; SLOTS], out: &mut [u16; SLOTS]) -> usize
-    requires { ⌜ ((s : Scopes) × Whole (withSlots s (s .halves) (now links) (now owner) (numbersOf s)) × (length (now out) ≡ SLOTS)) ⌝ }
-    ensures { λ r. ⌜ ((s : Scopes) → Drains (withSlots s (s .halves) (now (links .entry)) (now (owner .entry)) (numbersOf s)) (withSlots s (s .halves) (now (links .exit)) (now (owner .exit)) (numbersOf s)) r (now (out .exit))) ⌝ }
-    ensures { λ r. ⌜ ((k : ℕ) → r ≤ k → getD (now (out .exit)) k 0 ≡ getD (now (out .entry)) k 0) × (length (now (out .exit)) ≡ SLOTS) × (r ≤ SLOTS) ⌝ }
+    requires { ⌜ ((s : Scopes) × Whole (onLists s (now links) (now owner)) × (length (now out) ≡ SLOTS)) ⌝ }
+    ensures { λ r. ⌜ LentDrains links owner r out ⌝ }
+    ensures { λ r. ⌜ KeepsFrom out r ⌝ }
 {
     let mut n: usize = 0;
     let mut a = links::first(links, DANGLING);

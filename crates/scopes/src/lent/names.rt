@@ -1,9 +1,8 @@
 // Names are bound in the top scope, and looked for from there up to root.
-ghost use mathlib.Core.Path.{_≡_};
 ghost use Rattle.rules.specs.Sizes.{base};
 ghost use Rattle.rules.specs.Scopes as rule;
-ghost use Rattle.scopes.specs.View.{view, bound, told, toldOnly, replied};
-ghost use Rattle.scopes.specs.Lent.{withScopes, withNames, Whole, Becomes};
+ghost use Rattle.scopes.specs.View.{bound, told, toldOnly, replied};
+ghost use Rattle.scopes.specs.Lent.{withNames, onNames, nameArrays, bindingArrays, Whole, Replies, LentBecomes};
 use crate::HandleNumber;
 use crate::LentOutcome;
 use crate::Numbers;
@@ -22,8 +21,8 @@ pub fn get<'a>(
     n: Numbers,
     name: u16,
 ) -> Reply
-    requires { ⌜ ((s : Scopes) × Whole (withNames (withScopes s (now live) (s .dangled) (now parent) (s .number) n) (now bindings) n)) ⌝ }
-    ensures { λ r. ⌜ ((s : Scopes) → Whole (withNames (withScopes s (now (live .entry)) (s .dangled) (now (parent .entry)) (s .number) n) (now (bindings .entry)) n) → r ≡ replied bound (rule.getName base name (view (withNames (withScopes s (now (live .entry)) (s .dangled) (now (parent .entry)) (s .number) n) (now (bindings .entry)) n)))) ⌝ }
+    requires { ⌜ ((s : Scopes) × Whole (onNames s (now live) (now parent) (now bindings) n)) ⌝ }
+    ensures { λ r. ⌜ ((s : Scopes) → Replies (nameArrays live parent bindings .entry s n) r (λ c. replied bound (rule.getName base name c))) ⌝ }
 {
     let top = n.top;
     if top == SCOPES {
@@ -48,8 +47,8 @@ pub fn take<'a>(
     n: Numbers,
     name: u16,
 ) -> LentOutcome
-    requires { ⌜ ((s : Scopes) × Whole (withNames (withScopes s (now live) (s .dangled) (now parent) (s .number) n) (now bindings) n)) ⌝ }
-    ensures { λ r. ⌜ ((s : Scopes) → Becomes (withNames (withScopes s (now (live .entry)) (s .dangled) (now (parent .entry)) (s .number) n) (now (bindings .entry)) n) (withNames (withScopes s (now (live .entry)) (s .dangled) (now (parent .entry)) (s .number) n) (now (bindings .exit)) (r .numbers)) (r .reply) (λ c. told bound c (rule.takeName base name c))) ⌝ }
+    requires { ⌜ ((s : Scopes) × Whole (onNames s (now live) (now parent) (now bindings) n)) ⌝ }
+    ensures { λ r. ⌜ LentBecomes (nameArrays live parent bindings) n r (λ c. told bound c (rule.takeName base name c)) ⌝ }
 {
     let top = n.top;
     if top == SCOPES {
@@ -88,7 +87,7 @@ pub fn define(
     handle: HandleNumber,
 ) -> LentOutcome
     requires { ⌜ ((s : Scopes) × Whole (withNames s (now bindings) n)) ⌝ }
-    ensures { λ r. ⌜ ((s : Scopes) → Becomes (withNames s (now (bindings .entry)) n) (withNames s (now (bindings .exit)) (r .numbers)) (r .reply) (λ c. toldOnly c (rule.defineName base name (address .0) (handle .0) c))) ⌝ }
+    ensures { λ r. ⌜ LentBecomes (bindingArrays bindings) n r (λ c. toldOnly c (rule.defineName base name (address .0) (handle .0) c)) ⌝ }
 {
     let count = n.count;
     if n.top == SCOPES {

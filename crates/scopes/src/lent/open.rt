@@ -4,7 +4,7 @@ ghost use Rattle.rules.specs.Notation.{refuse_unless_};
 ghost use Rattle.rules.specs.Sizes.{base};
 ghost use Rattle.rules.specs.Scopes as rule;
 ghost use Rattle.scopes.specs.View.{view, idOf, opened, told, toldOnly, replied};
-ghost use Rattle.scopes.specs.Lent.{numbersOf, withScopes, Whole, Becomes};
+ghost use Rattle.scopes.specs.Lent.{withScopes, childArrays, dangleArrays, restoreArrays, numberedIn, Whole, LentBecomes};
 use crate::LentOutcome;
 use crate::Numbers;
 use crate::Reply;
@@ -21,7 +21,7 @@ pub fn child(
     n: Numbers,
 ) -> LentOutcome
     requires { ⌜ ((s : Scopes) × Whole (withScopes s (now live) (s .dangled) (now parent) (now number) n)) ⌝ }
-    ensures { λ r. ⌜ ((s : Scopes) → Becomes (withScopes s (now (live .entry)) (s .dangled) (now (parent .entry)) (now (number .entry)) n) (withScopes s (now (live .exit)) (s .dangled) (now (parent .exit)) (now (number .exit)) (r .numbers)) (r .reply) (λ c. told opened c (rule.openChild base c))) ⌝ }
+    ensures { λ r. ⌜ LentBecomes (childArrays live parent number) n r (λ c. told opened c (rule.openChild base c)) ⌝ }
 {
     let top = n.top;
     if top == SCOPES {
@@ -63,7 +63,7 @@ pub fn dangle<'a>(
     id: ScopeId,
 ) -> LentOutcome
     requires { ⌜ ((s : Scopes) × Whole (withScopes s (now live) (now dangled) (now parent) (now number) n)) ⌝ }
-    ensures { λ r. ⌜ ((s : Scopes) → Becomes (withScopes s (now (live .entry)) (now (dangled .entry)) (now (parent .entry)) (now (number .entry)) n) (withScopes s (now (live .entry)) (now (dangled .exit)) (now (parent .entry)) (now (number .entry)) (r .numbers)) (r .reply) (λ c. toldOnly c (rule.dangleScope (rule.byId base c (idOf id)) c))) ⌝ }
+    ensures { λ r. ⌜ LentBecomes (dangleArrays live dangled parent number) n r (λ c. toldOnly c (rule.dangleScope (rule.byId base c (idOf id)) c)) ⌝ }
 {
     let no = open::refusal(live, dangled, number, id, false);
     if no != 0 {
@@ -91,7 +91,7 @@ pub fn restore<'a>(
     id: ScopeId,
 ) -> LentOutcome
     requires { ⌜ ((s : Scopes) × Whole (withScopes s (now live) (now dangled) (s .parent) (now number) n)) ⌝ }
-    ensures { λ r. ⌜ ((s : Scopes) → Becomes (withScopes s (now (live .entry)) (now (dangled .entry)) (s .parent) (now (number .entry)) n) (withScopes s (now (live .entry)) (now (dangled .exit)) (s .parent) (now (number .entry)) (r .numbers)) (r .reply) (λ c. toldOnly c (rule.restoreScope (rule.byId base c (idOf id)) c))) ⌝ }
+    ensures { λ r. ⌜ LentBecomes (restoreArrays live dangled number) n r (λ c. toldOnly c (rule.restoreScope (rule.byId base c (idOf id)) c)) ⌝ }
 {
     let no = open::refusal(live, dangled, number, id, true);
     if no != 0 {
@@ -112,7 +112,7 @@ pub fn restore<'a>(
 
 // A script names a scope by its number: the id of the one that is meant. 4.
 pub fn numbered<'a>(live: &'a [bool; SCOPES], number: &'a [u32; SCOPES], m: u32) -> Reply
-    ensures { λ r. ⌜ ((s : Scopes) → r ≡ replied (λ k. opened (rule.idOf k)) (refuse 4 unless (rule.byNumber base (view (withScopes s (now (live .entry)) (s .dangled) (s .parent) (now (number .entry)) (numbersOf s))) m))) ⌝ }
+    ensures { λ r. ⌜ ((s : Scopes) → r ≡ replied (λ k. opened (rule.idOf k)) (refuse 4 unless (rule.byNumber base (view (numberedIn s live number)) m))) ⌝ }
 {
     let i = open::with_number(live, number, m);
     if i == SCOPES {

@@ -5,7 +5,8 @@ ghost use Rattle.rules.specs.Needs.{giveBack};
 ghost use Rattle.slots.specs.Halves.{occ};
 ghost use Rattle.slots.specs.Spots.{placementOf, Vacant};
 ghost use Rattle.scopes.specs.View.{idOf, at, atFirst, told, toldOnly};
-ghost use Rattle.scopes.specs.Lent.{withSlots, withScopes, numbersOf, Whole, Becomes, LentBecomes, Lives, LentTakes, AllotsAt, AllotsIn, TopOwns};
+ghost use Rattle.scopes.specs.Lent.{numbersOf, withSlots, onAllots, slotArrays, allotArrays, Whole, Lives, TopOwnsOn};
+ghost use Rattle.scopes.specs.Lent.{LentBecomes, LentTakes, AllotsAt, AllotsIn, LentReleases};
 use crate::LentOutcome;
 use crate::Numbers;
 use crate::OF_DANGLING;
@@ -34,7 +35,7 @@ pub fn take_run(
     many: usize,
 )
     requires { ⌜ ((s : Scopes) × Whole (withSlots s (now halves) (now links) (now owner) (numbersOf s)) × Lives s k × Vacant (occ (now halves)) a many) ⌝ }
-    ensures { λ r. ⌜ LentTakes halves links owner k a many ⌝ }
+    ensures { λ r. ⌜ LentTakes (slotArrays halves links owner) k a many ⌝ }
 {
     let end = a + many;
     let mut b = a;
@@ -57,7 +58,7 @@ pub fn alloc_at(
     place: Place,
 ) -> LentOutcome
     requires { ⌜ ((s : Scopes) × Whole (withSlots s (now halves) (now links) (now owner) n) × Lives s k × (0 < many) × (many < 65536)) ⌝ }
-    ensures { λ r. ⌜ AllotsAt halves links owner n k many (placementOf place) r ⌝ }
+    ensures { λ r. ⌜ AllotsAt (slotArrays halves links owner) n k many (placementOf place) r ⌝ }
 {
     let spot = spots::choose(halves, n.segments, n.head, place, many);
     let a = spot.address;
@@ -90,7 +91,7 @@ pub fn alloc(
     place: Place,
 ) -> LentOutcome
     requires { ⌜ ((s : Scopes) × Whole (withSlots s (now halves) (now links) (now owner) n)) ⌝ }
-    ensures { λ r. ⌜ LentBecomes halves links owner n r (λ c. told at c (rule.allocTop (placementOf place) c)) ⌝ }
+    ensures { λ r. ⌜ LentBecomes (slotArrays halves links owner) n r (λ c. told at c (rule.allocTop (placementOf place) c)) ⌝ }
 {
     let top = n.top;
     if top == SCOPES {
@@ -113,8 +114,8 @@ pub fn alloc_in<'a>(
     id: ScopeId,
     place: Place,
 ) -> LentOutcome
-    requires { ⌜ ((s : Scopes) × Whole (withSlots (withScopes s (now live) (s .dangled) (s .parent) (now number) n) (now halves) (now links) (now owner) n)) ⌝ }
-    ensures { λ r. ⌜ AllotsIn halves links owner live number n (idOf id) (placementOf place) r ⌝ }
+    requires { ⌜ ((s : Scopes) × Whole (onAllots s (now halves) (now links) (now owner) (now live) (now number) n)) ⌝ }
+    ensures { λ r. ⌜ AllotsIn (allotArrays halves links owner live number) n (idOf id) (placementOf place) r ⌝ }
 {
     let i = open::place_of(live, number, id);
     if i == SCOPES {
@@ -136,7 +137,7 @@ pub fn alloc_run(
     place: Place,
 ) -> LentOutcome
     requires { ⌜ ((s : Scopes) × Whole (withSlots s (now halves) (now links) (now owner) n)) ⌝ }
-    ensures { λ r. ⌜ LentBecomes halves links owner n r (λ c. told atFirst c (rule.allocRun (placementOf place) many c)) ⌝ }
+    ensures { λ r. ⌜ LentBecomes (slotArrays halves links owner) n r (λ c. told atFirst c (rule.allocRun (placementOf place) many c)) ⌝ }
 {
     let top = n.top;
     let m = many as usize;
@@ -164,8 +165,8 @@ pub fn release(
     a: usize,
     dangles: bool,
 ) -> Numbers
-    requires { ⌜ ((s : Scopes) × Whole (withSlots s (now halves) (now links) (now owner) n) × TopOwns (withSlots s (now halves) (now links) (now owner) n) a) ⌝ }
-    ensures { λ r. ⌜ ((s : Scopes) → TopOwns (withSlots s (now (halves .entry)) (now (links .entry)) (now (owner .entry)) n) a → Becomes (withSlots s (now (halves .entry)) (now (links .entry)) (now (owner .entry)) n) (withSlots s (now (halves .exit)) (now (links .exit)) (now (owner .exit)) r) Reply.Done (λ c. toldOnly c (giveBack dangles a c))) ⌝ }
+    requires { ⌜ TopOwnsOn halves links owner n a ⌝ }
+    ensures { λ r. ⌜ LentReleases (slotArrays halves links owner) n a r (λ c. toldOnly c (giveBack dangles a c)) ⌝ }
 {
     let left = Numbers {
         count: n.count,
@@ -196,7 +197,7 @@ pub fn give_back(
     dangles: bool,
 ) -> LentOutcome
     requires { ⌜ ((s : Scopes) × Whole (withSlots s (now halves) (now links) (now owner) n)) ⌝ }
-    ensures { λ r. ⌜ LentBecomes halves links owner n r (λ c. toldOnly c (giveBack dangles (a .0) c)) ⌝ }
+    ensures { λ r. ⌜ LentBecomes (slotArrays halves links owner) n r (λ c. toldOnly c (giveBack dangles (a .0) c)) ⌝ }
 {
     let x = a.0 as usize;
     let top = n.top;
