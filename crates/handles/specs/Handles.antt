@@ -7,11 +7,13 @@ use mathlib.Core.List.{List}
 use Prim.Native.Nat.{ℕ, _+_, _*_, _/_, _%_, _≤_, _<_}
 use lib.ListN.{getD}
 use lib.Dec.{eqb}
+use denote.Ref.{now}
 use Rattle.rules.specs.Sizes.{SLOTS, WORD, COUNTERS}
 use Rattle.rules.specs.Scopes.{Id, Scopes}
 use Rattle.rules.specs.Needs.{Kind, local, dangling, assigned, freed, scope}
 use Rattle.rules.specs.Frames.{Handle, noNeed, State}
 use Rattle.scopes.specs.declared.ScopeId.{ScopeId}
+use Rattle.scopes.specs.Lent.{LentArray}
 use Rattle.needs.specs.declared.AddressKind.{AddressKind}
 use Rattle.needs.specs.declared.AddressKind.the-variants as kind
 use Rattle.needs.specs.Kinds.{kindOf}
@@ -108,3 +110,7 @@ pub record Hands (handles handles′ holders holders′ : List ℕ) (handed n a 
   pub others : (g : ℕ) → (g < handed) ⊎ (handed + n ≤ g) → getD handles′ g 0 ≡ getD handles g 0
   pub holds : (i : ℕ) → i < n → getD holders′ (a + i) 0 ≡ handed + i
   pub held-others : (b : ℕ) → (b < a) ⊎ (a + n ≤ b) → getD holders′ b 0 ≡ getD holders b 0
+
+-- .. in the lent tables
+abbrev pub HandsOut : (handles holders : LentArray ℕ) → (handed n a : ℕ) → Kind → Type 0
+HandsOut handles holders handed n a kind = Hands (now (handles .entry)) (now (handles .exit)) (now (holders .entry)) (now (holders .exit)) handed n a kind

@@ -10,7 +10,7 @@ ghost use Rattle.rules.specs.Sizes.{HANDLES, SLOTS};
 ghost use Rattle.slots.specs.Halves.{occ};
 ghost use Rattle.scopes.specs.View.{idOf};
 ghost use Rattle.needs.specs.Kinds.{kindOf};
-ghost use Rattle.handles.specs.Handles.{Coded, kindCoded, codeOfKind, idOfKind, freedAs, Hands};
+ghost use Rattle.handles.specs.Handles.{Coded, kindCoded, codeOfKind, idOfKind, freedAs, HandsOut};
 use needs::Address;
 use needs::AddressKind;
 use rules::COUNTERS;
@@ -175,7 +175,7 @@ pub fn grant(
     kind: AddressKind,
 )
     requires { ⌜ (handed + n ≤ HANDLES) × (a + n ≤ SLOTS) × (length (now handles) ≡ HANDLES) × (length (now holders) ≡ SLOTS) ⌝ }
-    ensures { λ _. ⌜ Hands (now (handles .entry)) (now (handles .exit)) (now (holders .entry)) (now (holders .exit)) handed n a (kindOf kind) ⌝ }
+    ensures { λ _. ⌜ HandsOut handles holders handed n a (kindOf kind) ⌝ }
     ensures { λ _. ⌜ (length (now (handles .exit)) ≡ HANDLES) × (length (now (holders .exit)) ≡ SLOTS) ⌝ }
 {
     let mut i: usize = 0;
