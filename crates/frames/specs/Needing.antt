@@ -16,15 +16,16 @@ use Rattle.rules.proofs.Sound.{NeedsSound}
 use Rattle.scopes.specs.declared.Numbers.{Numbers}
 use Rattle.scopes.specs.declared.Scopes.{Scopes}
 use Rattle.scopes.specs.View.{view}
-use Rattle.scopes.specs.Lent.{Whole, LentArray}
+use Rattle.scopes.specs.Lent.{onAllots, Whole, LentArray, LentArrays, allotArrays}
 use Rattle.needs.specs.declared.OutputAnswer.{OutputAnswer}
 use Rattle.needs.specs.declared.OutputAnswer.the-variants as output
 use Rattle.handles.specs.Handles.{handleAt}
 use Rattle.handles.specs.NeedTable.{rememberedAt, Needing, table, stateWith}
-use Rattle.frames.specs.Steps.{nowhere, stepped, Few, Stands, Reached, onAllots, onFrees, allotsIn, allotsOut, freesIn, freesOut}
+use Rattle.frames.specs.Steps.{nowhere, stepped, Few, Stands, Reached, onFrees, freeArrays}
 use Rattle.frames.specs.declared.steps.Adds.{Adds}
 use Rattle.frames.specs.declared.steps.Adds.the-variants.{One, Refused}
 use Rattle.frames.specs.declared.steps.Stepped.{Stepped}
+use Rattle.frames.specs.declared.needing.Noted.{Noted}
 
 -- ---- steps
 
@@ -102,29 +103,45 @@ StandsFreesWith halves links owner number n handles holders handed needs remembe
 -- a step over the arrays of an allocation, and the needs
 abbrev pub AllotsBeside : Placement → rules.Frame → ℕ → (halves links owner : LentArray ℕ) → LentArray Bool → LentArray ℕ → Numbers → (handles holders : LentArray ℕ) → ℕ → (needs remembers : LentArray ℕ) → ℕ → Stepped → Type 0
 AllotsBeside place f o halves links owner live number n handles holders handed needs remembers needed r =
-    (s : Scopes) → LeadsWithBy place f o (allotsIn s halves links owner live number n) (allotsOut s halves links owner live number (r .numbers))
+    let lent : LentArrays = allotArrays halves links owner live number in
+    (s : Scopes) → LeadsWithBy place f o (lent .entry s n) (lent .exit s (r .numbers))
     (now (handles .entry)) (now (holders .entry)) handed (tableIn needs remembers needed) r (now (handles .exit)) (now (holders .exit)) (tableOut needs remembers needed)
 
--- a step over the arrays of a freeing, which leaves the holders; the needs become t′
-abbrev pub FreesBeside : rules.Frame → ℕ → (halves links owner number : LentArray ℕ) → Numbers → (handles holders : LentArray ℕ) → ℕ → Needing → Stepped → Needing → Type 0
-FreesBeside f o halves links owner number n handles holders handed t r t′ =
-    (s : Scopes) → LeadsWith f o (freesIn s halves links owner number n) (freesOut s halves links owner number (r .numbers))
-    (now (handles .entry)) (now (holders .entry)) handed t r (now (handles .exit)) (now (holders .entry)) t′
+-- a step over the arrays of a freeing, which leaves the holders: the needs become t′, or stay, or are changed too
+abbrev pub LentFreesWith : rules.Frame → ℕ → LentArrays → Numbers → (handles holders : LentArray ℕ) → ℕ → Needing → Stepped → Needing → Type 0
+LentFreesWith f o lent n handles holders handed t r t′ =
+    (s : Scopes) → LeadsWith f o (lent .entry s n) (lent .exit s (r .numbers)) (now (handles .entry)) (now (holders .entry)) handed t r (now (handles .exit)) (now (holders .entry)) t′
 
--- a step that changes the handle table alone
-abbrev pub Forgets : rules.Frame → ℕ → Scopes → LentArray ℕ → List ℕ → ℕ → Needing → Adds → Type 0
-Forgets f o s handles holders handed t adds =
-    StandsWith s (now (handles .entry)) holders handed t → (drained : List ℕ)
+abbrev pub FreesBeside : rules.Frame → ℕ → (halves links owner number : LentArray ℕ) → Numbers → (handles holders : LentArray ℕ) → ℕ → (needs remembers : LentArray ℕ) → ℕ → Stepped → Type 0
+FreesBeside f o halves links owner number n handles holders handed needs remembers needed r =
+    LentFreesWith f o (freeArrays halves links owner number) n handles holders handed (tableIn needs remembers needed) r (tableIn needs remembers needed)
+
+abbrev pub FreesNeed : rules.Frame → ℕ → (halves links owner number : LentArray ℕ) → Numbers → (handles holders : LentArray ℕ) → ℕ → (needs remembers : LentArray ℕ) → ℕ → Stepped → Type 0
+FreesNeed f o halves links owner number n handles holders handed needs remembers needed r =
+    LentFreesWith f o (freeArrays halves links owner number) n handles holders handed (tableIn needs remembers needed) r (tableOut needs remembers needed)
+
+-- a step that changes the handle table alone, whatever the state and the holders are
+abbrev pub Forgets : rules.Frame → ℕ → LentArray ℕ → ℕ → (needs remembers : LentArray ℕ) → ℕ → Adds → Type 0
+Forgets f o handles handed needs remembers needed adds =
+    let t : Needing = tableIn needs remembers needed in
+    (s : Scopes) (holders : List ℕ) → StandsWith s (now (handles .entry)) holders handed t → (drained : List ℕ)
     → WorksWith nowhere f o s (now (handles .entry)) holders handed t (record { state = s; handed = handed; adds = adds }) (now (handles .exit)) holders t drained
 
--- a step that makes a need, whatever handles there are
-abbrev pub Notes : rules.Frame → ℕ → Scopes → Needing → Adds → Needing → Type 0
-Notes f o s t adds t′ = (handles holders : List ℕ) (handed : ℕ) → Makes f o s handles holders handed t adds t′
+-- one more need was asked for, in the lent tables
+abbrev pub NeedAdded : Remembered → (needs remembers : LentArray ℕ) → ℕ → Noted → Type 0
+NeedAdded x needs remembers needed r = AddsNeed x (tableIn needs remembers needed) (r .adds) (tableOut needs remembers (r .needed))
 
--- a step that makes a need of a handle
-abbrev pub NotesHandle : rules.Frame → ℕ → LentArray ℕ → ℕ → Needing → Adds → Needing → Type 0
-NotesHandle f o handles handed t adds t′ = (s : Scopes) (holders : List ℕ) → Makes f o s (now (handles .entry)) holders handed t adds t′
+-- a step that makes a need: in the lent tables, and there whatever handles there are, or of a handle
+abbrev pub MakesNeed : rules.Frame → ℕ → Scopes → List ℕ → List ℕ → ℕ → (needs remembers : LentArray ℕ) → ℕ → Noted → Type 0
+MakesNeed f o s handles holders handed needs remembers needed r = Makes f o s handles holders handed (tableIn needs remembers needed) (r .adds) (tableOut needs remembers (r .needed))
+
+abbrev pub Notes : rules.Frame → ℕ → Scopes → (needs remembers : LentArray ℕ) → ℕ → Noted → Type 0
+Notes f o s needs remembers needed r = (handles holders : List ℕ) (handed : ℕ) → MakesNeed f o s handles holders handed needs remembers needed r
+
+abbrev pub NotesHandle : rules.Frame → ℕ → LentArray ℕ → ℕ → (needs remembers : LentArray ℕ) → ℕ → Noted → Type 0
+NotesHandle f o handles handed needs remembers needed r = (s : Scopes) (holders : List ℕ) → MakesNeed f o s (now (handles .entry)) holders handed needs remembers needed r
 
 -- a step that asks a need
 abbrev pub Asks : rules.Frame → ℕ → LentArray ℕ → ℕ → Adds → Type 0
-Asks f o needs needed adds = (s : Scopes) (remembers : List ℕ) → let t : Needing = table (now (needs .entry)) remembers needed in Notes f o s t adds t
+Asks f o needs needed adds =
+    (s : Scopes) (remembers : List ℕ) → let t : Needing = table (now (needs .entry)) remembers needed in (handles holders : List ℕ) (handed : ℕ) → Makes f o s handles holders handed t adds t

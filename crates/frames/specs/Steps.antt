@@ -20,7 +20,7 @@ use Rattle.scopes.specs.declared.Numbers.{Numbers}
 use Rattle.scopes.specs.declared.Reply.{Reply}
 use Rattle.scopes.specs.declared.Reply.the-variants as reply
 use Rattle.scopes.specs.View.{view, idOf}
-use Rattle.scopes.specs.Lent.{numbersOf, made, Whole, LentArray, slotsIn, slotsOut}
+use Rattle.scopes.specs.Lent.{numbersOf, made, withSlots, onAllots, onNames, Whole, LentArray, LentArrays, slotArrays, allotArrays, wholeIn, wholeOut}
 use Rattle.slots.specs.declared.SlotAddress.{SlotAddress}
 use Rattle.needs.specs.Kinds.{kindOf}
 use Rattle.needs.specs.declared.AddressKind.{AddressKind}
@@ -154,40 +154,28 @@ freedThen o m = m >>= λ t. oneLine (shows o []) t
 abbrev pub onHalves : Scopes → List ℕ → Scopes
 onHalves s halves = made halves (s .links) (s .owner) (s .live) (s .dangled) (s .parent) (s .number) (s .bindings) (numbersOf s)
 
-abbrev pub onNumbered : Scopes → List Bool → List ℕ → Scopes
-onNumbered s live number = made (s .halves) (s .links) (s .owner) live (s .dangled) (s .parent) number (s .bindings) (numbersOf s)
-
-abbrev pub onAllots : Scopes → (halves links owner : List ℕ) (live : List Bool) (number : List ℕ) → Numbers → Scopes
-onAllots s halves links owner live number n = made halves links owner live (s .dangled) (s .parent) number (s .bindings) n
-
 abbrev pub onFrees : Scopes → (halves links owner number : List ℕ) → Numbers → Scopes
 onFrees s halves links owner number n = made halves links owner (s .live) (s .dangled) (s .parent) number (s .bindings) n
-
-abbrev pub onNames : Scopes → List Bool → (parent bindings : List ℕ) → Numbers → Scopes
-onNames s live parent bindings n = made (s .halves) (s .links) (s .owner) live (s .dangled) parent (s .number) bindings n
 
 abbrev pub onCells : Scopes → List ℕ → List Bool → (parent bindings : List ℕ) → Numbers → Scopes
 onCells s halves live parent bindings n = made halves (s .links) (s .owner) live (s .dangled) parent (s .number) bindings n
 
 -- ---- over the lent arrays themselves, each at entry and at exit
 
--- the state s with the arrays of a group, as it came in and as it is left
-abbrev pub numberedIn : Scopes → LentArray Bool → LentArray ℕ → Scopes
-numberedIn s live number = onNumbered s (now (live .entry)) (now (number .entry))
+-- the arrays of a freeing, of which the numbers are read only
+abbrev pub freeArrays : (halves links owner number : LentArray ℕ) → LentArrays
+freeArrays halves links owner number =
+    record {
+      entry = λ s n. onFrees s (now (halves .entry)) (now (links .entry)) (now (owner .entry)) (now (number .entry)) n;
+      exit = λ s n. onFrees s (now (halves .exit)) (now (links .exit)) (now (owner .exit)) (now (number .entry)) n;
+    }
 
-abbrev pub allotsIn : Scopes → (halves links owner : LentArray ℕ) → LentArray Bool → LentArray ℕ → Numbers → Scopes
-allotsIn s halves links owner live number n =
-    onAllots s (now (halves .entry)) (now (links .entry)) (now (owner .entry)) (now (live .entry)) (now (number .entry)) n
+-- the state s with arrays that are read only
+abbrev pub halvesIn : Scopes → LentArray ℕ → Scopes
+halvesIn s halves = onHalves s (now (halves .entry))
 
-abbrev pub allotsOut : Scopes → (halves links owner : LentArray ℕ) → LentArray Bool → LentArray ℕ → Numbers → Scopes
-allotsOut s halves links owner live number n =
-    onAllots s (now (halves .exit)) (now (links .exit)) (now (owner .exit)) (now (live .entry)) (now (number .entry)) n
-
-abbrev pub freesIn : Scopes → (halves links owner number : LentArray ℕ) → Numbers → Scopes
-freesIn s halves links owner number n = onFrees s (now (halves .entry)) (now (links .entry)) (now (owner .entry)) (now (number .entry)) n
-
-abbrev pub freesOut : Scopes → (halves links owner number : LentArray ℕ) → Numbers → Scopes
-freesOut s halves links owner number n = onFrees s (now (halves .exit)) (now (links .exit)) (now (owner .exit)) (now (number .entry)) n
+abbrev pub cellsIn : Scopes → LentArray ℕ → LentArray Bool → (parent bindings : LentArray ℕ) → Numbers → Scopes
+cellsIn s halves live parent bindings n = onCells s (now (halves .entry)) (now (live .entry)) (now (parent .entry)) (now (bindings .entry)) n
 
 -- ---- what is asked where the state doesn't matter
 pub record Tables (handles : List ℕ) (handed : ℕ) : Type 0 where
@@ -203,10 +191,39 @@ LeadsBy place f o s t handles holders handed r handles′ holders′ =
 abbrev pub Leads : rules.Frame → ℕ → Scopes → Scopes → List ℕ → List ℕ → ℕ → Stepped → List ℕ → List ℕ → Type 0
 Leads f o s t handles holders handed r handles′ holders′ = LeadsBy nowhere f o s t handles holders handed r handles′ holders′
 
+-- .. over lent arrays: it leaves the tables alone
+abbrev pub LeadsAlone : rules.Frame → ℕ → LentArrays → Numbers → ℕ → Stepped → Type 0
+LeadsAlone f o lent n handed r = (s : Scopes) (handles holders : List ℕ) → Leads f o (lent .entry s n) (lent .exit s (r .numbers)) handles holders handed r handles holders
+
+-- .. or it reads the handles
+abbrev pub LeadsFrom : rules.Frame → ℕ → LentArrays → Numbers → LentArray ℕ → ℕ → Stepped → Type 0
+LeadsFrom f o lent n handles handed r =
+    (s : Scopes) (holders : List ℕ) → Leads f o (lent .entry s n) (lent .exit s (r .numbers)) (now (handles .entry)) holders handed r (now (handles .entry)) holders
+
+-- .. over all arrays of a state: it leaves the tables alone
+abbrev pub LeadsWhole : rules.Frame → ℕ → (halves links owner : LentArray ℕ) (live dangled : LentArray Bool) (parent number bindings : LentArray ℕ) → Numbers → ℕ → Stepped → Type 0
+LeadsWhole f o halves links owner live dangled parent number bindings n handed r =
+    (handles holders : List ℕ)
+    → Leads f o (wholeIn halves links owner live dangled parent number bindings n) (wholeOut halves links owner live dangled parent number bindings (r .numbers)) handles holders handed r handles holders
+
 -- the state, the holders and the count of handles stay
 abbrev pub Stays : rules.Frame → ℕ → Scopes → List ℕ → List ℕ → ℕ → Adds → List ℕ → Type 0
 Stays f o s handles holders handed adds handles′ =
     Stands s handles holders handed → (drained : List ℕ) → Works nowhere f o s handles holders handed (record { state = s; handed = handed; adds = adds }) handles′ holders drained
+
+-- .. and the tables are left alone
+abbrev pub StaysAlone : rules.Frame → ℕ → Scopes → Adds → Type 0
+StaysAlone f o s adds = (handles holders : List ℕ) (handed : ℕ) → Stays f o s handles holders handed adds handles
+
+-- .. over the lent tables: it reads both, or changes the handles, or changes them whatever the state and the holders are
+abbrev pub StaysReading : rules.Frame → ℕ → Scopes → (handles holders : LentArray ℕ) → ℕ → Adds → Type 0
+StaysReading f o s handles holders handed adds = Stays f o s (now (handles .entry)) (now (holders .entry)) handed adds (now (handles .entry))
+
+abbrev pub StaysMarking : rules.Frame → ℕ → Scopes → (handles holders : LentArray ℕ) → ℕ → Adds → Type 0
+StaysMarking f o s handles holders handed adds = Stays f o s (now (handles .entry)) (now (holders .entry)) handed adds (now (handles .exit))
+
+abbrev pub MarksHandles : rules.Frame → ℕ → LentArray ℕ → ℕ → Adds → Type 0
+MarksHandles f o handles handed adds = (s : Scopes) (holders : List ℕ) → Stays f o s (now (handles .entry)) holders handed adds (now (handles .exit))
 
 -- by the id r the rules find what they find by the number n; there is none where its index is 255
 pub record Means (s : Scopes) (n : ℕ) (r : ScopeId) : Type 0 where
@@ -227,9 +244,19 @@ pub record Grants (y : Reply) (handed n : ℕ) (k : AddressKind) (handed′ : �
   pub handles-length : length handles′ ≡ HANDLES
   pub holders-length : length holders′ ≡ SLOTS
 
+-- .. in the lent tables
+abbrev pub GrantsOut : Reply → (handed n : ℕ) → AddressKind → Stepped → (handles holders : LentArray ℕ) → Type 0
+GrantsOut y handed n k r handles holders = Grants y handed n k (r .handed) (r .adds) (now (handles .entry)) (now (handles .exit)) (now (holders .entry)) (now (holders .exit))
+
 -- the frame f, of opcode o, loads what handle h holds: 14, 15
 abbrev pub LoadsOf : rules.Frame → ℕ → Scopes → List ℕ → List ℕ → ℕ → ℕ → Type 0
 LoadsOf f o s handles holders handed h = rules.step base nowhere (stateOf (view s) handles holders handed) f ≡ loading o (stateOf (view s) handles holders handed) h
+
+-- the step of whatever frame does that, over the lent arrays
+abbrev pub LoadsOn : (halves handles holders : LentArray ℕ) → (handed h : ℕ) → Adds → Type 0
+LoadsOn halves handles holders handed h adds =
+    (f : rules.Frame) (o : ℕ) (s : Scopes) → LoadsOf f o (halvesIn s halves) (now (handles .entry)) (now (holders .entry)) handed h
+    → StaysReading f o (halvesIn s halves) handles holders handed adds
 
 -- one slot was asked for in the scope of that id; the handle that was handed out is the next one, and of that scope
 pub record AllotsOne (place : Placement) (id : scope.Id) (s : Scopes) (handles holders : List ℕ) (handed : ℕ) (r : Reached) (handles′ holders′ : List ℕ) : Type 0 where
@@ -239,9 +266,10 @@ pub record AllotsOne (place : Placement) (id : scope.Id) (s : Scopes) (handles h
 -- .. over the lent arrays
 abbrev pub AllotsInScope : Placement → scope.Id → (halves links owner : LentArray ℕ) → LentArray Bool → LentArray ℕ → Numbers → (handles holders : LentArray ℕ) → ℕ → Stepped → Type 0
 AllotsInScope place id halves links owner live number n handles holders handed r =
-    (s : Scopes) → Stands (allotsIn s halves links owner live number n) (now (handles .entry)) (now (holders .entry)) handed
-    → AllotsOne place id (allotsIn s halves links owner live number n) (now (handles .entry)) (now (holders .entry)) handed
-    (record { state = allotsOut s halves links owner live number (r .numbers); handed = r .handed; adds = r .adds }) (now (handles .exit)) (now (holders .exit))
+    let lent : LentArrays = allotArrays halves links owner live number in
+    (s : Scopes) → Stands (lent .entry s n) (now (handles .entry)) (now (holders .entry)) handed
+    → AllotsOne place id (lent .entry s n) (now (handles .entry)) (now (holders .entry)) handed
+    (record { state = lent .exit s (r .numbers); handed = r .handed; adds = r .adds }) (now (handles .exit)) (now (holders .exit))
 
 -- something was freed by m, which may be refused
 abbrev pub Frees : (rules.State → Answer rules.State) → Scopes → Scopes → (handles holders : LentArray ℕ) → ℕ → Stepped → Type 0
@@ -249,25 +277,33 @@ Frees m s t handles holders handed r =
     Stands s (now (handles .entry)) (now (holders .entry)) handed → (o : ℕ) (drained : List ℕ)
     → Comes (freedThen o (m (stateOf (view s) (now (handles .entry)) (now (holders .entry)) handed))) o (record { state = t; handed = r .handed; adds = r .adds }) (now (handles .exit)) (now (holders .entry)) drained
 
--- .. over the lent arrays
-abbrev pub FreesBy : (rules.State → Answer rules.State) → (halves links owner number : LentArray ℕ) → Numbers → (handles holders : LentArray ℕ) → ℕ → Stepped → Type 0
-FreesBy m halves links owner number n handles holders handed r =
-    (s : Scopes) → Frees m (freesIn s halves links owner number n) (freesOut s halves links owner number (r .numbers)) handles holders handed r
+-- .. over the lent arrays, and over those of a freeing
+abbrev pub LentFrees : (rules.State → Answer rules.State) → LentArrays → Numbers → (handles holders : LentArray ℕ) → ℕ → Stepped → Type 0
+LentFrees m lent n handles holders handed r = (s : Scopes) → Frees m (lent .entry s n) (lent .exit s (r .numbers)) handles holders handed r
 
--- a step over the lent arrays of slots, of an allocation, and of a freeing, which leaves the holders
+abbrev pub FreesBy : (rules.State → Answer rules.State) → (halves links owner number : LentArray ℕ) → Numbers → (handles holders : LentArray ℕ) → ℕ → Stepped → Type 0
+FreesBy m halves links owner number n handles holders handed r = LentFrees m (freeArrays halves links owner number) n handles holders handed r
+
+-- a step over lent arrays and tables: over those of the slots, of an allocation, and of a freeing, which leaves the holders
+abbrev pub LentLeads : Placement → rules.Frame → ℕ → LentArrays → Numbers → (handles holders : LentArray ℕ) → ℕ → Stepped → Type 0
+LentLeads place f o lent n handles holders handed r =
+    (s : Scopes) → LeadsBy place f o (lent .entry s n) (lent .exit s (r .numbers)) (now (handles .entry)) (now (holders .entry)) handed r (now (handles .exit)) (now (holders .exit))
+
 abbrev pub LeadsSlots : Placement → rules.Frame → ℕ → (halves links owner : LentArray ℕ) → Numbers → (handles holders : LentArray ℕ) → ℕ → Stepped → Type 0
-LeadsSlots place f o halves links owner n handles holders handed r =
-    (s : Scopes) → LeadsBy place f o (slotsIn s halves links owner n) (slotsOut s halves links owner (r .numbers)) (now (handles .entry)) (now (holders .entry)) handed r (now (handles .exit)) (now (holders .exit))
+LeadsSlots place f o halves links owner n handles holders handed r = LentLeads place f o (slotArrays halves links owner) n handles holders handed r
 
 abbrev pub LeadsAllots : Placement → rules.Frame → ℕ → (halves links owner : LentArray ℕ) → LentArray Bool → LentArray ℕ → Numbers → (handles holders : LentArray ℕ) → ℕ → Stepped → Type 0
-LeadsAllots place f o halves links owner live number n handles holders handed r =
-    (s : Scopes) → LeadsBy place f o (allotsIn s halves links owner live number n) (allotsOut s halves links owner live number (r .numbers)) (now (handles .entry)) (now (holders .entry)) handed r (now (handles .exit)) (now (holders .exit))
+LeadsAllots place f o halves links owner live number n handles holders handed r = LentLeads place f o (allotArrays halves links owner live number) n handles holders handed r
 
 abbrev pub LeadsFrees : rules.Frame → ℕ → (halves links owner number : LentArray ℕ) → Numbers → (handles holders : LentArray ℕ) → ℕ → Stepped → Type 0
 LeadsFrees f o halves links owner number n handles holders handed r =
-    (s : Scopes) → Leads f o (freesIn s halves links owner number n) (freesOut s halves links owner number (r .numbers)) (now (handles .entry)) (now (holders .entry)) handed r (now (handles .exit)) (now (holders .entry))
+    let lent : LentArrays = freeArrays halves links owner number in
+    (s : Scopes) → Leads f o (lent .entry s n) (lent .exit s (r .numbers)) (now (handles .entry)) (now (holders .entry)) handed r (now (handles .exit)) (now (holders .entry))
 
--- there is a state with the arrays of an allocation, or of a freeing, in which a script stands
+-- there is a state with the arrays of the slots, of an allocation, of a freeing, of names or of cells, in which a script stands
+abbrev pub StandsSlots : (halves links owner : RefT (List ℕ)) → Numbers → (handles holders : RefT (List ℕ)) → ℕ → Type 0
+StandsSlots halves links owner n handles holders handed = (s : Scopes) × Stands (withSlots s (now halves) (now links) (now owner) n) (now handles) (now holders) handed
+
 abbrev pub StandsAllots : (halves links owner : RefT (List ℕ)) → RefT (List Bool) → RefT (List ℕ) → Numbers → (handles holders : RefT (List ℕ)) → ℕ → Type 0
 StandsAllots halves links owner live number n handles holders handed =
     (s : Scopes) × Stands (onAllots s (now halves) (now links) (now owner) (now live) (now number) n) (now handles) (now holders) handed
@@ -275,6 +311,13 @@ StandsAllots halves links owner live number n handles holders handed =
 abbrev pub StandsFrees : (halves links owner number : RefT (List ℕ)) → Numbers → (handles holders : RefT (List ℕ)) → ℕ → Type 0
 StandsFrees halves links owner number n handles holders handed =
     (s : Scopes) × Stands (onFrees s (now halves) (now links) (now owner) (now number) n) (now handles) (now holders) handed
+
+abbrev pub StandsNames : RefT (List Bool) → (parent bindings : RefT (List ℕ)) → Numbers → RefT (List ℕ) → ℕ → Type 0
+StandsNames live parent bindings n handles handed = (s : Scopes) × ((holders : List ℕ) × Stands (onNames s (now live) (now parent) (now bindings) n) (now handles) holders handed)
+
+abbrev pub StandsCells : RefT (List ℕ) → RefT (List Bool) → (parent bindings : RefT (List ℕ)) → Numbers → (handles holders : RefT (List ℕ)) → ℕ → Type 0
+StandsCells halves live parent bindings n handles holders handed =
+    (s : Scopes) × Stands (onCells s (now halves) (now live) (now parent) (now bindings) n) (now handles) (now holders) handed
 
 -- the handle h was handed out, and is known as x
 abbrev pub KnownAs : List ℕ → ℕ → ℕ → Handle → Type 0

@@ -5,9 +5,8 @@ ghost use lib.ListN.{length};
 ghost use Rattle.rules.specs.Sizes.{HANDLES, SLOTS};
 ghost use Rattle.rules.specs.Frames as frame;
 ghost use Rattle.scopes.specs.View.{idOf};
-ghost use Rattle.scopes.specs.Lent.{withSlots};
 ghost use Rattle.slots.specs.Spots.{placementOf};
-ghost use Rattle.frames.specs.Steps.{slotOr, Stands, StandsAllots, LeadsSlots, LeadsAllots, AllotsInScope, Grants};
+ghost use Rattle.frames.specs.Steps.{slotOr, StandsSlots, StandsAllots, LeadsSlots, LeadsAllots, AllotsInScope, GrantsOut};
 use crate::steps::Adds;
 use crate::steps::Stepped;
 use crate::steps::adds_of;
@@ -25,7 +24,6 @@ use scopes::LentOutcome;
 use scopes::Numbers;
 use scopes::Reply;
 use scopes::ScopeId;
-use scopes::Scopes;
 use scopes::lent::place as lent;
 use scopes::open;
 use slots::Place;
@@ -56,7 +54,7 @@ fn granted(
 ) -> Stepped
     requires { ⌜ (handed + many ≤ HANDLES) × (length (now handles) ≡ HANDLES) × (length (now holders) ≡ SLOTS) ⌝ }
     requires { ⌜ ((a : SlotAddress) → o .reply ≡ Reply.At a → (a .0 < SLOTS) × (a .0 + many ≤ SLOTS)) ⌝ }
-    ensures { λ r. ⌜ (r .numbers ≡ o .numbers) × Grants (o .reply) handed many kind (r .handed) (r .adds) (now (handles .entry)) (now (handles .exit)) (now (holders .entry)) (now (holders .exit)) ⌝ }
+    ensures { λ r. ⌜ (r .numbers ≡ o .numbers) × GrantsOut (o .reply) handed many kind r handles holders ⌝ }
 {
     let n = o.numbers;
     let reply = o.reply;
@@ -87,7 +85,7 @@ pub fn alloc(
     handed: usize,
     place: Place,
 ) -> Stepped
-    requires { ⌜ ((s : Scopes) × Stands (withSlots s (now halves) (now links) (now owner) n) (now handles) (now holders) handed) ⌝ }
+    requires { ⌜ StandsSlots halves links owner n handles holders handed ⌝ }
     ensures { λ r. ⌜ LeadsSlots (placementOf place) frame.alloc 0x06 halves links owner n handles holders handed r ⌝ }
 {
     let top = n.top;
@@ -172,7 +170,7 @@ pub fn linear(
     k: u16,
     place: Place,
 ) -> Stepped
-    requires { ⌜ ((s : Scopes) × Stands (withSlots s (now halves) (now links) (now owner) n) (now handles) (now holders) handed) ⌝ }
+    requires { ⌜ StandsSlots halves links owner n handles holders handed ⌝ }
     ensures { λ r. ⌜ LeadsSlots (placementOf place) (frame.linear k) 0x08 halves links owner n handles holders handed r ⌝ }
 {
     let top = n.top;

@@ -2,7 +2,7 @@
 ghost use mathlib.Core.Path.{_≡_};
 ghost use Prim.Native.Nat.{ℕ, _<_};
 ghost use Rattle.rules.specs.Frames as frame;
-ghost use Rattle.frames.specs.Steps.{handleOr, sourceOf, onHalves, onCells, Stands, Stays, LoadsOf};
+ghost use Rattle.frames.specs.Steps.{handleOr, sourceOf, onHalves, halvesIn, cellsIn, Stands, StandsCells, StaysReading, StaysMarking, LoadsOn};
 use crate::steps::Adds;
 use crate::steps::Source;
 use crate::steps::adds_of;
@@ -32,7 +32,7 @@ pub fn write(
     x: Source,
 ) -> Adds
     requires { ⌜ ((s : Scopes) × Stands (onHalves s (now halves)) (now handles) (now holders) handed) ⌝ }
-    ensures { λ r. ⌜ ((o : ℕ) (s : Scopes) → Stays (frame.write (h .0) (sourceOf x)) o (onHalves s (now (halves .entry))) (now (handles .entry)) (now (holders .entry)) handed r (now (handles .exit))) ⌝ }
+    ensures { λ r. ⌜ ((o : ℕ) (s : Scopes) → StaysMarking (frame.write (h .0) (sourceOf x)) o (halvesIn s halves) handles holders handed r) ⌝ }
 {
     let i = h.0 as usize;
     if handed <= i {
@@ -62,7 +62,7 @@ fn load(
     h: HandleNumber,
 ) -> Adds
     requires { ⌜ ((s : Scopes) × Stands (onHalves s (now halves)) (now handles) (now holders) handed) × (h .0 < handed) ⌝ }
-    ensures { λ r. ⌜ ((f : frame.Frame) (o : ℕ) (s : Scopes) → LoadsOf f o (onHalves s (now (halves .entry))) (now (handles .entry)) (now (holders .entry)) handed (h .0) → Stays f o (onHalves s (now (halves .entry))) (now (handles .entry)) (now (holders .entry)) handed r (now (handles .entry))) ⌝ }
+    ensures { λ r. ⌜ LoadsOn halves handles holders handed (h .0) r ⌝ }
 {
     let i = h.0 as usize;
     let x = unpacked(handles[i]);
@@ -88,7 +88,7 @@ pub fn read(
     h: HandleNumber,
 ) -> Adds
     requires { ⌜ ((s : Scopes) × Stands (onHalves s (now halves)) (now handles) (now holders) handed) ⌝ }
-    ensures { λ r. ⌜ ((s : Scopes) → Stays (frame.read (h .0)) 0x11 (onHalves s (now (halves .entry))) (now (handles .entry)) (now (holders .entry)) handed r (now (handles .entry))) ⌝ }
+    ensures { λ r. ⌜ ((s : Scopes) → StaysReading (frame.read (h .0)) 0x11 (halvesIn s halves) handles holders handed r) ⌝ }
 {
     let i = h.0 as usize;
     if handed <= i {
@@ -126,8 +126,8 @@ pub fn read_name<'a>(
     handed: usize,
     name: u16,
 ) -> Adds
-    requires { ⌜ ((s : Scopes) × Stands (onCells s (now halves) (now live) (now parent) (now bindings) n) (now handles) (now holders) handed) ⌝ }
-    ensures { λ r. ⌜ ((s : Scopes) → Stays (frame.readName name) 0x12 (onCells s (now (halves .entry)) (now (live .entry)) (now (parent .entry)) (now (bindings .entry)) n) (now (handles .entry)) (now (holders .entry)) handed r (now (handles .entry))) ⌝ }
+    requires { ⌜ StandsCells halves live parent bindings n handles holders handed ⌝ }
+    ensures { λ r. ⌜ ((s : Scopes) → StaysReading (frame.readName name) 0x12 (cellsIn s halves live parent bindings n) handles holders handed r) ⌝ }
 {
     let reply = names::get(live, parent, bindings, n, name);
     let k = handle_or(reply);

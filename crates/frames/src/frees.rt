@@ -1,10 +1,8 @@
 // 0c free, 0d free without dangling, 0e forget.
-ghost use mathlib.Core.List.{List};
-ghost use Prim.Native.Nat.{ℕ};
 ghost use Rattle.rules.specs.Frames as frame;
-ghost use Rattle.scopes.specs.Lent.{withSlots, slotsIn, slotsOut};
+ghost use Rattle.scopes.specs.Lent.{slotArrays};
 ghost use Rattle.needs.specs.Kinds.{kindOf};
-ghost use Rattle.frames.specs.Steps.{freeing, freeCode, Tables, KnownAs, Stands, StandsFrees, Stays, LeadsFrees, Frees, FreesBy};
+ghost use Rattle.frames.specs.Steps.{freeing, freeCode, Tables, KnownAs, StandsSlots, StandsFrees, MarksHandles, LeadsFrees, LentFrees, FreesBy};
 use crate::steps::Adds;
 use crate::steps::Stepped;
 use crate::steps::ended;
@@ -24,7 +22,6 @@ use rules::SCOPES;
 use rules::SLOTS;
 use scopes::HandleNumber;
 use scopes::Numbers;
-use scopes::Scopes;
 use scopes::lent::place;
 
 // The slot of h, which is known as x, goes back: 14, 12.
@@ -40,8 +37,8 @@ fn hand_back(
     x: Handle,
     dangles: bool,
 ) -> Stepped
-    requires { ⌜ ((s : Scopes) × Stands (withSlots s (now halves) (now links) (now owner) n) (now handles) (now holders) handed) × KnownAs (now handles) handed (h .0) x ⌝ }
-    ensures { λ r. ⌜ ((s : Scopes) → Frees (frame.handBack dangles (h .0)) (slotsIn s halves links owner n) (slotsOut s halves links owner (r .numbers)) handles holders handed r) ⌝ }
+    requires { ⌜ StandsSlots halves links owner n handles holders handed × KnownAs (now handles) handed (h .0) x ⌝ }
+    ensures { λ r. ⌜ LentFrees (frame.handBack dangles (h .0)) (slotArrays halves links owner) n handles holders handed r ⌝ }
 {
     let address = x.address;
     let slot = address.slot;
@@ -151,7 +148,7 @@ pub fn free(
 // 13.
 pub fn forget(handles: &mut [u64; HANDLES], handed: usize, h: HandleNumber) -> Adds
     requires { ⌜ Tables (now handles) handed ⌝ }
-    ensures { λ r. ⌜ ((s : Scopes) (holders : List ℕ) → Stays (frame.forget (h .0)) 0x0e s (now (handles .entry)) holders handed r (now (handles .exit))) ⌝ }
+    ensures { λ r. ⌜ MarksHandles (frame.forget (h .0)) 0x0e handles handed r ⌝ }
 {
     let i = h.0 as usize;
     if handed <= i {

@@ -2,8 +2,8 @@
 ghost use mathlib.Core.List.{List};
 ghost use Prim.Native.Nat.{ℕ};
 ghost use Rattle.rules.specs.Frames as frame;
-ghost use Rattle.scopes.specs.Lent.{withNames, Whole};
-ghost use Rattle.frames.specs.Steps.{onNames, Stands, Leads, Stays};
+ghost use Rattle.scopes.specs.Lent.{withNames, onNames, nameArrays, bindingArrays, Whole};
+ghost use Rattle.frames.specs.Steps.{Stands, LeadsAlone, LeadsFrom, StaysAlone};
 use crate::steps::Adds;
 use crate::steps::Stepped;
 use crate::steps::adds_of;
@@ -29,7 +29,7 @@ pub fn define(
     h: HandleNumber,
 ) -> Stepped
     requires { ⌜ ((s : Scopes) × ((holders : List ℕ) × Stands (withNames s (now bindings) n) (now handles) holders handed)) ⌝ }
-    ensures { λ r. ⌜ ((s : Scopes) (holders : List ℕ) → Leads (frame.define name (h .0)) 0x09 (withNames s (now (bindings .entry)) n) (withNames s (now (bindings .exit)) (r .numbers)) (now (handles .entry)) holders handed r (now (handles .entry)) holders) ⌝ }
+    ensures { λ r. ⌜ LeadsFrom (frame.define name (h .0)) 0x09 (bindingArrays bindings) n handles handed r ⌝ }
 {
     let top = n.top;
     if top == SCOPES {
@@ -58,7 +58,7 @@ pub fn get<'a>(
     name: u16,
 ) -> Adds
     requires { ⌜ ((s : Scopes) × Whole (onNames s (now live) (now parent) (now bindings) n)) ⌝ }
-    ensures { λ r. ⌜ ((s : Scopes) (handles holders : List ℕ) (handed : ℕ) → Stays (frame.get name) 0x0a (onNames s (now (live .entry)) (now (parent .entry)) (now (bindings .entry)) n) handles holders handed r handles) ⌝ }
+    ensures { λ r. ⌜ ((s : Scopes) → StaysAlone (frame.get name) 0x0a (nameArrays live parent bindings .entry s n) r) ⌝ }
 {
     let reply = names::get(live, parent, bindings, n, name);
     adds_of(reply)
@@ -74,7 +74,7 @@ pub fn take<'a>(
     name: u16,
 ) -> Stepped
     requires { ⌜ ((s : Scopes) × Whole (onNames s (now live) (now parent) (now bindings) n)) ⌝ }
-    ensures { λ r. ⌜ ((s : Scopes) (handles holders : List ℕ) → Leads (frame.takeFrom name) 0x0b (onNames s (now (live .entry)) (now (parent .entry)) (now (bindings .entry)) n) (onNames s (now (live .entry)) (now (parent .entry)) (now (bindings .exit)) (r .numbers)) handles holders handed r handles holders) ⌝ }
+    ensures { λ r. ⌜ LeadsAlone (frame.takeFrom name) 0x0b (nameArrays live parent bindings) n handed r ⌝ }
 {
     let o = names::take(live, parent, bindings, n, name);
     ended(o, handed)

@@ -5,8 +5,9 @@ ghost use Rattle.rules.specs.Sizes.{NEEDS};
 ghost use Rattle.rules.specs.Frames as frame;
 ghost use Rattle.needs.specs.Kinds.{needOf};
 ghost use Rattle.handles.specs.NeedTable.{needIn, SizedNeeds};
-ghost use Rattle.frames.specs.Steps.{numberedIn, Tables};
-ghost use Rattle.frames.specs.Needing.{Notes, NotesHandle, Asks, AddsNeed, shownOf, tableIn, tableOut};
+ghost use Rattle.scopes.specs.Lent.{numberedIn};
+ghost use Rattle.frames.specs.Steps.{Tables};
+ghost use Rattle.frames.specs.Needing.{Notes, NotesHandle, Asks, NeedAdded, shownOf};
 use crate::steps::Adds;
 use crate::steps::meant;
 use handles::remembered;
@@ -39,7 +40,7 @@ fn add(
     h: u16,
 ) -> Noted
     requires { ⌜ SizedNeeds (now needs) (now remembers) needed ⌝ }
-    ensures { λ r. ⌜ AddsNeed (record { need = needIn b; handle = h }) (tableIn needs remembers needed) (r .adds) (tableOut needs remembers (r .needed)) ⌝ }
+    ensures { λ r. ⌜ NeedAdded (record { need = needIn b; handle = h }) needs remembers needed r ⌝ }
 {
     if NEEDS <= needed {
         return Noted {
@@ -65,7 +66,7 @@ pub fn defer<'a>(
     k: u16,
 ) -> Noted
     requires { ⌜ SizedNeeds (now needs) (now remembers) needed ⌝ }
-    ensures { λ r. ⌜ ((s : Scopes) → Notes (frame.newDefer k) 0x20 (numberedIn s live number) (tableIn needs remembers needed) (r .adds) (tableOut needs remembers (r .needed))) ⌝ }
+    ensures { λ r. ⌜ ((s : Scopes) → Notes (frame.newDefer k) 0x20 (numberedIn s live number) needs remembers needed r) ⌝ }
 {
     let id = meant(live, number, k);
     if id.index == 255 {
@@ -88,7 +89,7 @@ pub fn assigned(
     h: HandleNumber,
 ) -> Noted
     requires { ⌜ Tables (now handles) handed × SizedNeeds (now needs) (now remembers) needed ⌝ }
-    ensures { λ r. ⌜ NotesHandle (frame.newAssigned (h .0)) 0x21 handles handed (tableIn needs remembers needed) (r .adds) (tableOut needs remembers (r .needed)) ⌝ }
+    ensures { λ r. ⌜ NotesHandle (frame.newAssigned (h .0)) 0x21 handles handed needs remembers needed r ⌝ }
 {
     let i = h.0 as usize;
     if handed <= i {
@@ -107,7 +108,7 @@ pub fn assigned(
 // 22.
 pub fn ignore(needs: &mut [u64; NEEDS], remembers: &mut [u16; NEEDS], needed: usize) -> Noted
     requires { ⌜ SizedNeeds (now needs) (now remembers) needed ⌝ }
-    ensures { λ r. ⌜ ((s : Scopes) → Notes frame.newIgnore 0x22 s (tableIn needs remembers needed) (r .adds) (tableOut needs remembers (r .needed))) ⌝ }
+    ensures { λ r. ⌜ ((s : Scopes) → Notes frame.newIgnore 0x22 s needs remembers needed r) ⌝ }
 {
     add(needs, remembers, needed, remembered::IGNORE, 0)
 }

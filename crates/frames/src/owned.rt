@@ -1,8 +1,7 @@
 // 23 allocate need, 25 free need; and 0c, 0d, 0e beside needs: what concerns a handle that belongs to a need.
 ghost use mathlib.Core.Path.{_≡_};
 ghost use mathlib.Core.Bool.{true};
-ghost use mathlib.Core.List.{List};
-ghost use Prim.Native.Nat.{ℕ, _<_};
+ghost use Prim.Native.Nat.{_<_};
 ghost use lib.ListN.{getD};
 ghost use Rattle.rules.specs.Needs as rule;
 ghost use Rattle.rules.specs.Frames as frame;
@@ -11,7 +10,7 @@ ghost use Rattle.needs.specs.Kinds.{kindOf, needOf};
 ghost use Rattle.handles.specs.NeedTable.{needIn, SizedNeeds};
 ghost use Rattle.slots.specs.Spots.{placementOf};
 ghost use Rattle.frames.specs.Steps.{freeing, freeCode, isRefused, Tables, StandsFrees, FreesBy};
-ghost use Rattle.frames.specs.Needing.{needKind, StandsAllotsWith, StandsFreesWith, AllotsBeside, FreesBeside, Forgets, tableIn, tableOut};
+ghost use Rattle.frames.specs.Needing.{needKind, StandsAllotsWith, StandsFreesWith, AllotsBeside, FreesBeside, FreesNeed, Forgets};
 use crate::allots::alloc_in_scope;
 use crate::frees;
 use crate::needing::is_gone;
@@ -34,7 +33,6 @@ use rules::SLOTS;
 use scopes::HandleNumber;
 use scopes::Numbers;
 use scopes::ScopeId;
-use scopes::Scopes;
 use slots::Place;
 
 // ---- 0c, 0d, 0e beside needs: 13 also where the handle belongs to one
@@ -55,7 +53,7 @@ pub fn free_beside<'a>(
     dangles: bool,
 ) -> Stepped
     requires { ⌜ StandsFreesWith halves links owner number n handles holders handed needs remembers needed ⌝ }
-    ensures { λ r. ⌜ FreesBeside (freeing dangles (h .0)) (freeCode dangles) halves links owner number n handles holders handed (tableIn needs remembers needed) r (tableIn needs remembers needed) ⌝ }
+    ensures { λ r. ⌜ FreesBeside (freeing dangles (h .0)) (freeCode dangles) halves links owner number n handles holders handed needs remembers needed r ⌝ }
 {
     if belongs(needs, remembers, needed, h) {
         return refused(n, handed, 13);
@@ -83,7 +81,7 @@ pub fn forget_beside<'a>(
     h: HandleNumber,
 ) -> Adds
     requires { ⌜ Tables (now handles) handed × SizedNeeds (now needs) (now remembers) needed ⌝ }
-    ensures { λ r. ⌜ ((s : Scopes) (holders : List ℕ) → Forgets (frame.forget (h .0)) 0x0e s handles holders handed (tableIn needs remembers needed) r) ⌝ }
+    ensures { λ r. ⌜ Forgets (frame.forget (h .0)) 0x0e handles handed needs remembers needed r ⌝ }
 {
     if belongs(needs, remembers, needed, h) {
         return Adds::Refused(13);
@@ -298,7 +296,7 @@ pub fn free_need(
     k: NeedNumber,
 ) -> Stepped
     requires { ⌜ StandsFreesWith halves links owner number n handles holders handed needs remembers needed ⌝ }
-    ensures { λ r. ⌜ FreesBeside (frame.dropNeed (k .0)) 0x25 halves links owner number n handles holders handed (tableIn needs remembers needed) r (tableOut needs remembers needed) ⌝ }
+    ensures { λ r. ⌜ FreesNeed (frame.dropNeed (k .0)) 0x25 halves links owner number n handles holders handed needs remembers needed r ⌝ }
 {
     let i = k.0 as usize;
     if needed <= i {

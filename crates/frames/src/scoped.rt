@@ -1,10 +1,8 @@
 // 01 child, 02 pop, 03 dangle, 04 restore, 05 pop last: frames that leave the tables alone. A handle is held while its slot is occupied
 // and no later handle took it, so closing a scope touches no handle.
-ghost use mathlib.Core.List.{List};
-ghost use Prim.Native.Nat.{ℕ};
 ghost use Rattle.rules.specs.Frames as frame;
-ghost use Rattle.scopes.specs.Lent.{made, withScopes, Whole};
-ghost use Rattle.frames.specs.Steps.{Leads};
+ghost use Rattle.scopes.specs.Lent.{withScopes, wholeNow, childArrays, dangleArrays, restoreArrays, Whole};
+ghost use Rattle.frames.specs.Steps.{LeadsAlone, LeadsWhole};
 use crate::steps::Stepped;
 use crate::steps::ended;
 use crate::steps::meant;
@@ -26,7 +24,7 @@ pub fn child(
     handed: usize,
 ) -> Stepped
     requires { ⌜ ((s : Scopes) × Whole (withScopes s (now live) (s .dangled) (now parent) (now number) n)) ⌝ }
-    ensures { λ r. ⌜ ((s : Scopes) (handles holders : List ℕ) → Leads frame.child 0x01 (withScopes s (now (live .entry)) (s .dangled) (now (parent .entry)) (now (number .entry)) n) (withScopes s (now (live .exit)) (s .dangled) (now (parent .exit)) (now (number .exit)) (r .numbers)) handles holders handed r handles holders) ⌝ }
+    ensures { λ r. ⌜ LeadsAlone frame.child 0x01 (childArrays live parent number) n handed r ⌝ }
 {
     let o = open::child(live, parent, number, n);
     ended(o, handed)
@@ -45,8 +43,8 @@ pub fn pop(
     handed: usize,
     k: u16,
 ) -> Stepped
-    requires { ⌜ Whole (made (now halves) (now links) (now owner) (now live) (now dangled) (now parent) (now number) (now bindings) n) ⌝ }
-    ensures { λ r. ⌜ ((handles holders : List ℕ) → Leads (frame.pop k) 0x02 (made (now (halves .entry)) (now (links .entry)) (now (owner .entry)) (now (live .entry)) (now (dangled .entry)) (now (parent .entry)) (now (number .entry)) (now (bindings .entry)) n) (made (now (halves .exit)) (now (links .exit)) (now (owner .exit)) (now (live .exit)) (now (dangled .exit)) (now (parent .exit)) (now (number .exit)) (now (bindings .exit)) (r .numbers)) handles holders handed r handles holders) ⌝ }
+    requires { ⌜ Whole (wholeNow halves links owner live dangled parent number bindings n) ⌝ }
+    ensures { λ r. ⌜ LeadsWhole (frame.pop k) 0x02 halves links owner live dangled parent number bindings n handed r ⌝ }
 {
     let id = meant(live, number, k);
     let o = close::pop(
@@ -74,7 +72,7 @@ pub fn dangle<'a>(
     k: u16,
 ) -> Stepped
     requires { ⌜ ((s : Scopes) × Whole (withScopes s (now live) (now dangled) (now parent) (now number) n)) ⌝ }
-    ensures { λ r. ⌜ ((s : Scopes) (handles holders : List ℕ) → Leads (frame.dangle k) 0x03 (withScopes s (now (live .entry)) (now (dangled .entry)) (now (parent .entry)) (now (number .entry)) n) (withScopes s (now (live .entry)) (now (dangled .exit)) (now (parent .entry)) (now (number .entry)) (r .numbers)) handles holders handed r handles holders) ⌝ }
+    ensures { λ r. ⌜ LeadsAlone (frame.dangle k) 0x03 (dangleArrays live dangled parent number) n handed r ⌝ }
 {
     let id = meant(live, number, k);
     let o = open::dangle(live, dangled, parent, number, n, id);
@@ -90,7 +88,7 @@ pub fn restore<'a>(
     k: u16,
 ) -> Stepped
     requires { ⌜ ((s : Scopes) × Whole (withScopes s (now live) (now dangled) (s .parent) (now number) n)) ⌝ }
-    ensures { λ r. ⌜ ((s : Scopes) (handles holders : List ℕ) → Leads (frame.restore k) 0x04 (withScopes s (now (live .entry)) (now (dangled .entry)) (s .parent) (now (number .entry)) n) (withScopes s (now (live .entry)) (now (dangled .exit)) (s .parent) (now (number .entry)) (r .numbers)) handles holders handed r handles holders) ⌝ }
+    ensures { λ r. ⌜ LeadsAlone (frame.restore k) 0x04 (restoreArrays live dangled number) n handed r ⌝ }
 {
     let id = meant(live, number, k);
     let o = open::restore(live, dangled, number, n, id);
@@ -109,8 +107,8 @@ pub fn pop_last(
     n: Numbers,
     handed: usize,
 ) -> Stepped
-    requires { ⌜ Whole (made (now halves) (now links) (now owner) (now live) (now dangled) (now parent) (now number) (now bindings) n) ⌝ }
-    ensures { λ r. ⌜ ((handles holders : List ℕ) → Leads frame.popLast 0x05 (made (now (halves .entry)) (now (links .entry)) (now (owner .entry)) (now (live .entry)) (now (dangled .entry)) (now (parent .entry)) (now (number .entry)) (now (bindings .entry)) n) (made (now (halves .exit)) (now (links .exit)) (now (owner .exit)) (now (live .exit)) (now (dangled .exit)) (now (parent .exit)) (now (number .exit)) (now (bindings .exit)) (r .numbers)) handles holders handed r handles holders) ⌝ }
+    requires { ⌜ Whole (wholeNow halves links owner live dangled parent number bindings n) ⌝ }
+    ensures { λ r. ⌜ LeadsWhole frame.popLast 0x05 halves links owner live dangled parent number bindings n handed r ⌝ }
 {
     let o = close::pop_last(
         halves,

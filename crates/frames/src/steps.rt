@@ -1,6 +1,7 @@
 // What a step takes from the state's replies, and what it adds to the list.
 ghost use mathlib.Core.Path.{_≡_};
-ghost use Rattle.frames.specs.Steps.{addsOf, onNumbered, Means};
+ghost use Rattle.scopes.specs.Lent.{numberedIn};
+ghost use Rattle.frames.specs.Steps.{addsOf, Means};
 use rules::SCOPES;
 use scopes::LentOutcome;
 use scopes::Numbers;
@@ -74,7 +75,7 @@ pub fn ended(o: LentOutcome, handed: usize) -> Stepped
 
 // A script names a scope by its number: the id of the one that is meant, or an id that no scope has.
 pub fn meant<'a>(live: &'a [bool; SCOPES], number: &'a [u32; SCOPES], n: u16) -> ScopeId
-    ensures { λ r. ⌜ ((s : Scopes) → Means (onNumbered s (now (live .entry)) (now (number .entry))) n r) ⌝ }
+    ensures { λ r. ⌜ ((s : Scopes) → Means (numberedIn s live number) n r) ⌝ }
 {
     let i = open::with_number(live, number, n as u32);
     if i == SCOPES {

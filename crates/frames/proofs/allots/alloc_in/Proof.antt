@@ -1,7 +1,7 @@
 -- 07 alloc in. Assumes nothing.
 use Rattle.rules.specs.Frames as frame
 use Rattle.scopes.specs.declared.Scopes.{Scopes}
-use Rattle.frames.specs.Steps.{onAllots}
+use Rattle.scopes.specs.Lent.{onAllots}
 use Rattle.frames.proofs.Moving.{works-by}
 use Rattle.frames.proofs.InScope.{by-number}
 use Rattle.frames.proofs.allots.alloc_in.Statement.{statement}

@@ -5,7 +5,7 @@ use Rattle.scopes.specs.declared.Scopes.{Scopes}
 use Rattle.scopes.specs.declared.Outcome.{Outcome}
 use Rattle.scopes.proofs.Finds.{unknown, known}
 use Rattle.needs.specs.declared.AddressKind.the-variants as kind
-use Rattle.frames.specs.Steps.{onAllots}
+use Rattle.scopes.specs.Lent.{onAllots}
 use Rattle.frames.proofs.Allotting.{answered-below}
 use Rattle.frames.proofs.Allocations.{reached-is, made-is}
 use Rattle.frames.proofs.InScope.{in-refused, in-4, in-16, in-seen, in-granted}

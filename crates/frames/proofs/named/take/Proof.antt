@@ -1,7 +1,7 @@
 -- 0b take. Assumes nothing.
 use Rattle.rules.specs.Frames as frame
 use Rattle.scopes.specs.View.{view}
-use Rattle.frames.specs.Steps.{onNames}
+use Rattle.scopes.specs.Lent.{onNames}
 use Rattle.scopes.specs.declared.Scopes.{Scopes}
 use Rattle.scopes.specs.declared.Outcome.{Outcome}
 use Rattle.frames.proofs.Allocations.{reached-is}

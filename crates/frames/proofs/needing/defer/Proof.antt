@@ -9,7 +9,7 @@ use Rattle.rules.proofs.Chains.{unless-none, unless-some}
 use Rattle.rules.specs.Needs as rule
 use Rattle.scopes.specs.declared.Scopes.{Scopes}
 use Rattle.scopes.specs.View.{view}
-use Rattle.frames.specs.Steps.{onNumbered}
+use Rattle.scopes.specs.Lent.{onNumbered}
 use Rattle.frames.proofs.Meant.{meant-some}
 use Rattle.frames.proofs.Allocations.{id-is}
 use Rattle.frames.proofs.needing.defer.Statement.{statement}

@@ -3,7 +3,7 @@ use native.Mathlib.Omega.{arith}
 use mathlib.Core.Path.{refl}
 use Rattle.scopes.specs.View.{view}
 use Rattle.scopes.proofs.Finds.{numbered-none, numbered-is, number-small}
-use Rattle.frames.specs.Steps.{onNumbered}
+use Rattle.scopes.specs.Lent.{onNumbered}
 use Rattle.frames.proofs.Meant.{meant-is, meant-none}
 use Rattle.frames.proofs.steps.meant.Statement.{statement}
 use Rattle.frames.proofs.steps.meant.Tie as tie
