@@ -107,6 +107,15 @@ abbrev pub ClimbsBy : LentArray Bool → (parent places : LentArray ℕ) → (i 
 ClimbsBy live parent places i left r =
     (bindings : List ℕ) (count name : ℕ) → Placed bindings count name (now (places .entry)) → Climbs (now (live .entry)) (now (parent .entry)) bindings count name i left r
 
+-- of `count` bindings those of scope i are gone, and r are left, in their order
+abbrev pub Unbinds : LentArray ℕ → (count i r : ℕ) → Type 0
+Unbinds bindings count i r =
+    (r ≤ count) × (bindingsOf (now (bindings .exit)) r ≡ rule.unbound i (bindingsOf (now (bindings .entry)) count)) × (length (now (bindings .exit)) ≡ BINDINGS)
+
+-- from r on there are zeros, if there were from `count` on
+abbrev pub ClearsFrom : LentArray ℕ → (count r : ℕ) → Type 0
+ClearsFrom bindings count r = ((j : ℕ) → count ≤ j → getD (now (bindings .entry)) j 0 ≡ 0) → (j : ℕ) → r ≤ j → getD (now (bindings .exit)) j 0 ≡ 0
+
 -- the places from `from` up to `to` hold 0, and the others what they held
 pub record Wiped (old : List ℕ) (from to : ℕ) (new : List ℕ) : Type 0 where
   pub long : length new ≡ BINDINGS

@@ -3,13 +3,13 @@ ghost use mathlib.Core.Path.{_≡_};
 ghost use mathlib.Core.Bool.{false};
 ghost use mathlib.Core.Logic.{_≢_};
 ghost use Prim.Native.Nat.{ℕ, _+_, _%_, _≤_, _<_};
-ghost use lib.ListN.{length, getD};
+ghost use lib.ListN.{length};
 ghost use Rattle.rules.specs.Sizes.{base, BINDINGS, SCOPES};
 ghost use Rattle.rules.specs.Scopes as rule;
-ghost use Rattle.scopes.specs.View.{view, binding, bindingsOf, bound, seen, told, toldOnly, replied};
+ghost use Rattle.scopes.specs.View.{view, binding, bound, seen, told, toldOnly, replied};
 ghost use Rattle.scopes.specs.Sound.{Sound};
 ghost use Rattle.scopes.specs.Lent.{withNames};
-ghost use Rattle.scopes.specs.Leaves.{binds, Spot, NotesFrom, ClimbsBy, Climbs, Wiped};
+ghost use Rattle.scopes.specs.Leaves.{binds, Spot, NotesFrom, ClimbsBy, Climbs, Unbinds, ClearsFrom, Wiped};
 use crate::Bound;
 use crate::HandleNumber;
 use crate::LentOutcome;
@@ -184,8 +184,8 @@ pub fn packed(i: usize, name: u16, address: SlotAddress, handle: HandleNumber) -
 // The bindings of scope i go; the others keep their order. How many are left.
 pub fn forget_names(bindings: &mut [u64; BINDINGS], count: usize, i: usize) -> usize
     requires { ⌜ (count ≤ BINDINGS) × (length (now bindings) ≡ BINDINGS) ⌝ }
-    ensures { λ r. ⌜ (r ≤ count) × (bindingsOf (now (bindings .exit)) r ≡ rule.unbound i (bindingsOf (now (bindings .entry)) count)) × (length (now (bindings .exit)) ≡ BINDINGS) ⌝ }
-    ensures { λ r. ⌜ (((j : ℕ) → count ≤ j → getD (now (bindings .entry)) j 0 ≡ 0) → (j : ℕ) → r ≤ j → getD (now (bindings .exit)) j 0 ≡ 0) ⌝ }
+    ensures { λ r. ⌜ Unbinds bindings count i r ⌝ }
+    ensures { λ r. ⌜ ClearsFrom bindings count r ⌝ }
 {
     let mut w: usize = 0;
     let mut j: usize = 0;
