@@ -56,6 +56,10 @@ unfoldable pub loadsIn : List Entry → ℕ
 loadsIn [] = 0
 loadsIn (x ∷ es) = loadsOf x + loadsIn es
 
+-- what the entries print over the front of `out`, which is as it was behind that
+abbrev pub printedOver : List ℕ → List Entry → List ℕ → List ℕ
+printedOver cells es out = obeyText cells es ++ drop (7 * loadsIn es) out
+
 -- an entry's address is within so many bytes of cells
 abbrev pub Reach : ℕ → Entry → Type 0
 Reach m Skip = Unit {0}

@@ -9,14 +9,13 @@ use text::table::pack;
 use text::table::unpack;
 use text::writing::put_line;
 ghost use mathlib.Core.Path.{_≡_};
-ghost use mathlib.Core.List.{_++_};
 ghost use Prim.Native.Nat.{_+_, _*_, _≤_, _<_};
-ghost use lib.ListN.{length, drop};
+ghost use lib.ListN.{length};
 ghost use Rattle.rules.specs.Sizes.{LINES};
 ghost use Rattle.text.specs.Lines.{unpacked};
 ghost use Rattle.text.specs.Writing.{over as overText};
 ghost use Rattle.machine.specs.Entries.{entryFor, entriesOf, loadsOf, takesOf};
-ghost use Rattle.machine.specs.Work.{cellAt, storedOf, printedOf, obeyCells, obeyText, loadsIn, takesIn, fillOf, filledFrom, Reach, Reaches};
+ghost use Rattle.machine.specs.Work.{cellAt, storedOf, printedOf, obeyCells, printedOver, loadsIn, takesIn, fillOf, filledFrom, Reach, Reaches};
 
 // The line's number with sample j, where it takes one: a store like any other.
 fn filled(code: u64, samples: &[u8], j: usize) -> u64
@@ -79,7 +78,7 @@ pub fn obey(table: &[u64], lines: usize, cells: &mut [u8], out: &mut [u8]) -> us
     requires { ⌜ 7 * loadsIn (entriesOf (now table) 0 lines) ≤ length (now out) ⌝ }
     ensures wrote { λ r. ⌜ r ≡ 7 * loadsIn (entriesOf (now (table .entry)) 0 lines) ⌝ }
     ensures stored { λ _. ⌜ now (cells .exit) ≡ obeyCells (now (cells .entry)) (entriesOf (now (table .entry)) 0 lines) ⌝ }
-    ensures printed { λ _. ⌜ now (out .exit) ≡ obeyText (now (cells .entry)) (entriesOf (now (table .entry)) 0 lines) ++ drop (7 * loadsIn (entriesOf (now (table .entry)) 0 lines)) (now (out .entry)) ⌝ }
+    ensures printed { λ _. ⌜ now (out .exit) ≡ printedOver (now (cells .entry)) (entriesOf (now (table .entry)) 0 lines) (now (out .entry)) ⌝ }
 {
     let mut i: usize = 0;
     let mut w: usize = 0;
