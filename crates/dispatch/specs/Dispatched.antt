@@ -12,12 +12,12 @@ use Rattle.rules.specs.Slots.{Placement}
 use Rattle.rules.specs.Frames.{Frame, write}
 use Rattle.scopes.specs.declared.Numbers.{Numbers}
 use Rattle.scopes.specs.declared.Scopes.{Scopes}
-use Rattle.scopes.specs.Lent.{made, LentArray}
+use Rattle.scopes.specs.Lent.{LentArray, LentArrays, allotArrays, nameArrays, numberedIn, wholeNow, wholeIn, wholeOut}
 use Rattle.handles.specs.NeedTable.{table}
 use Rattle.text.specs.Lines.{frameOf}
 use Rattle.text.specs.declared.lines.Frame.{Frame as Code}
-use Rattle.frames.specs.Steps.{sourceOf, onNames, onCells, numberedIn, allotsIn, allotsOut, Works, Leads, Stays, LeadsAllots}
-use Rattle.frames.specs.Needing.{StandsWith, WorksWith, Makes, FreesBeside, tableIn, tableOut}
+use Rattle.frames.specs.Steps.{sourceOf, cellsIn, Works, LeadsFrom, LeadsWhole, LeadsAllots, StaysMarking}
+use Rattle.frames.specs.Needing.{StandsWith, WorksWith, MakesNeed, FreesBeside, tableIn, tableOut}
 use Rattle.frames.specs.declared.needing.Noted.{Noted}
 use Rattle.frames.specs.declared.steps.Source.{Source}
 use Rattle.frames.specs.declared.steps.Adds.{Adds}
@@ -35,19 +35,10 @@ WriteCode o = (o ≡ 0x10) ⊎ (o ≡ 0x14)
 abbrev pub Writes : Code → Source → Type 0
 Writes f x = frameOf f ≡ some (write (f .a) (sourceOf x))
 
--- the state that the lent arrays are, as they came in and as they are left
-abbrev pub wholeIn : (halves links owner : LentArray ℕ) (live dangled : LentArray Bool) (parent number bindings : LentArray ℕ) → Numbers → Scopes
-wholeIn halves links owner live dangled parent number bindings n =
-    made (now (halves .entry)) (now (links .entry)) (now (owner .entry)) (now (live .entry)) (now (dangled .entry)) (now (parent .entry)) (now (number .entry)) (now (bindings .entry)) n
-
-abbrev pub wholeOut : (halves links owner : LentArray ℕ) (live dangled : LentArray Bool) (parent number bindings : LentArray ℕ) → Numbers → Scopes
-wholeOut halves links owner live dangled parent number bindings n =
-    made (now (halves .exit)) (now (links .exit)) (now (owner .exit)) (now (live .exit)) (now (dangled .exit)) (now (parent .exit)) (now (number .exit)) (now (bindings .exit)) n
-
 -- a script with needs stands there, and there is room for the addresses of a drain
 abbrev pub StandsOn : (halves links owner : RefT (List ℕ)) (live dangled : RefT (List Bool)) (parent number bindings : RefT (List ℕ)) → Numbers → (handles holders drained : RefT (List ℕ)) → ℕ → (needs remembers : RefT (List ℕ)) → ℕ → Type 0
 StandsOn halves links owner live dangled parent number bindings n handles holders drained handed needs remembers needed =
-    StandsWith (made (now halves) (now links) (now owner) (now live) (now dangled) (now parent) (now number) (now bindings) n) (now handles) (now holders) handed (table (now needs) (now remembers) needed)
+    StandsWith (wholeNow halves links owner live dangled parent number bindings n) (now handles) (now holders) handed (table (now needs) (now remembers) needed)
     × (length (now drained) ≡ SLOTS)
 
 -- the frame that the record f is leads where the rules say, where slots go by `place`
@@ -69,8 +60,7 @@ PlainOn place f halves links owner live dangled parent number bindings n handles
 -- 01 to 05
 abbrev pub ScopeStep : Code → (halves links owner : LentArray ℕ) (live dangled : LentArray Bool) (parent number bindings : LentArray ℕ) → Numbers → ℕ → Stepped → Type 0
 ScopeStep f halves links owner live dangled parent number bindings n handed r =
-    (g : Frame) → frameOf f ≡ some g → (handles holders : List ℕ)
-    → Leads g (f .opcode) (wholeIn halves links owner live dangled parent number bindings n) (wholeOut halves links owner live dangled parent number bindings (r .numbers)) handles holders handed r handles holders
+    (g : Frame) → frameOf f ≡ some g → LeadsWhole g (f .opcode) halves links owner live dangled parent number bindings n handed r
 
 -- 06 to 08
 abbrev pub AllotStep : Placement → Code → (halves links owner : LentArray ℕ) → LentArray Bool → LentArray ℕ → Numbers → (handles holders : LentArray ℕ) → ℕ → Stepped → Type 0
@@ -78,30 +68,28 @@ AllotStep place f halves links owner live number n handles holders handed r = (g
 
 -- 09 to 0b
 abbrev pub NameStep : Code → LentArray Bool → (parent bindings : LentArray ℕ) → Numbers → LentArray ℕ → ℕ → Stepped → Type 0
-NameStep f live parent bindings n handles handed r =
-    (g : Frame) → frameOf f ≡ some g → (s : Scopes) (holders : List ℕ)
-    → Leads g (f .opcode) (onNames s (now (live .entry)) (now (parent .entry)) (now (bindings .entry)) n) (onNames s (now (live .entry)) (now (parent .entry)) (now (bindings .exit)) (r .numbers)) (now (handles .entry)) holders handed r (now (handles .entry)) holders
+NameStep f live parent bindings n handles handed r = (g : Frame) → frameOf f ≡ some g → LeadsFrom g (f .opcode) (nameArrays live parent bindings) n handles handed r
 
 -- 10 to 12, and 14
 abbrev pub CellStep : Code → LentArray ℕ → LentArray Bool → (parent bindings : LentArray ℕ) → Numbers → (handles holders : LentArray ℕ) → ℕ → Adds → Type 0
 CellStep f halves live parent bindings n handles holders handed adds =
-    (g : Frame) → frameOf f ≡ some g → (s : Scopes)
-    → Stays g (f .opcode) (onCells s (now (halves .entry)) (now (live .entry)) (now (parent .entry)) (now (bindings .entry)) n) (now (handles .entry)) (now (holders .entry)) handed adds (now (handles .exit))
+    (g : Frame) → frameOf f ≡ some g → (s : Scopes) → StaysMarking g (f .opcode) (cellsIn s halves live parent bindings n) handles holders handed adds
 
 -- 0c to 0e
 abbrev pub FreeStep : Code → (halves links owner number : LentArray ℕ) → Numbers → (handles holders : LentArray ℕ) → ℕ → (needs remembers : LentArray ℕ) → ℕ → Stepped → Type 0
 FreeStep f halves links owner number n handles holders handed needs remembers needed r =
-    (g : Frame) → frameOf f ≡ some g → FreesBeside g (f .opcode) halves links owner number n handles holders handed (tableIn needs remembers needed) r (tableIn needs remembers needed)
+    (g : Frame) → frameOf f ≡ some g → FreesBeside g (f .opcode) halves links owner number n handles holders handed needs remembers needed r
 
 -- 20 to 22
 abbrev pub NoteStep : Code → LentArray Bool → LentArray ℕ → LentArray ℕ → ℕ → (needs remembers : LentArray ℕ) → ℕ → Noted → Type 0
 NoteStep f live number handles handed needs remembers needed r =
     (g : Frame) → frameOf f ≡ some g → (s : Scopes) (holders : List ℕ)
-    → Makes g (f .opcode) (numberedIn s live number) (now (handles .entry)) holders handed (tableIn needs remembers needed) (r .adds) (tableOut needs remembers (r .needed))
+    → MakesNeed g (f .opcode) (numberedIn s live number) (now (handles .entry)) holders handed needs remembers needed r
 
 -- 20 to 25
 abbrev pub NeedStep : Placement → Code → (halves links owner : LentArray ℕ) → LentArray Bool → LentArray ℕ → Numbers → (handles holders : LentArray ℕ) → ℕ → (needs remembers : LentArray ℕ) → ℕ → Advance → Type 0
 NeedStep place f halves links owner live number n handles holders handed needs remembers needed r =
-    (g : Frame) → frameOf f ≡ some g → (s : Scopes) → StandsWith (allotsIn s halves links owner live number n) (now (handles .entry)) (now (holders .entry)) handed (tableIn needs remembers needed) → (drained : List ℕ)
-    → WorksWith place g (f .opcode) (allotsIn s halves links owner live number n) (now (handles .entry)) (now (holders .entry)) handed (tableIn needs remembers needed)
-    (record { state = allotsOut s halves links owner live number (r .numbers); handed = r .handed; adds = r .adds }) (now (handles .exit)) (now (holders .exit)) (tableOut needs remembers (r .needed)) drained
+    let lent : LentArrays = allotArrays halves links owner live number in
+    (g : Frame) → frameOf f ≡ some g → (s : Scopes) → StandsWith (lent .entry s n) (now (handles .entry)) (now (holders .entry)) handed (tableIn needs remembers needed) → (drained : List ℕ)
+    → WorksWith place g (f .opcode) (lent .entry s n) (now (handles .entry)) (now (holders .entry)) handed (tableIn needs remembers needed)
+    (record { state = lent .exit s (r .numbers); handed = r .handed; adds = r .adds }) (now (handles .exit)) (now (holders .exit)) (tableOut needs remembers (r .needed)) drained

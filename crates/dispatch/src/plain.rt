@@ -1,12 +1,11 @@
 // The frames that don't look at needs, by their opcodes.
 ghost use mathlib.Core.Path.{_≡_};
-ghost use mathlib.Core.List.{List};
-ghost use Prim.Native.Nat.{ℕ, _≤_, _<_};
+ghost use Prim.Native.Nat.{_≤_, _<_};
 ghost use lib.ListN.{length};
 ghost use Rattle.rules.specs.Sizes.{SLOTS};
-ghost use Rattle.scopes.specs.Lent.{made, Whole};
+ghost use Rattle.scopes.specs.Lent.{wholeNow, Whole};
 ghost use Rattle.slots.specs.Spots.{placementOf};
-ghost use Rattle.frames.specs.Steps.{onNames, onCells, Stands, StandsAllots};
+ghost use Rattle.frames.specs.Steps.{Stands, StandsAllots, StandsNames, StandsCells};
 ghost use Rattle.rules.specs.Tells.{Tells};
 ghost use Rattle.dispatch.specs.Dispatched.{PlainCode, WriteCode, Writes, ScopeStep, AllotStep, NameStep, CellStep, PlainOn};
 use frames::allots;
@@ -25,7 +24,6 @@ use rules::SCOPES;
 use rules::SLOTS;
 use scopes::HandleNumber;
 use scopes::Numbers;
-use scopes::Scopes;
 use scopes::lent::drain;
 use slots::Place;
 use text::lines::Frame;
@@ -44,7 +42,7 @@ fn scope_step(
     handed: usize,
     f: Frame,
 ) -> Stepped
-    requires { ⌜ Whole (made (now halves) (now links) (now owner) (now live) (now dangled) (now parent) (now number) (now bindings) n) × (f .opcode < 6) ⌝ }
+    requires { ⌜ Whole (wholeNow halves links owner live dangled parent number bindings n) × (f .opcode < 6) ⌝ }
     ensures { λ r. ⌜ ScopeStep f halves links owner live dangled parent number bindings n handed r ⌝ }
 {
     let op = f.opcode;
@@ -148,7 +146,7 @@ fn name_step<'a>(
     handed: usize,
     f: Frame,
 ) -> Stepped
-    requires { ⌜ ((s : Scopes) × ((holders : List ℕ) × Stands (onNames s (now live) (now parent) (now bindings) n) (now handles) holders handed)) × (9 ≤ f .opcode) × (f .opcode < 12) ⌝ }
+    requires { ⌜ StandsNames live parent bindings n handles handed × (9 ≤ f .opcode) × (f .opcode < 12) ⌝ }
     ensures { λ r. ⌜ NameStep f live parent bindings n handles handed r ⌝ }
 {
     let op = f.opcode;
@@ -198,7 +196,7 @@ fn cell_step<'a>(
     handed: usize,
     f: Frame,
 ) -> Adds
-    requires { ⌜ ((s : Scopes) × Stands (onCells s (now halves) (now live) (now parent) (now bindings) n) (now handles) (now holders) handed) × (16 ≤ f .opcode) × (f .opcode < 32) ⌝ }
+    requires { ⌜ StandsCells halves live parent bindings n handles holders handed × (16 ≤ f .opcode) × (f .opcode < 32) ⌝ }
     ensures { λ r. ⌜ CellStep f halves live parent bindings n handles holders handed r ⌝ }
 {
     let op = f.opcode;
@@ -243,7 +241,7 @@ pub fn plain_step(
     f: Frame,
     place: Place,
 ) -> Stepped
-    requires { ⌜ Stands (made (now halves) (now links) (now owner) (now live) (now dangled) (now parent) (now number) (now bindings) n) (now handles) (now holders) handed ⌝ }
+    requires { ⌜ Stands (wholeNow halves links owner live dangled parent number bindings n) (now handles) (now holders) handed ⌝ }
     requires { ⌜ (length (now drained) ≡ SLOTS) × PlainCode (f .opcode) ⌝ }
     ensures { λ r. ⌜ PlainOn (placementOf place) f halves links owner live dangled parent number bindings n handles holders drained handed r ⌝ }
     ensures { λ _. ⌜ length (now (drained .exit)) ≡ SLOTS ⌝ }

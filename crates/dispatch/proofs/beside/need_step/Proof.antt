@@ -8,7 +8,7 @@ use Rattle.rules.specs.Text.{rowed, frameTable}
 use Rattle.text.specs.Lines.{frameOf}
 use Rattle.text.specs.Shapes.{shapeOf, frameShapes}
 use Rattle.scopes.specs.declared.Scopes.{Scopes}
-use Rattle.frames.specs.Steps.{onAllots}
+use Rattle.scopes.specs.Lent.{onAllots}
 use Rattle.dispatch.proofs.Opcodes.{with-as, with-any, is-last}
 use Rattle.dispatch.proofs.beside.need_step.Statement.{statement}
 use Rattle.dispatch.proofs.beside.need_step.Tie as tie

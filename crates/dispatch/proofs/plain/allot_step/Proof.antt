@@ -5,7 +5,7 @@ use Rattle.rules.specs.Frames as frame
 use Rattle.rules.specs.Text.{rowed, frameTable}
 use Rattle.text.specs.Lines.{frameOf}
 use Rattle.text.specs.Shapes.{shapeOf, frameShapes}
-use Rattle.frames.specs.Steps.{onAllots}
+use Rattle.scopes.specs.Lent.{onAllots}
 use Rattle.dispatch.proofs.Opcodes.{works-as}
 use Rattle.dispatch.proofs.plain.allot_step.Statement.{statement}
 use Rattle.dispatch.proofs.plain.allot_step.Tie as tie

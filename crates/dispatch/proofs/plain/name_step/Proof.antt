@@ -6,7 +6,7 @@ use Rattle.rules.specs.Text.{rowed, frameTable}
 use Rattle.text.specs.Lines.{frameOf}
 use Rattle.text.specs.Shapes.{shapeOf, frameShapes}
 use Rattle.scopes.specs.declared.Scopes.{Scopes}
-use Rattle.frames.specs.Steps.{onNames}
+use Rattle.scopes.specs.Lent.{onNames}
 use Rattle.dispatch.proofs.Opcodes.{works-as}
 use Rattle.dispatch.proofs.plain.name_step.Statement.{statement}
 use Rattle.dispatch.proofs.plain.name_step.Tie as tie
