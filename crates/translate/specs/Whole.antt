@@ -4,6 +4,7 @@ use mathlib.Core.List.{List, [], _∷_, _++_}
 use Prim.Native.Nat.{ℕ, suc, _+_, _/_, _%_, _≤_}
 use lib.ListN.{length, getD, take}
 use lib.Dec.{ltb}
+use denote.Ref.{now}
 use Rattle.rules.specs.Sizes.{base, LINES}
 use Rattle.rules.specs.Frames as rules
 use Rattle.rules.specs.Frames.{State, start, Line, stores, loads, shows, step, Outcome, accepted, refusedAt, before, onward}
@@ -11,6 +12,7 @@ use Rattle.rules.specs.Slots.{Place, exactlyAt, placing}
 use Rattle.rules.specs.Text.{lineText, listText, Script, frames, unread, title, readScript}
 use Rattle.rules.specs.Entries.{Translation}
 use Rattle.slots.specs.Spots.{placeOf}
+use Rattle.scopes.specs.Lent.{LentArray}
 use Rattle.text.specs.Shapes.{pick, frame}
 use Rattle.text.specs.Titles.{placeBy, Titles}
 use Rattle.text.specs.Writing.{over}
@@ -52,6 +54,14 @@ linesOf o (Refused n) drained = []
 unfoldable pub linesText : List Line → List ℕ
 linesText [] = []
 linesText (l ∷ ls) = lineText l ++ linesText ls
+
+-- the text of what a frame adds
+abbrev pub addedText : ℕ → Adds → List ℕ → List ℕ
+addedText o adds drained = linesText (linesOf o adds drained)
+
+-- the text t stands in the lent page from w on, and all else is as it was
+abbrev pub Puts : LentArray ℕ → ℕ → List ℕ → Type 0
+Puts page w t = now (page .exit) ≡ over (now (page .entry)) w t
 
 abbrev pub onwardOf : Adds → Onward
 onwardOf Nothing = onward.Go
@@ -103,3 +113,11 @@ walked by n script = before (title (placeBy n)) (stepsAt by n start (framesOf (r
 pub data Ends : Outcome → Ended → List ℕ → Type 0 where
   listed : {ls : List Line} {size n : ℕ} {page : List ℕ} → n ≡ length (listText ls size) → n ≤ length page → take n page ≡ listText ls size → Ends (accepted ls size) (ended.Listed n size) page
   refused : {n i : ℕ} {page : List ℕ} → i ≤ LINES → Ends (refusedAt n i) (ended.Refused n i) page
+
+-- the script, with n title lines, is walked by the guide
+abbrev pub EndsWalk : Guide → (shown script page : LentArray ℕ) → ℕ → Ended → Type 0
+EndsWalk by shown script page n r = Ends (walked (guideAt by (now (shown .entry))) n (now (script .entry))) r (now (page .exit))
+
+-- .. by the lines that are shown, with the title lines that it has
+abbrev pub EndsShown : ℕ → (shown script page : LentArray ℕ) → Ended → Type 0
+EndsShown lines shown script page r = (n : ℕ) × Titles (now (script .entry)) n × EndsWalk (guide.Shown lines) shown script page n r

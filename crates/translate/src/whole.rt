@@ -1,16 +1,15 @@
 // The frames of a script, one after another, over tables of their own; the list is written on a page.
 ghost use mathlib.Core.Path.{_≡_};
-ghost use Prim.Native.Nat.{ℕ, _+_, _≤_};
+ghost use Prim.Native.Nat.{_+_, _≤_};
 ghost use lib.ListN.{length};
 ghost use Rattle.rules.specs.Sizes.{base, SLOTS, PAGE};
 ghost use Rattle.rules.specs.Frames.{stores};
 ghost use Rattle.rules.specs.Text.{lineText, title};
 ghost use Rattle.rules.specs.Entries.{translated};
 ghost use Rattle.slots.specs.Spots.{placeOf};
-ghost use Rattle.text.specs.Titles.{placeBy, Titles};
-ghost use Rattle.text.specs.Writing.{over};
+ghost use Rattle.text.specs.Titles.{placeBy};
 ghost use Rattle.frames.specs.Steps.{Few, sourceOf};
-ghost use Rattle.translate.specs.Whole.{frameIn, linesOf, linesText, onwardOf, guideAt, HasLines, Read, Begun, walked, Ends};
+ghost use Rattle.translate.specs.Whole.{frameIn, linesText, addedText, Puts, onwardOf, guideAt, HasLines, Read, Begun, Ends, EndsWalk, EndsShown};
 use dispatch::step;
 use frames::steps::Adds;
 use frames::steps::Source;
@@ -75,7 +74,7 @@ fn onward_of(adds: Adds) -> Onward
 fn put_store(page: &mut [u8], w: usize, a: u16, x: Source) -> usize
     requires { ⌜ w + length (lineText (stores a (sourceOf x))) ≤ length (now page) ⌝ }
     ensures { λ r. ⌜ r ≡ w + length (lineText (stores a (sourceOf x))) ⌝ }
-    ensures { λ _. ⌜ now (page .exit) ≡ over (now (page .entry)) w (lineText (stores a (sourceOf x))) ⌝ }
+    ensures { λ _. ⌜ Puts page w (lineText (stores a (sourceOf x))) ⌝ }
 {
     match x {
         Source::Constant(v) => put_line(page, w, 0x10, 2, a, v),
@@ -85,9 +84,9 @@ fn put_store(page: &mut [u8], w: usize, a: u16, x: Source) -> usize
 
 // The line of a frame at w of the page.
 fn put_adds(page: &mut [u8], w: usize, opcode: u8, adds: Adds, drained: &[u16]) -> usize
-    requires { ⌜ Few adds × (length (now drained) ≡ SLOTS) × (w + length (linesText (linesOf opcode adds (now drained))) ≤ length (now page)) ⌝ }
-    ensures { λ r. ⌜ r ≡ w + length (linesText (linesOf opcode adds (now (drained .entry)))) ⌝ }
-    ensures { λ _. ⌜ now (page .exit) ≡ over (now (page .entry)) w (linesText (linesOf opcode adds (now (drained .entry)))) ⌝ }
+    requires { ⌜ Few adds × (length (now drained) ≡ SLOTS) × (w + length (addedText opcode adds (now drained)) ≤ length (now page)) ⌝ }
+    ensures { λ r. ⌜ r ≡ w + length (addedText opcode adds (now (drained .entry))) ⌝ }
+    ensures { λ _. ⌜ Puts page w (addedText opcode adds (now (drained .entry))) ⌝ }
 {
     match adds {
         Adds::Nothing => put_line(page, w, opcode, 0, 0, 0),
@@ -113,7 +112,7 @@ fn place_by(titles: usize) -> Place
 fn put_title(page: &mut [u8], titles: usize) -> usize
     requires { ⌜ 7 ≤ length (now page) ⌝ }
     ensures { λ r. ⌜ r ≡ length (linesText (title (placeBy titles))) ⌝ }
-    ensures { λ _. ⌜ now (page .exit) ≡ over (now (page .entry)) 0 (linesText (title (placeBy titles))) ⌝ }
+    ensures { λ _. ⌜ Puts page 0 (linesText (title (placeBy titles))) ⌝ }
 {
     if titles == 0 {
         return 0;
@@ -149,7 +148,7 @@ fn steps_behind(
     begun: usize,
 ) -> Ended
     requires { ⌜ Read (now script) × HasLines guide (now shown) × (length (now page) ≡ PAGE) × Begun (now script) (now page) titles begun ⌝ }
-    ensures { λ r. ⌜ Ends (walked (guideAt guide (now (shown .entry))) titles (now (script .entry))) r (now (page .exit)) ⌝ }
+    ensures { λ r. ⌜ EndsWalk guide shown script page titles r ⌝ }
 {
     let mut handles = [0u64; HANDLES];
     let mut holders = [0u16; SLOTS];
@@ -229,7 +228,7 @@ pub fn steps(script: &[u8], page: &mut [u8]) -> Ended
 // The same, but that slots go where a list shows them: the table has its lines.
 pub fn steps_shown(script: &[u8], shown: &[u64], lines: usize, page: &mut [u8]) -> Ended
     requires { ⌜ Read (now script) × (lines ≤ length (now shown)) × (length (now page) ≡ PAGE) ⌝ }
-    ensures { λ r. ⌜ ((n : ℕ) × Titles (now (script .entry)) n × Ends (walked (guideAt (Guide.Shown lines) (now (shown .entry))) n (now (script .entry))) r (now (page .exit))) ⌝ }
+    ensures { λ r. ⌜ EndsShown lines shown script page r ⌝ }
 {
     let titles = title_lines(script);
     let begun = put_title(page, titles);
