@@ -18,7 +18,7 @@ use Rattle.scopes.specs.declared.Scopes.{Scopes}
 use Rattle.scopes.specs.declared.LentOutcome.{LentOutcome}
 use Rattle.scopes.specs.declared.Numbers.{Numbers}
 use Rattle.scopes.specs.declared.Reply.{Reply}
-use Rattle.scopes.specs.declared.Reply.the-variants.{Done}
+use Rattle.scopes.specs.declared.Reply.the-variants as reply
 
 abbrev pub numbersOf : Scopes → Numbers
 numbersOf s = record { count = s .count; segments = s .segments; head = s .head; top = s .top; counter = s .counter; size = s .size }
@@ -150,9 +150,17 @@ pub record Whole (s : Scopes) : Type 0 where
   pub sound : Sound s
   pub sized : Sized s
 
--- a whole state s becomes the whole state t, with this reply; both are what `f` tells of s as the rules see it
+abbrev pub isRefusal : Reply → Bool
+isRefusal reply.Done = false
+isRefusal (reply.At a) = false
+isRefusal reply.Empty = false
+isRefusal (reply.Opened i) = false
+isRefusal (reply.Found b) = false
+isRefusal (reply.Refused n) = true
+
+-- a whole state s becomes the whole state t, with this reply; both are what `f` tells of s as the rules see it. A refusal leaves s.
 abbrev pub Becomes : Scopes → Scopes → Reply → (rule.Scopes → Seen) → Type 0
-Becomes s t reply f = Whole s → (record { next = view t; says = reply } ≡ f (view s)) × Whole t
+Becomes s t reply f = Whole s → (record { next = view t; says = reply } ≡ f (view s)) × Whole t × (isRefusal reply ≡ true → t ≡ s)
 
 -- the same where some arrays are lent, whatever the others hold
 abbrev pub LentBecomes : LentArrays → Numbers → LentOutcome → (rule.Scopes → Seen) → Type 0
@@ -215,7 +223,7 @@ TopOwnsOn halves links owner n a =
 
 -- the slot a, which the top owns, goes back as `f` tells it; the numbers are m then
 abbrev pub LentReleases : LentArrays → Numbers → ℕ → Numbers → (rule.Scopes → Seen) → Type 0
-LentReleases lent n a m f = (s : Scopes) → TopOwns (lent .entry s n) a → Becomes (lent .entry s n) (lent .exit s m) Done f
+LentReleases lent n a m f = (s : Scopes) → TopOwns (lent .entry s n) a → Becomes (lent .entry s n) (lent .exit s m) reply.Done f
 
 -- ---- closing
 

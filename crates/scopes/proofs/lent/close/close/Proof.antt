@@ -1,5 +1,6 @@
 -- A scope is closed. Assumes nothing.
-use mathlib.Core.Path.{_∙_}
+use mathlib.Core.Path.{refl, _∙_}
+use Rattle.rules.proofs.Tells.{clash}
 use Rattle.scopes.specs.Lent.{made, withSlots, Empties}
 use Rattle.scopes.specs.declared.Scopes.{Scopes}
 use Rattle.scopes.proofs.Finds.{no-child}
@@ -32,7 +33,7 @@ has-child-requires : tie.Need-has-child-requires
 has-child-requires c κs = search needs
 
 returns : tie.Need-returns
-returns c l h = let w = c .before .before .before .before in (shut-child (state w) (w .args .i) (l .0) _ (c .before .has-child .ensures) (c .if1 .taken), h)
+returns c l h = let w = c .before .before .before .before in (shut-child (state w) (w .args .i) (l .0) _ (c .before .has-child .ensures) (c .if1 .taken), h, λ _. refl)
 
 empty-requires : tie.Need-empty-requires
 empty-requires c κs = let w = c .before .before .before .before .before .before .before in (state w, w .pre .0, w .pre .1)
@@ -73,6 +74,7 @@ returns-2 c l h =
       shut-closes (state (start e)) i (l .0) _ (b .before .has-child .ensures) (b .if1 .left) _
           (gone-is (emptied e) (y .2 .sound) (y .2 .sized) i (l .0) (l .1) nc (y .0) (r .last .0) (r .result) (r .ensures .0 .1) (r .ensures .0 .0) (r .ensures .1 (y .2 .sound .named .clear)) (c .wide8 .result) (c .wide8 .ensures) ∙ y .1),
       gone-whole (emptied e) (y .2 .sound) (y .2 .sized) i (l .0) (l .1) nc (y .0) (r .last .0) (r .result) (r .ensures .0 .1) (r .ensures .0 .0) (r .ensures .1 (y .2 .sound .named .clear)) (c .wide8 .result) (c .wide8 .ensures) (r .ensures .0 .2),
+      λ q. clash q refl,
     )
 
 pub close-spec : {M : Type 1} → statement M

@@ -1,5 +1,5 @@
 -- A scope is popped. Assumes nothing.
-use mathlib.Core.Path.{sym, ap, _∙_}
+use mathlib.Core.Path.{refl, sym, ap, _∙_}
 use mathlib.Core.Bool.{false}
 use Rattle.scopes.specs.View.{view, idOf, toldOnly}
 use Rattle.scopes.specs.Lent.{made}
@@ -28,7 +28,7 @@ refusal-requires : tie.Need-refusal-requires
 refusal-requires c κs = search needs
 
 returns : tie.Need-returns
-returns c h = let w = start (c .before) in (pop-refused (state w) (idOf (w .args .id)) _ (c .before .refusal .ensures) (c .if1 .taken), h)
+returns c h = let w = start (c .before) in (pop-refused (state w) (idOf (w .args .id)) _ (c .before .refusal .ensures) (c .if1 .taken), h, λ _. refl)
 
 wide8-requires : tie.Need-wide8-requires
 wide8-requires c κs = search needs
@@ -45,7 +45,7 @@ returns-2 c h =
     let m = meant a in
     let w = start (a .before .before) in
     let r = c .close .ensures (m .known .small, m .known .live) h in
-    (r .0 ∙ sym (ap (toldOnly (view (state w))) (pop-shuts (state w) (idOf (w .args .id)) _ (a .before .before .refusal .ensures) _ m)), r .1)
+    (r .0 ∙ sym (ap (toldOnly (view (state w))) (pop-shuts (state w) (idOf (w .args .id)) _ (a .before .before .refusal .ensures) _ m)), r .1, r .2)
 
 pub pop-spec : {M : Type 1} → statement M
 pop-spec = tie.close (tie.spec refusal-requires returns wide8-requires close-requires returns-2)

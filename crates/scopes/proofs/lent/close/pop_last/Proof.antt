@@ -1,5 +1,5 @@
 -- Root is popped. Assumes nothing.
-use mathlib.Core.Path.{sym, ap, _∙_}
+use mathlib.Core.Path.{refl, sym, ap, _∙_}
 use native.Mathlib.Omega.{arith}
 use Rattle.scopes.specs.View.{view, toldOnly}
 use Rattle.scopes.specs.Sound.{Sound}
@@ -20,7 +20,7 @@ tops : (c : tie.Else1) → Sound (state (c .before)) → Topped (state (c .befor
 tops c h = topped _ h (c .if1 .left)
 
 returns : tie.Need-returns
-returns c h = (last-no-top (state (c .before)) (c .if1 .taken), h)
+returns c h = (last-no-top (state (c .before)) (c .if1 .taken), h, λ _. refl)
 
 close-requires : tie.Need-close-requires
 close-requires c κs =
@@ -34,7 +34,7 @@ returns-2 c h =
     let x = state (e .before) in
     let t = tops e (h .sound) in
     let r = c .close .ensures (omega arith, root-live x (h .sound) t) h in
-    (r .0 ∙ sym (ap (toldOnly (view x)) (last-shuts x (h .sound) t)), r .1)
+    (r .0 ∙ sym (ap (toldOnly (view x)) (last-shuts x (h .sound) t)), r .1, r .2)
 
 pub pop-last-spec : {M : Type 1} → statement M
 pop-last-spec = tie.close (tie.spec returns close-requires returns-2)

@@ -1,4 +1,6 @@
 -- A name is bound in the top scope. Assumes nothing.
+use mathlib.Core.Path.{refl}
+use Rattle.rules.proofs.Tells.{clash}
 use Rattle.scopes.specs.Sound.{Sound}
 use Rattle.scopes.specs.Lent.{withNames}
 use Rattle.scopes.specs.declared.Scopes.{Scopes}
@@ -20,7 +22,7 @@ tops : (c : tie.Else1) (s : Scopes) → Sound (state (c .before .before) s) → 
 tops c s h = topped _ h (c .if1 .left)
 
 returns : tie.Need-returns
-returns c s h = let w = c .before .before in (define-no-top (state w s) (w .args .name) (w .args .address .0) (w .args .handle .0) (c .if1 .taken), h)
+returns c s h = let w = c .before .before in (define-no-top (state w s) (w .args .name) (w .args .address .0) (w .args .handle .0) (c .if1 .taken), h, λ _. refl)
 
 find-requires : tie.Need-find-requires
 find-requires c κs = let e = c .before in let p = e .before .before .pre in (p .1 .sound .named .most, tops e (p .0) (p .1 .sound) .small, p .1 .sized .bindings)
@@ -40,7 +42,8 @@ returns-2 c s h =
     let f = p .before in
     let e = f .before .before in
     let w = e .before .before in
-    define-there (state w s) (w .args .name) (w .args .address .0) (w .args .handle .0) (h .sound) (tops e s (h .sound)) _ (p .packed .ensures) (h .sized) _ (f .find .ensures) (c .if2 .taken)
+    let r = define-there (state w s) (w .args .name) (w .args .address .0) (w .args .handle .0) (h .sound) (tops e s (h .sound)) _ (p .packed .ensures) (h .sized) _ (f .find .ensures) (c .if2 .taken) in
+    (r .0, r .1, λ q. clash q refl)
 
 returns-3 : tie.Need-returns-3
 returns-3 c s h =
@@ -48,7 +51,7 @@ returns-3 c s h =
     let f = p .before in
     let e = f .before .before in
     let w = e .before .before in
-    (define-full (state w s) (w .args .name) (w .args .address .0) (w .args .handle .0) (h .sound) (tops e s (h .sound)) _ (p .packed .ensures) (h .sized) _ (f .find .ensures) (c .before .if2 .left) (c .if3 .taken), h)
+    (define-full (state w s) (w .args .name) (w .args .address .0) (w .args .handle .0) (h .sound) (tops e s (h .sound)) _ (p .packed .ensures) (h .sized) _ (f .find .ensures) (c .before .if2 .left) (c .if3 .taken), h, λ _. refl)
 
 mul-bindings-2 : tie.Need-mul-bindings-2
 mul-bindings-2 c = search needs
@@ -65,7 +68,8 @@ returns-4 c s h =
     let f = p .before in
     let e = f .before .before in
     let w = e .before .before in
-    define-new (state w s) (w .args .name) (w .args .address .0) (w .args .handle .0) (h .sound) (tops e s (h .sound)) _ (p .packed .ensures) (h .sized) _ (f .find .ensures) (c .before .if2 .left) (c .if3 .left)
+    let r = define-new (state w s) (w .args .name) (w .args .address .0) (w .args .handle .0) (h .sound) (tops e s (h .sound)) _ (p .packed .ensures) (h .sized) _ (f .find .ensures) (c .before .if2 .left) (c .if3 .left) in
+    (r .0, r .1, λ q. clash q refl)
 
 pub define-spec : {M : Type 1} → statement M
 define-spec =

@@ -1,4 +1,6 @@
 -- A name is looked for from the top on, and its binding marked moved. Assumes nothing.
+use mathlib.Core.Path.{refl}
+use Rattle.rules.proofs.Tells.{clash}
 use Rattle.scopes.specs.Sound.{Sound}
 use Rattle.scopes.specs.Lent.{withScopes, withNames}
 use Rattle.scopes.specs.declared.Scopes.{Scopes}
@@ -21,7 +23,7 @@ tops : (c : tie.Else1) (s : Scopes) → Sound (state (c .before) s) → Topped (
 tops c s h = topped _ h (c .if1 .left)
 
 returns : tie.Need-returns
-returns c s h = let w = c .before in (take-refused (state w s) (w .args .name) 3 (get-no-top (state w s) (w .args .name) (c .if1 .taken)), h)
+returns c s h = let w = c .before in (take-refused (state w s) (w .args .name) 3 (get-no-top (state w s) (w .args .name) (c .if1 .taken)), h, λ _. refl)
 
 lookup-requires : tie.Need-lookup-requires
 lookup-requires c κs = search needs
@@ -31,7 +33,7 @@ returns-2 c s h =
     let l = c .before in
     let e = l .before .before in
     let w = e .before in
-    (take-refused (state w s) (w .args .name) 10 (get-missing (state w s) (w .args .name) (tops e s (h .sound)) (l .lookup .result) (l .lookup .ensures) (c .if2 .taken)), h)
+    (take-refused (state w s) (w .args .name) 10 (get-missing (state w s) (w .args .name) (tops e s (h .sound)) (l .lookup .result) (l .lookup .ensures) (c .if2 .taken)), h, λ _. refl)
 
 mul-b : tie.Need-mul-b
 mul-b c = search needs
@@ -45,7 +47,7 @@ returns-3 c s h =
     let l = e2 .before in
     let e = l .before .before in
     let w = e .before in
-    (take-refused (state w s) (w .args .name) 11 (get-moved (state w s) (w .args .name) (tops e s (h .sound)) (l .lookup .result) (l .lookup .ensures) (e2 .if2 .left) (c .if3 .taken)), h)
+    (take-refused (state w s) (w .args .name) 11 (get-moved (state w s) (w .args .name) (tops e s (h .sound)) (l .lookup .result) (l .lookup .ensures) (e2 .if2 .left) (c .if3 .taken)), h, λ _. refl)
 
 moved-requires : tie.Need-moved-requires
 moved-requires c κs = search needs
@@ -66,7 +68,8 @@ returns-4 c s h =
     let l = e2 .before in
     let e = l .before .before in
     let w = e .before in
-    take-moves (state w s) (w .args .name) (tops e s (h .sound)) (l .lookup .result) (l .lookup .ensures) (e2 .if2 .left) (e3 .if3 .left) (h .sound) (h .sized) _ (c .before .moved .ensures) _ (bound-is _ _ (c .bound-of .ensures))
+    let r = take-moves (state w s) (w .args .name) (tops e s (h .sound)) (l .lookup .result) (l .lookup .ensures) (e2 .if2 .left) (e3 .if3 .left) (h .sound) (h .sized) _ (c .before .moved .ensures) _ (bound-is _ _ (c .bound-of .ensures)) in
+    (r .0, r .1, λ q. clash q refl)
 
 pub take-spec : {M : Type 1} → statement M
 take-spec =

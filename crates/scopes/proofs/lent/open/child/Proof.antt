@@ -1,7 +1,9 @@
 -- A child is opened. Assumes nothing.
+use mathlib.Core.Path.{refl}
 use Prim.Native.Nat.{_<_}
 use native.Mathlib.Omega.{arith}
 use Rattle.rules.specs.Sizes.{SCOPES}
+use Rattle.rules.proofs.Tells.{clash}
 use Rattle.scopes.specs.Sound.{Sound}
 use Rattle.scopes.specs.Lent.{withScopes}
 use Rattle.scopes.specs.declared.Scopes.{Scopes}
@@ -29,13 +31,13 @@ small : (c : tie.Else2) → c .before .free-index .result < SCOPES
 small c = let e = start c in let p = e .before .pre in below (state (e .before) (p .0)) (p .1 .sound) (tops e (p .0) (p .1 .sound)) _ (c .before .free-index .ensures) (c .if2 .left)
 
 returns : tie.Need-returns
-returns c s h = (child-no-top (state (c .before) s) (c .if1 .taken), h)
+returns c s h = (child-no-top (state (c .before) s) (c .if1 .taken), h, λ _. refl)
 
 free-index-requires : tie.Need-free-index-requires
 free-index-requires c κs = search needs
 
 returns-2 : tie.Need-returns-2
-returns-2 c s h = let e = c .before .before .before in (child-full (state (e .before) s) (h .sound) (tops e s (h .sound)) _ (c .before .free-index .ensures) (c .if2 .taken), h)
+returns-2 c s h = let e = c .before .before .before in (child-full (state (e .before) s) (h .sound) (tops e s (h .sound)) _ (c .before .free-index .ensures) (c .if2 .taken), h, λ _. refl)
 
 cast-parent : tie.Need-cast-parent
 cast-parent c = omega (arith, small c)
@@ -66,6 +68,7 @@ returns-3 c s h =
     let t = tops e s (h .sound) in (
       child-rule x (h .sound) t _ (e2 .before .free-index .ensures) (e2 .if2 .left) _ (c .wrapping-add-u32 .ensures) (h .sized),
       child-whole x (h .sound) t _ (e2 .before .free-index .ensures) (e2 .if2 .left) _ (c .wrapping-add-u32 .ensures) (h .sized),
+      λ q. clash q refl,
     )
 
 pub child-spec : {M : Type 1} → statement M

@@ -1,5 +1,7 @@
 -- A scope is dangled. Assumes nothing.
+use mathlib.Core.Path.{refl}
 use mathlib.Core.Bool.{false}
+use Rattle.rules.proofs.Tells.{clash}
 use Rattle.scopes.specs.View.{idOf}
 use Rattle.scopes.specs.Lent.{withScopes}
 use Rattle.scopes.specs.declared.Scopes.{Scopes}
@@ -27,7 +29,7 @@ refusal-requires : tie.Need-refusal-requires
 refusal-requires c κs = search needs
 
 returns : tie.Need-returns
-returns c s h = (dangle-refused (state (start (c .before)) s) (idOf (start (c .before) .args .id)) _ (c .before .refusal .ensures) (c .if1 .taken), h)
+returns c s h = (dangle-refused (state (start (c .before)) s) (idOf (start (c .before) .args .id)) _ (c .before .refusal .ensures) (c .if1 .taken), h, λ _. refl)
 
 wide8-requires : tie.Need-wide8-requires
 wide8-requires c κs = search needs
@@ -42,7 +44,7 @@ wide8-requires-2 : tie.Need-wide8-requires-2
 wide8-requires-2 c κs = search needs
 
 returns-2 : tie.Need-returns-2
-returns-2 c s h = let a = c .before .before in let m = meant a s in dangle-marks (state (start (a .before .before)) s) _ _ (m .known) (h .sound) (h .sized) (m .inner) (m .marked) _ (c .wide82 .ensures)
+returns-2 c s h = let a = c .before .before in let m = meant a s in let r = dangle-marks (state (start (a .before .before)) s) _ _ (m .known) (h .sound) (h .sized) (m .inner) (m .marked) _ (c .wide82 .ensures) in (r .0, r .1, λ q. clash q refl)
 
 pub dangle-spec : {M : Type 1} → statement M
 dangle-spec =

@@ -1,6 +1,8 @@
 -- A scope is restored. Assumes nothing.
+use mathlib.Core.Path.{refl}
 use mathlib.Core.Bool.{true}
 use borrow.Author.Tests.{not-false}
+use Rattle.rules.proofs.Tells.{clash}
 use Rattle.scopes.specs.View.{idOf}
 use Rattle.scopes.specs.Lent.{withScopes}
 use Rattle.scopes.specs.declared.Scopes.{Scopes}
@@ -28,7 +30,7 @@ refusal-requires : tie.Need-refusal-requires
 refusal-requires c κs = search needs
 
 returns : tie.Need-returns
-returns c s h = (restore-refused (state (start (c .before)) s) (idOf (start (c .before) .args .id)) _ (c .before .refusal .ensures) (c .if1 .taken), h)
+returns c s h = (restore-refused (state (start (c .before)) s) (idOf (start (c .before) .args .id)) _ (c .before .refusal .ensures) (c .if1 .taken), h, λ _. refl)
 
 wide8-requires : tie.Need-wide8-requires
 wide8-requires c κs = search needs
@@ -37,7 +39,7 @@ element-write-dangled : tie.Need-element-write-dangled
 element-write-dangled c = meant c (start (c .before .before) .pre .0) .known .small
 
 returns-2 : tie.Need-returns-2
-returns-2 c s h = let m = meant c s in restore-unmarks (state (start (c .before .before)) s) _ _ (m .known) (h .sound) (h .sized) (m .inner) (not-false _ (m .marked))
+returns-2 c s h = let m = meant c s in let r = restore-unmarks (state (start (c .before .before)) s) _ _ (m .known) (h .sound) (h .sized) (m .inner) (not-false _ (m .marked)) in (r .0, r .1, λ q. clash q refl)
 
 pub restore-spec : {M : Type 1} → statement M
 restore-spec =

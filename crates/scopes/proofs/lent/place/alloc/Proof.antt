@@ -1,5 +1,5 @@
 -- A slot for the top scope. Assumes nothing.
-use mathlib.Core.Path.{ap, _∙_}
+use mathlib.Core.Path.{refl, ap, _∙_}
 use native.Mathlib.Omega.{arith}
 use Rattle.scopes.specs.View.{view, at, told}
 use Rattle.scopes.specs.Lent.{withSlots}
@@ -17,7 +17,7 @@ abbrev state : tie.Start → Scopes → Scopes
 state w s = withSlots s (w .args .halves .now) (w .args .links .now) (w .args .owner .now) (w .args .n)
 
 returns : tie.Need-returns
-returns c s h = (alloc-no-top _ (state (c .before) s) (c .if1 .taken), h)
+returns c s h = (alloc-no-top _ (state (c .before) s) (c .if1 .taken), h, λ _. refl)
 
 alloc-at-requires : tie.Need-alloc-at-requires
 alloc-at-requires c κs =
@@ -32,7 +32,7 @@ returns-2 c s h =
     let x = state (e .before) s in
     let t = topped x (h .sound) (e .if1 .left) in
     let r = c .alloc-at .ensures s (t .small, t .live) h in
-    (r .0 ∙ ap (told at (view x)) (alloc-top _ x t), r .1)
+    (r .0 ∙ ap (told at (view x)) (alloc-top _ x t), r .1, r .2)
 
 pub alloc-spec : {M : Type 1} → statement M
 alloc-spec = tie.close (tie.spec returns alloc-at-requires returns-2)

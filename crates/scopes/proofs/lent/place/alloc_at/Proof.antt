@@ -1,8 +1,9 @@
 -- Slots for scope k, by any placement. Assumes nothing.
-use mathlib.Core.Path.{sym}
+use mathlib.Core.Path.{refl, sym}
 use Prim.Native.Nat.{_+_, _≤_, _<_}
 use native.Mathlib.Omega.{arith}
 use Rattle.rules.specs.Sizes.{base, SLOTS}
+use Rattle.rules.proofs.Tells.{clash}
 use Rattle.slots.specs.Halves.{occ}
 use Rattle.slots.specs.Spots.{placeOf, Vacant}
 use Rattle.scopes.specs.Sound.{Sound}
@@ -36,7 +37,7 @@ choose-requires : tie.Need-choose-requires
 choose-requires c κs = let w = c .before in (slots-sound (state w (w .pre .0)) (w .pre .1 .sound .slotted), w .pre .3, w .pre .4)
 
 returns : tie.Need-returns
-returns c s l h = let f = c .before in let w = start f in (alloc-full (state w s) (w .args .k) (placeOf (w .args .place)) (w .args .many) (f .choose .result) (f .choose .ensures) (c .if1 .taken), h)
+returns c s l h = let f = c .before in let w = start f in (alloc-full (state w s) (w .args .k) (placeOf (w .args .place)) (w .args .many) (f .choose .result) (f .choose .ensures) (c .if1 .taken), h, λ _. refl)
 
 take-run-requires : tie.Need-take-run-requires
 take-run-requires c κs = let e = c .before .before .before in let w = start (e .before) in (state w (w .pre .0), w .pre .1, w .pre .2, vacant e (w .pre .0) (w .pre .1 .sound))
@@ -56,8 +57,9 @@ returns-2 c s l h =
     let e = t .before .before .before .before in
     let f = e .before in
     let w = start f in
-    alloc-gives (state w s) (w .args .k) (placeOf (w .args .place)) (w .args .many) (f .choose .result) (f .choose .ensures) (h .sound) (e .if1 .left) _ _ _ _ (c .most .ensures)
-    (t .take-run .ensures (state w s) h l (vacant e s (h .sound)))
+    let r = alloc-gives (state w s) (w .args .k) (placeOf (w .args .place)) (w .args .many) (f .choose .result) (f .choose .ensures) (h .sound) (e .if1 .left) _ _ _ _ (c .most .ensures)
+    (t .take-run .ensures (state w s) h l (vacant e s (h .sound))) in
+    (r .0, r .1, λ q. clash q refl)
 
 pub alloc-at-spec : {M : Type 1} → statement M
 alloc-at-spec =

@@ -1,5 +1,5 @@
 -- A slot for the scope with an id. Assumes nothing.
-use mathlib.Core.Path.{ap, _∙_}
+use mathlib.Core.Path.{refl, ap, _∙_}
 use native.Mathlib.Omega.{arith}
 use Rattle.rules.specs.Sizes.{base}
 use Rattle.rules.specs.Scopes as rule
@@ -30,7 +30,7 @@ place-of-requires : tie.Need-place-of-requires
 place-of-requires c κs = search needs
 
 returns : tie.Need-returns
-returns c s h = let w = c .before .before in (alloc-in-none _ (state w s) _ (unknown (state w s) (idOf (w .args .id)) _ (c .before .place-of .ensures) (c .if1 .taken)), h)
+returns c s h = let w = c .before .before in (alloc-in-none _ (state w s) _ (unknown (state w s) (idOf (w .args .id)) _ (c .before .place-of .ensures) (c .if1 .taken)), h, λ _. refl)
 
 alloc-at-requires : tie.Need-alloc-at-requires
 alloc-at-requires c κs =
@@ -45,7 +45,7 @@ returns-2 c s h =
     let w = e .before .before in
     let m = meant e s in
     let r = c .alloc-at .ensures (scopes w s) (m .small, m .live) h in
-    (r .0 ∙ ap (told at (view (state w s))) (alloc-in-is _ (state w s) _ _ m), r .1)
+    (r .0 ∙ ap (told at (view (state w s))) (alloc-in-is _ (state w s) _ _ m), r .1, r .2)
 
 pub alloc-in-spec : {M : Type 1} → statement M
 alloc-in-spec = tie.close (tie.spec place-of-requires returns alloc-at-requires returns-2)

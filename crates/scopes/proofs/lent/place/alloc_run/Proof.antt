@@ -1,7 +1,8 @@
 -- A run of slots for the top, by any placement. Assumes nothing.
-use mathlib.Core.Path.{_∙_}
+use mathlib.Core.Path.{refl, _∙_}
 use borrow.Author.Needs.{needs}
 use native.Mathlib.Omega.{arith}
+use Rattle.rules.proofs.Tells.{clash}
 use Rattle.scopes.specs.Sound.{Sound}
 use Rattle.scopes.specs.Lent.{withSlots}
 use Rattle.scopes.specs.declared.Scopes.{Scopes}
@@ -21,10 +22,10 @@ tops : (c : tie.Else1) (s : Scopes) → Sound (state (c .before) s) → Topped (
 tops c s h = topped _ h (c .if1 .left)
 
 returns : tie.Need-returns
-returns c s h = (run-no-top _ (state (c .before) s) (c .before .args .many) (c .if1 .taken), h)
+returns c s h = (run-no-top _ (state (c .before) s) (c .before .args .many) (c .if1 .taken), h, λ _. refl)
 
 returns-2 : tie.Need-returns-2
-returns-2 c s h = let e = c .before in (run-empty _ (state (e .before) s) (e .before .args .many) (tops e s (h .sound)) (c .if2 .taken), h)
+returns-2 c s h = let e = c .before in (run-empty _ (state (e .before) s) (e .before .args .many) (tops e s (h .sound)) (c .if2 .taken), h, λ q. clash q refl)
 
 alloc-at-requires : tie.Need-alloc-at-requires
 alloc-at-requires c κs = let o = c .before .before .before in let e = o .before in let p = e .before .pre in let t = tops e (p .0) (p .1 .sound) in (p .0, p .1, (t .small, t .live), omega (arith, o .if2 .left), search needs)
@@ -35,7 +36,7 @@ returns-3 c s h =
     let e = o .before in
     let t = tops e s (h .sound) in
     let r = c .alloc-at .ensures s (t .small, t .live) h in
-    (r .0 ∙ run-is _ (state (e .before) s) (e .before .args .many) t (o .if2 .left), r .1)
+    (r .0 ∙ run-is _ (state (e .before) s) (e .before .args .many) t (o .if2 .left), r .1, r .2)
 
 pub alloc-run-spec : {M : Type 1} → statement M
 alloc-run-spec = tie.close (tie.spec returns returns-2 alloc-at-requires returns-3)

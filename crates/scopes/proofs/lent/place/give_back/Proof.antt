@@ -1,5 +1,5 @@
 -- A slot goes back, if the top owns it. Assumes nothing.
-use mathlib.Core.Path.{_∙_}
+use mathlib.Core.Path.{refl, _∙_}
 use native.Mathlib.Omega.{arith}
 use borrow.Author.Tests.{ne-eqb}
 use Rattle.scopes.specs.Sound.{Sound}
@@ -25,10 +25,10 @@ cast-x : tie.Need-cast-x
 cast-x c = search needs
 
 returns : tie.Need-returns
-returns c s h = let w = c .before .before in (free-no-top (state w s) (w .args .dangles) _ (c .if1 .taken), h)
+returns c s h = let w = c .before .before in (free-no-top (state w s) (w .args .dangles) _ (c .if1 .taken), h, λ _. refl)
 
 returns-2 : tie.Need-returns-2
-returns-2 c s h = let t = tops (c .before) s (h .sound) in (free-not-owned _ _ _ t (far _ _ _ _ (h .sound .ringed) (c .if2 .taken) (omega (arith, t .small))), h)
+returns-2 c s h = let t = tops (c .before) s (h .sound) in (free-not-owned _ _ _ t (far _ _ _ _ (h .sound .ringed) (c .if2 .taken) (omega (arith, t .small))), h, λ _. refl)
 
 element-copy-out-if3 : tie.Need-element-copy-out-if3
 element-copy-out-if3 c = search needs
@@ -37,7 +37,7 @@ cast-if3 : tie.Need-cast-if3
 cast-if3 c = let e = c .before in let w = e .before .before .before in omega (arith, w .pre .1 .sound .ringed .most (w .args .a .0) (e .if2 .left))
 
 returns-3 : tie.Need-returns-3
-returns-3 c s h = let e = c .before .before in let t = tops (e .before) s (h .sound) in (free-not-owned _ _ _ t (h .sound .ringed .tells _ _ (e .if2 .left) (omega (arith, t .small)) ∙ ne-eqb _ _ (c .if3 .taken)), h)
+returns-3 c s h = let e = c .before .before in let t = tops (e .before) s (h .sound) in (free-not-owned _ _ _ t (h .sound .ringed .tells _ _ (e .if2 .left) (omega (arith, t .small)) ∙ ne-eqb _ _ (c .if3 .taken)), h, λ _. refl)
 
 release-requires : tie.Need-release-requires
 release-requires c κs =

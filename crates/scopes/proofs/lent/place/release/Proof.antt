@@ -1,6 +1,7 @@
 -- A slot of the top goes back. Assumes nothing.
 use mathlib.Core.Path.{refl}
 use native.Mathlib.Omega.{arith}
+use Rattle.rules.proofs.Tells.{clash}
 use Rattle.scopes.specs.View.{listOf}
 use Rattle.scopes.specs.Lent.{withSlots}
 use Rattle.scopes.specs.declared.Scopes.{Scopes}
@@ -33,8 +34,9 @@ returns c s o h =
     let v = c .before .before .before in
     let w = v .before .before in
     let t = topped (state w s) (h .sound) (λ e. omega (arith, o .1)) in
-    gives-back (state w s) (h .sound) (h .sized) (w .args .a) (w .args .n .top) (o .0) (o .1) (o .2) (v .vacate .last .0) (v .vacate .ensures .0) (c .place .last .0)
-    (c .place .ensures .0 (listOf (w .args .links .now)) (h .sound .ringed .rings)) (v .vacate .ensures .1) (c .place .ensures .1) _ (c .before .before .if1 .taken) refl t
+    let r = gives-back (state w s) (h .sound) (h .sized) (w .args .a) (w .args .n .top) (o .0) (o .1) (o .2) (v .vacate .last .0) (v .vacate .ensures .0) (c .place .last .0)
+    (c .place .ensures .0 (listOf (w .args .links .now)) (h .sound .ringed .rings)) (v .vacate .ensures .1) (c .place .ensures .1) _ (c .before .before .if1 .taken) refl t in
+    (r .0, r .1, λ q. clash q refl)
 
 unlink-requires : tie.Need-unlink-requires
 unlink-requires c κs =
@@ -52,8 +54,9 @@ returns-2 c s o h =
     let w = v .before .before in
     let x = state w s in
     let t = topped x (h .sound) (λ e. omega (arith, o .1)) in
-    gives-quietly x (h .sound) (h .sized) (w .args .a) (w .args .n .top) (o .0) (o .1) (o .2) (v .vacate .last .0) (v .vacate .ensures .0) (c .unlink .last .0)
-    (c .unlink .ensures .0 (listOf (w .args .links .now)) (h .sound .ringed .rings) (on x (h .sound) (h .sized) (w .args .a) (w .args .n .top) (o .0) (o .1) (o .2))) (v .vacate .ensures .1) (c .unlink .ensures .1) _ (c .before .before .if1 .left) refl t
+    let r = gives-quietly x (h .sound) (h .sized) (w .args .a) (w .args .n .top) (o .0) (o .1) (o .2) (v .vacate .last .0) (v .vacate .ensures .0) (c .unlink .last .0)
+    (c .unlink .ensures .0 (listOf (w .args .links .now)) (h .sound .ringed .rings) (on x (h .sound) (h .sized) (w .args .a) (w .args .n .top) (o .0) (o .1) (o .2))) (v .vacate .ensures .1) (c .unlink .ensures .1) _ (c .before .before .if1 .left) refl t in
+    (r .0, r .1, λ q. clash q refl)
 
 pub release-spec : {M : Type 1} → statement M
 release-spec =
