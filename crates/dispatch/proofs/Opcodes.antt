@@ -155,12 +155,14 @@ slotless-code f g p e = go g (opcode-told f g e)
 pub works-any : {place : Placement} {s : Scopes} {handles holders handles′ holders′ drained : List ℕ} {handed o : ℕ} {r : Reached} (f : Code) (g : Frame) → Slotless (f .opcode) → frameOf f ≡ some g
     → Works nowhere g o s handles holders handed r handles′ holders′ drained → Works place g o s handles holders handed r handles′ holders′ drained
 works-any f g p e w =
-    record { does = any-place _ _ _ _ g (slotless-code f g p e) ∙ w .does; whole = w .whole; few = w .few; handles-length = w .handles-length; holders-length = w .holders-length }
+    record { does = any-place _ _ _ _ g (slotless-code f g p e) ∙ w .does; stays = w .stays; whole = w .whole; few = w .few; handles-length = w .handles-length; holders-length = w .holders-length }
 
 pub with-any : {place : Placement} {s : Scopes} {handles holders handles′ holders′ drained : List ℕ} {handed o : ℕ} {t t′ : Needing} {r : Reached} (f : Code) (g : Frame) → Slotless (f .opcode) → frameOf f ≡ some g
     → WorksWith nowhere g o s handles holders handed t r handles′ holders′ t′ drained → WorksWith place g o s handles holders handed t r handles′ holders′ t′ drained
 with-any f g p e w = record {
   does = any-place _ _ _ _ g (slotless-code f g p e) ∙ w .does;
+  stays = w .stays;
+  needs-stay = w .needs-stay;
   whole = w .whole;
   few = w .few;
   handles-length = w .handles-length;

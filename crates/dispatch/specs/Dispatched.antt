@@ -1,7 +1,7 @@
 -- What a step of any frame asks of the lent arrays and promises of them, each named once. Assumes nothing.
 use mathlib.Core.Path.{_≡_}
 use mathlib.Core.Logic.{_⊎_}
-use mathlib.Core.Bool.{Bool}
+use mathlib.Core.Bool.{Bool, true}
 use mathlib.Core.Option.{some}
 use mathlib.Core.List.{List}
 use Prim.Native.Nat.{ℕ, _≤_, _<_}
@@ -16,7 +16,7 @@ use Rattle.scopes.specs.Lent.{LentArray, LentArrays, allotArrays, nameArrays, n
 use Rattle.handles.specs.NeedTable.{table}
 use Rattle.text.specs.Lines.{frameOf}
 use Rattle.text.specs.declared.lines.Frame.{Frame as Code}
-use Rattle.frames.specs.Steps.{sourceOf, cellsIn, Works, LeadsFrom, LeadsWhole, LeadsAllots, StaysMarking}
+use Rattle.frames.specs.Steps.{sourceOf, isRefused, cellsIn, Works, LeadsFrom, LeadsWhole, LeadsAllots, StaysMarking}
 use Rattle.frames.specs.Needing.{StandsWith, WorksWith, MakesNeed, FreesBeside, tableIn, tableOut}
 use Rattle.frames.specs.declared.needing.Noted.{Noted}
 use Rattle.frames.specs.declared.steps.Source.{Source}
@@ -54,6 +54,10 @@ PlainOn place f halves links owner live dangled parent number bindings n handles
     (g : Frame) → frameOf f ≡ some g → Works place g (f .opcode) (wholeIn halves links owner live dangled parent number bindings n) (now (handles .entry)) (now (holders .entry)) handed
     (record { state = wholeOut halves links owner live dangled parent number bindings (r .numbers); handed = r .handed; adds = r .adds })
     (now (handles .exit)) (now (holders .exit)) (now (drained .exit))
+
+-- a refused step leaves the table of drained slots
+abbrev pub RefusedKeeps : LentArray ℕ → Adds → Type 0
+RefusedKeeps drained adds = isRefused adds ≡ true → now (drained .exit) ≡ now (drained .entry)
 
 -- ---- of the frame that the record f is, over the arrays that a group of frames is lent
 

@@ -5,7 +5,7 @@ ghost use lib.ListN.{length};
 ghost use Rattle.rules.specs.Sizes.{SLOTS};
 ghost use Rattle.rules.specs.Tells.{Tells};
 ghost use Rattle.slots.specs.Spots.{placementOf};
-ghost use Rattle.dispatch.specs.Dispatched.{StandsOn, StepsOn};
+ghost use Rattle.dispatch.specs.Dispatched.{StandsOn, StepsOn, RefusedKeeps};
 use beside::Advance;
 use beside::free_step;
 use beside::need_step;
@@ -58,6 +58,7 @@ pub fn step(
     requires { ⌜ StandsOn halves links owner live dangled parent number bindings n handles holders drained handed needs remembers needed ⌝ }
     ensures { λ r. ⌜ StepsOn (placementOf place) f halves links owner live dangled parent number bindings n handles holders drained handed needs remembers needed r ⌝ }
     ensures { λ _. ⌜ length (now (drained .exit)) ≡ SLOTS ⌝ }
+    ensures { λ r. ⌜ RefusedKeeps drained (r .adds) ⌝ }
 {
     let op = f.opcode;
     if 0x20 <= op {

@@ -7,7 +7,7 @@ ghost use Rattle.scopes.specs.Lent.{wholeNow, Whole};
 ghost use Rattle.slots.specs.Spots.{placementOf};
 ghost use Rattle.frames.specs.Steps.{Stands, StandsAllots, StandsNames, StandsCells};
 ghost use Rattle.rules.specs.Tells.{Tells};
-ghost use Rattle.dispatch.specs.Dispatched.{PlainCode, WriteCode, Writes, ScopeStep, AllotStep, NameStep, CellStep, PlainOn};
+ghost use Rattle.dispatch.specs.Dispatched.{PlainCode, WriteCode, Writes, ScopeStep, AllotStep, NameStep, CellStep, PlainOn, RefusedKeeps};
 use frames::allots;
 use frames::cells;
 use frames::named;
@@ -245,6 +245,7 @@ pub fn plain_step(
     requires { ⌜ (length (now drained) ≡ SLOTS) × PlainCode (f .opcode) ⌝ }
     ensures { λ r. ⌜ PlainOn (placementOf place) f halves links owner live dangled parent number bindings n handles holders drained handed r ⌝ }
     ensures { λ _. ⌜ length (now (drained .exit)) ≡ SLOTS ⌝ }
+    ensures { λ r. ⌜ RefusedKeeps drained (r .adds) ⌝ }
 {
     let op = f.opcode;
     if op < 0x06 {

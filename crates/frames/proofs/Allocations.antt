@@ -20,7 +20,7 @@ use Rattle.rules.proofs.Tells.{tells-and, tells-lt, tells-true, clash}
 use Rattle.rules.proofs.Naming.{id-is as found-id}
 use Rattle.rules.proofs.Exact.{top-found}
 use Rattle.scopes.specs.View.{view, index, at, atFirst, Seen, seen, told}
-use Rattle.scopes.specs.Lent.{made, Whole}
+use Rattle.scopes.specs.Lent.{isRefusal, made, Whole}
 use Rattle.scopes.proofs.Finds.{no-top}
 use Rattle.scopes.specs.declared.Scopes.{Scopes}
 use Rattle.scopes.specs.declared.Numbers.{Numbers}
@@ -29,11 +29,11 @@ use Rattle.scopes.specs.declared.Reply.the-variants as reply
 use Rattle.needs.specs.Kinds.{kindOf}
 use Rattle.needs.specs.declared.AddressKind.{AddressKind}
 use Rattle.handles.specs.Handles.{stateOf}
-use Rattle.frames.specs.Steps.{stepped, Few, Stands, Works, Grants, Reached}
+use Rattle.frames.specs.Steps.{stepped, isRefused, Few, Stands, Works, Grants, Reached}
 use Rattle.frames.specs.declared.steps.Adds.{Adds}
 use Rattle.frames.specs.declared.steps.Adds.the-variants.{One, Refused}
 use Rattle.frames.specs.declared.steps.Stepped.{Stepped}
-use Rattle.frames.proofs.Moving.{few-reply}
+use Rattle.frames.proofs.Moving.{few-reply, reply-leaves}
 use Rattle.frames.proofs.Allotting.{allots}
 
 -- ---- the top, and the scope of an id
@@ -67,7 +67,7 @@ pub works-refused : {place : Placement} (s : Scopes) (handles holders : List ℕ
     → step base place (stateOf (view s) handles holders handed) f ≡ refused n → (drained : List ℕ) → Works place f op s handles holders handed r handles holders drained
 works-refused {place = place} s handles holders handed stands f op n r is e drained =
     subst (λ (x : Reached). Works place f op s handles holders handed x handles holders drained) (sym is)
-    (record { does = e; whole = stands .whole; few = tt; handles-length = stands .handles-length; holders-length = stands .holders-length })
+    (record { does = e; stays = λ _. (refl, refl, refl, refl); whole = stands .whole; few = tt; handles-length = stands .handles-length; holders-length = stands .holders-length })
 
 module _ (p : Place) (s : Scopes) (handles holders : List ℕ) (handed : ℕ) (stands : Stands s handles holders handed) where
   abbrev c : rule.Scopes
@@ -80,11 +80,12 @@ module _ (p : Place) (s : Scopes) (handles holders : List ℕ) (handed : ℕ) (s
   place = placing (base .segments) p
 
   pub works-granted : (f : Frame) (op : ℕ) (k : Found) (kind : AddressKind) (n : ℕ) (o : Outcome) (r : Reached) (handles′ holders′ : List ℕ) → handed + n ≤ HANDLES
-      → seen o ≡ told at c (allocate place k n c) → Whole (o .state) → r .state ≡ o .state → Grants (o .reply) handed n kind (r .handed) (r .adds) handles handles′ holders holders′
+      → seen o ≡ told at c (allocate place k n c) → Whole (o .state) → (isRefusal (o .reply) ≡ true → o .state ≡ s) → r .state ≡ o .state → Grants (o .reply) handed n kind (r .handed) (r .adds) handles handles′ holders holders′
       → step base place standing f ≡ (allot base place k (kindOf kind) n standing >>= λ x. oneLine (shows op (x .0 ∷ [])) (x .1))
       → (drained : List ℕ) → Works place f op s handles holders handed r handles′ holders′ drained
-  works-granted f op k kind n o r handles′ holders′ fits e ok same g q drained = record {
+  works-granted f op k kind n o r handles′ holders′ fits e ok left same g q drained = record {
     does = q ∙ allots p s handles holders handed stands k kind n o r handles′ holders′ drained fits e same g op;
+    stays = λ no. let k = g .stays no in (same ∙ reply-leaves (o .reply) left (sym (ap isRefused (g .says)) ∙ no), k .0, k .1, k .2);
     whole = subst Whole (sym same) ok;
     few = subst Few (sym (g .says)) (few-reply (o .reply));
     handles-length = g .handles-length;
@@ -130,6 +131,7 @@ module _ (p : Place) (s : Scopes) (handles holders : List ℕ) (handed : ℕ) (s
   unfolding step
   linear-0 n e ne drained = record {
     does = ap (λ (m : ℕ). step base place standing (linear m)) e ∙ unless-some 3 _ (has-top s stands ne .1);
+    stays = λ _. (refl, refl, refl, refl);
     whole = stands .whole;
     few = tt;
     handles-length = stands .handles-length;

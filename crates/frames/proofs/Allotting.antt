@@ -30,7 +30,7 @@ use Rattle.scopes.specs.declared.Reply.the-variants as reply
 use Rattle.needs.specs.Kinds.{kindOf}
 use Rattle.needs.specs.declared.AddressKind.{AddressKind}
 use Rattle.handles.specs.Handles.{handleAt, stateOf, Hands}
-use Rattle.frames.specs.Steps.{stepped, addsOf, slotOr, Stands, Works, Grants, Reached}
+use Rattle.frames.specs.Steps.{stepped, addsOf, isRefused, slotOr, Stands, Works, Grants, Reached}
 use Rattle.frames.specs.declared.steps.Adds.{Adds}
 use Rattle.handles.proofs.Changes.{Granted, granting}
 
@@ -57,14 +57,16 @@ module _ (y : Reply) (n first : ℕ) (is : first ≡ slotOr y) (low : (a : SlotA
           let s : y ≡ at (slotOr y) = slot-at y (omega arith) in
           let same : slotOr y ≡ a .0 = cc in
           (refl, subst (λ (x : ℕ). Hands handles handles′ holders holders′ handed n x (kindOf kind)) (is ∙ same) h);
+      stays = λ q. clash (sym (ap isRefused (says ∙ ap addsOf (slot-at y (omega arith)))) ∙ q) refl;
       handles-length = long;
       holders-length = long′;
     }
 
-    pub grants-none : SLOTS ≤ first → Grants y handed n kind handed adds handles handles′ holders holders′
-    grants-none l = record {
+    pub grants-none : SLOTS ≤ first → handles′ ≡ handles → holders′ ≡ holders → Grants y handed n kind handed adds handles handles′ holders holders′
+    grants-none l same same′ = record {
       says = says;
       hands = λ a e. absurd (let s : slotOr y ≡ a .0 = ap slotOr e in omega (arith, low a e .0));
+      stays = λ _. (refl, same, same′);
       handles-length = long;
       holders-length = long′;
     }

@@ -47,11 +47,13 @@ module _ (s : Scopes) (handles holders : List ℕ) (handed : ℕ) (t : Needing) 
 
   -- the needs become t′
   pub beside : {place : Placement} (f : Frame) (o : ℕ) (m : Step) (g : State → State) → step base place standing f ≡ mapped (λ r. (r .0, g (r .1))) m
-      → (r : Reached) (handles′ holders′ drained : List ℕ) → Comes m o r handles′ holders′ drained
-      → (t′ : Needing) → (isRefused (r .adds) ≡ false → g (stateOf (view (r .state)) handles′ holders′ (r .handed)) ≡ stateWith (view (r .state)) handles′ holders′ (r .handed) t′)
+      → (r : Reached) (handles′ holders′ drained : List ℕ) → Comes s handles holders handed m o r handles′ holders′ drained
+      → (t′ : Needing) → (isRefused (r .adds) ≡ false → g (stateOf (view (r .state)) handles′ holders′ (r .handed)) ≡ stateWith (view (r .state)) handles′ holders′ (r .handed) t′) → (isRefused (r .adds) ≡ true → t′ ≡ t)
       → length (t′ .needs) ≡ NEEDS → length (t′ .remembers) ≡ NEEDS → WorksWith place f o s handles holders handed t r handles′ holders′ t′ drained
-  beside f o m g e r handles′ holders′ drained w t′ q l l′ = record {
+  beside f o m g e r handles′ holders′ drained w t′ q k l l′ = record {
     does = e ∙ ap (mapped (λ (x : _ × State). (x .0, g (x .1)))) (w .does) ∙ stepped-as g o (r .adds) _ _ drained q;
+    stays = w .stays;
+    needs-stay = k;
     whole = w .whole;
     few = w .few;
     handles-length = w .handles-length;
@@ -66,6 +68,8 @@ module _ (s : Scopes) (handles holders : List ℕ) (handed : ℕ) (t : Needing) 
       subst (λ (x : Reached). WorksWith place f o s handles holders handed t x handles holders t drained) (sym is)
       (record {
         does = e;
+        stays = λ _. (refl, refl, refl, refl);
+        needs-stay = λ _. refl;
         whole = stands .stands .whole;
         few = tt;
         handles-length = stands .stands .handles-length;
@@ -79,8 +83,8 @@ module _ (s : Scopes) (handles holders : List ℕ) (handed : ℕ) (t : Needing) 
       → Works place f o s handles holders handed r handles′ holders′ drained → WorksWith place f o s handles holders handed t r handles′ holders′ t drained
   left f o r handles′ holders′ drained e w =
       beside f o _ (within needs (t .needed)) e r handles′ holders′ drained
-      (record { does = w .does; whole = w .whole; few = w .few; handles-length = w .handles-length; holders-length = w .holders-length })
-      t (λ _. refl) (stands .needs-length) (stands .remembers-length)
+      (record { does = w .does; stays = w .stays; whole = w .whole; few = w .few; handles-length = w .handles-length; holders-length = w .holders-length })
+      t (λ _. refl) (λ _. refl) (stands .needs-length) (stands .remembers-length)
 
   -- 01 to 0b, 0f to 12, 14
   pub plain-works : {place : Placement} (f : Frame) (o : ℕ) (r : Reached) (handles′ holders′ drained : List ℕ) → plain f ≡ true

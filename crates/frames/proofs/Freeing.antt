@@ -19,7 +19,7 @@ use Rattle.rules.proofs.Tells.{decided, clash, tells-and, tells-true, tells-eq}
 use Rattle.rules.proofs.Removing.{remove-stays, remove-clears}
 use Rattle.rules.proofs.Leaves.{back-leaves}
 use Rattle.scopes.specs.View.{view, Seen, seen, toldOnly}
-use Rattle.scopes.specs.Lent.{Whole}
+use Rattle.scopes.specs.Lent.{isRefusal, Whole}
 use Rattle.scopes.specs.declared.Scopes.{Scopes}
 use Rattle.scopes.specs.declared.Outcome.{Outcome}
 use Rattle.scopes.specs.declared.Reply.{Reply}
@@ -31,7 +31,7 @@ use Rattle.frames.specs.Steps.{nowhere, stepped, addsOf, freeing, freeCo
 use Rattle.handles.specs.declared.Handle.{Handle as Known}
 use Rattle.frames.specs.declared.steps.Adds.the-variants.{Nothing}
 use Rattle.handles.proofs.Changes.{recoding, clearing}
-use Rattle.frames.proofs.Moving.{few-reply}
+use Rattle.frames.proofs.Moving.{few-reply, reply-leaves}
 use Rattle.frames.proofs.Handling.{spent-unknown, spent-freed, unspent, barred-spent, unbarred, set-freed, now-long}
 
 -- both frames
@@ -74,10 +74,11 @@ module _ (s : Scopes) (handles holders : List ℕ) (handed : ℕ) (stands : Stan
     stays e = rw (e, freeAs)
 
     pub kept-comes : goesBack c k ≡ false → (b : ℕ) → Coded b (freedAs x) → h < length handles → (o : ℕ) (drained : List ℕ)
-        → Comes (freedThen o (freeAs k dangles h standing)) o (record { state = s; handed = handed; adds = Nothing }) (set handles h b) holders drained
+        → Comes s handles holders handed (freedThen o (freeAs k dangles h standing)) o (record { state = s; handed = handed; adds = Nothing }) (set handles h b) holders drained
     unfolding _>>=_
     kept-comes e b new known o drained = record {
       does = ap (freedThen o) (stays e) ∙ ap (oneLine (shows o [])) (set-freed s handles holders handed stands h x coded b new known);
+      stays = λ q. clash q refl;
       whole = stands .whole;
       few = tt;
       handles-length = now-long s handles holders handed stands h x coded b (freedAs x) new refl known;
@@ -140,10 +141,11 @@ module _ (s : Scopes) (handles holders : List ℕ) (handed : ℕ) (stands : Stan
             ∙ λ t. record { scopes = q t; handles = handleAt (p t .occupied) (set handles h b) holders; handed = handed; needs = λ n. noNeed; needed = 0 }
 
         pub back-comes : (o : Outcome) → seen o ≡ toldOnly c (giveBack dangles (x .address .slot .0) c) → Whole (o .state) → isDone (o .reply) ≡ true → (op : ℕ) (drained : List ℕ)
-            → Comes (freedThen op (handBack dangles h standing)) op (record { state = o .state; handed = handed; adds = Nothing }) (set handles h b) holders drained
+            → Comes s handles holders handed (freedThen op (handBack dangles h standing)) op (record { state = o .state; handed = handed; adds = Nothing }) (set handles h b) holders drained
         unfolding _>>=_
         back-comes o e ok done op drained = record {
           does = go (giveBack dangles at c) refl;
+          stays = λ q. clash q refl;
           whole = ok;
           few = tt;
           handles-length = now-long s handles holders handed stands h x coded b (freedAs x) new refl known;
@@ -161,13 +163,13 @@ module _ (s : Scopes) (handles holders : List ℕ) (handed : ℕ) (stands : Stan
                 let says : o .reply ≡ reply.Refused n = ap (λ (y : Seen). y .says) (seen-there ∙ ap (toldOnly c) q) in
                 clash done (ap isDone says)
 
-      pub back-refused : (o : Outcome) → seen o ≡ toldOnly c (giveBack dangles (x .address .slot .0) c) → Whole (o .state) → isDone (o .reply) ≡ false
+      pub back-refused : (o : Outcome) → seen o ≡ toldOnly c (giveBack dangles (x .address .slot .0) c) → Whole (o .state) → (isRefusal (o .reply) ≡ true → o .state ≡ s) → isDone (o .reply) ≡ false
           → (r : Reached) → r ≡ record { state = o .state; handed = handed; adds = addsOf (o .reply) } → (op : ℕ) (drained : List ℕ)
-          → Comes (freedThen op (handBack dangles h standing)) op r handles holders drained
+          → Comes s handles holders handed (freedThen op (handBack dangles h standing)) op r handles holders drained
       unfolding _>>=_
-      back-refused o e ok undone r is op drained =
-          subst (λ (y : Reached). Comes (freedThen op (handBack dangles h standing)) op y handles holders drained) (sym is)
-          (record { does = go (giveBack dangles at c) refl; whole = ok; few = few-reply (o .reply); handles-length = stands .handles-length; holders-length = stands .holders-length })
+      back-refused o e ok left undone r is op drained =
+          subst (λ (y : Reached). Comes s handles holders handed (freedThen op (handBack dangles h standing)) op y handles holders drained) (sym is)
+          (record { does = go (giveBack dangles at c) refl; stays = λ q. (reply-leaves (o .reply) left q, refl, refl, refl); whole = ok; few = few-reply (o .reply); handles-length = stands .handles-length; holders-length = stands .holders-length })
         where
           seen-there : seen o ≡ toldOnly c (giveBack dangles at c)
           seen-there = e ∙ λ t. toldOnly c (giveBack dangles (sym (coded .slot) t) c)

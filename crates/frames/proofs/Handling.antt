@@ -14,7 +14,7 @@ use Rattle.rules.specs.Scopes as rule
 use Rattle.rules.specs.Needs.{Kind, Address, address, freed, allocatedKind, isFreed}
 use Rattle.rules.specs.Frames.{noNeed, State, Handle, kind≔, written≔, Frame, define, forget, Source, write, read, shows, stores, loads, oneLine, unknown, spent, belongs, barred, setHandle, step}
 use Rattle.rules.proofs.Chains.{when-true, when-false}
-use Rattle.rules.proofs.Tells.{or-second}
+use Rattle.rules.proofs.Tells.{clash, or-second}
 use Rattle.slots.specs.Halves.{occ}
 use Rattle.scopes.specs.View.{view}
 use Rattle.scopes.specs.declared.Scopes.{Scopes}
@@ -122,6 +122,7 @@ module _ (s : Scopes) (handles holders : List ℕ) (handed : ℕ) (stands : Stan
     unfolding step
     forget-works l live drained = record {
       does = when-false 13 _ (unbarred standing h refl (unspent standing h l (ap isFreed (coded .kind) ∙ live))) ∙ ap (oneLine (shows 0x0e [])) set-freed;
+      stays = λ q. clash q refl;
       whole = stands .whole;
       few = tt;
       handles-length = now-long b (freedAs x) new refl known;
@@ -143,6 +144,7 @@ module _ (s : Scopes) (handles holders : List ℕ) (handed : ℕ) (stands : Stan
           when-false 13 _ (is-known standing h l) ∙ when-false 14 _ (ap not held)
           ∙ λ t. oneLine (stores (coded .slot t) (sourceOf v)) (set-changed b y new (ap (λ (a : Address). a .slot) is) known (allocatedKind (standing .handles h .kind)) true
           (ap (λ (a : Address). a .kind) is ∙ ap allocatedKind (sym (coded .kind))) written t);
+      stays = λ q. clash q refl;
       whole = stands .whole;
       few = tt;
       handles-length = now-long b y new (ap (λ (a : Address). a .slot) is) known;
@@ -165,6 +167,7 @@ module _ (s : Scopes) (handles holders : List ℕ) (handed : ℕ) (stands : Stan
     pub load-works : standing .handles h .held ≡ true → x .written ≡ true → (drained : List ℕ) → Works nowhere f o s handles holders handed (record { state = s; handed = handed; adds = Load (x .address .slot) }) handles holders drained
     load-works e w drained = record {
       does = loads-it ∙ when-false 14 _ (ap not e) ∙ when-false 15 _ (ap not (coded .written ∙ w)) ∙ λ t. oneLine (loads o (coded .slot t)) standing;
+      stays = λ q. clash q refl;
       whole = stands .whole;
       few = tt;
       handles-length = stands .handles-length;

@@ -1,6 +1,6 @@
 -- A slot in the scope of an id, and its handle: 4, 16, 7, and what was granted. Assumes nothing.
 use mathlib.Core.Path.{_≡_, refl, sym, ap, subst, _∙_}
-use mathlib.Core.Bool.{false}
+use mathlib.Core.Bool.{true, false}
 use mathlib.Core.Option.{Option, none, some}
 use mathlib.Core.List.{List, [], _∷_}
 use Prim.Native.Nat.{ℕ, _+_, _≤_}
@@ -16,7 +16,7 @@ use Rattle.rules.specs.Frames.{State, allocIn, allot, shows, oneLine, step}
 use Rattle.rules.proofs.Chains.{unless-some, unless-none, refused-on}
 use Rattle.rules.proofs.Tells.{clash}
 use Rattle.scopes.specs.View.{view, idOf, at, Seen, seen, told}
-use Rattle.scopes.specs.Lent.{Whole}
+use Rattle.scopes.specs.Lent.{isRefusal, Whole}
 use Rattle.scopes.specs.declared.Scopes.{Scopes}
 use Rattle.scopes.specs.declared.ScopeId.{ScopeId}
 use Rattle.scopes.specs.declared.Outcome.{Outcome}
@@ -24,7 +24,7 @@ use Rattle.needs.specs.declared.AddressKind.the-variants as kind
 use Rattle.handles.specs.Handles.{kindIn, stateOf}
 use Rattle.frames.specs.Steps.{addsOf, isRefused, Few, Stands, Grants, Reached, allottedIn, AllotsOne}
 use Rattle.frames.specs.declared.steps.Adds.the-variants.{Refused}
-use Rattle.frames.proofs.Moving.{few-reply, comes-refused}
+use Rattle.frames.proofs.Moving.{few-reply, reply-leaves, comes-refused}
 use Rattle.frames.proofs.Allotting.{allots}
 use Rattle.frames.proofs.Allocations.{full, id-is}
 
@@ -70,11 +70,12 @@ module _ (p : Place) (s : Scopes) (handles holders : List ℕ) (handed : ℕ) (s
               subst (λ (h : ℕ). kindIn (getD handles′ h 0) ≡ scope (idOf id)) next (g .hands (record { 0 = x .0 }) says .1 .kinds 0 (omega arith))
           go (refused n) p = clash (ap isRefused (g .says ∙ ap addsOf (ap (λ (y : Seen). y .says) (q ∙ ap (told at c) p)))) u
 
-      pub in-granted : handed + 1 ≤ HANDLES → Whole (o .state) → r .state ≡ o .state → AllotsOne place (idOf id) s handles holders handed r handles′ holders′
+      pub in-granted : handed + 1 ≤ HANDLES → Whole (o .state) → (isRefusal (o .reply) ≡ true → o .state ≡ s) → r .state ≡ o .state → AllotsOne place (idOf id) s handles holders handed r handles′ holders′
       unfolding allottedIn
-      in-granted fits ok same = record {
+      in-granted fits ok left same = record {
         comes = λ op drained. record {
           does = unless-some 4 _ e ∙ allots p s handles holders handed stands k (kind.Scope id) 1 o r handles′ holders′ drained fits q same g op;
+          stays = λ no. let k = g .stays no in (same ∙ reply-leaves (o .reply) left (sym (ap isRefused (g .says)) ∙ no), k .0, k .1, k .2);
           whole = subst Whole (sym same) ok;
           few = subst Few (sym (g .says)) (few-reply (o .reply));
           handles-length = g .handles-length;

@@ -22,14 +22,14 @@ use Rattle.rules.proofs.Naming.{Here, number-here}
 use Rattle.rules.proofs.KeepsScopes.{poppable-is, last-is}
 use Rattle.rules.proofs.Leaves.{child-leaves, dangle-leaves, restore-leaves}
 use Rattle.scopes.specs.View.{view, idOf, opened, Seen, seen, told, toldOnly}
-use Rattle.scopes.specs.Lent.{Whole}
+use Rattle.scopes.specs.Lent.{isRefusal, Whole}
 use Rattle.scopes.specs.declared.Scopes.{Scopes}
 use Rattle.scopes.specs.declared.ScopeId.{ScopeId}
 use Rattle.scopes.specs.declared.Outcome.{Outcome}
 use Rattle.scopes.specs.declared.Reply.{Reply}
 use Rattle.scopes.specs.declared.Reply.the-variants as reply
 use Rattle.handles.specs.Handles.{handleAt, stateOf}
-use Rattle.frames.specs.Steps.{nowhere, stepped, addsOf, Few, Stands, Works, Comes, Reached}
+use Rattle.frames.specs.Steps.{nowhere, stepped, addsOf, isRefused, Few, Stands, Works, Comes, Reached}
 use Rattle.frames.specs.declared.steps.Adds.the-variants.{Refused}
 use Rattle.handles.proofs.Changes.{closing}
 
@@ -40,6 +40,18 @@ few-reply reply.Empty = tt
 few-reply (reply.Opened i) = tt
 few-reply (reply.Found b) = tt
 few-reply (reply.Refused n) = tt
+
+refusal-adds : (y : Reply) → isRefusal y ≡ isRefused (addsOf y)
+refusal-adds reply.Done = refl
+refusal-adds (reply.At a) = refl
+refusal-adds reply.Empty = refl
+refusal-adds (reply.Opened i) = refl
+refusal-adds (reply.Found b) = refl
+refusal-adds (reply.Refused n) = refl
+
+-- what a reply's refusal leaves, a refused step leaves
+pub reply-leaves : {s t : Scopes} (y : Reply) → (isRefusal y ≡ true → t ≡ s) → isRefused (addsOf y) ≡ true → t ≡ s
+reply-leaves y k q = k (refusal-adds y ∙ q)
 
 -- ---- over any tables
 
@@ -145,27 +157,28 @@ module _ (s : Scopes) (handles holders : List ℕ) (handed : ℕ) (stands : Stan
 
 -- ---- a step that ended with the outcome o, and left the tables alone
 
-pub ended-works : (s : Scopes) (handles holders : List ℕ) (handed : ℕ) → Stands s handles holders handed → (o : Outcome) → Whole (o .state) → (r : Reached) → r ≡ record { state = o .state; handed = handed; adds = addsOf (o .reply) }
+pub ended-works : (s : Scopes) (handles holders : List ℕ) (handed : ℕ) → Stands s handles holders handed → (o : Outcome) → Whole (o .state) → (isRefusal (o .reply) ≡ true → o .state ≡ s) → (r : Reached) → r ≡ record { state = o .state; handed = handed; adds = addsOf (o .reply) }
     → (f : Frame) (op : ℕ) (drained : List ℕ) → step base nowhere (stateOf (view s) handles holders handed) f ≡ stepped op (addsOf (o .reply)) (stateOf (view (o .state)) handles holders handed) drained
     → Works nowhere f op s handles holders handed r handles holders drained
-ended-works s handles holders handed stands o ok r is f op drained e =
+ended-works s handles holders handed stands o ok left r is f op drained e =
     subst (λ (x : Reached). Works nowhere f op s handles holders handed x handles holders drained) (sym is)
-    (record { does = e; whole = ok; few = few-reply (o .reply); handles-length = stands .handles-length; holders-length = stands .holders-length })
+    (record { does = e; stays = λ q. (reply-leaves (o .reply) left q, refl, refl, refl); whole = ok; few = few-reply (o .reply); handles-length = stands .handles-length; holders-length = stands .holders-length })
 
 -- ---- what several frames do
 
-pub comes-by : {m m′ : Step} (o : ℕ) (r : Reached) (handles′ holders′ drained : List ℕ) → m ≡ m′ → Comes m′ o r handles′ holders′ drained → Comes m o r handles′ holders′ drained
+pub comes-by : {s : Scopes} {handles holders : List ℕ} {handed : ℕ} {m m′ : Step} (o : ℕ) (r : Reached) (handles′ holders′ drained : List ℕ) → m ≡ m′ → Comes s handles holders handed m′ o r handles′ holders′ drained
+    → Comes s handles holders handed m o r handles′ holders′ drained
 comes-by o r handles′ holders′ drained e w =
-    record { does = e ∙ w .does; whole = w .whole; few = w .few; handles-length = w .handles-length; holders-length = w .holders-length }
+    record { does = e ∙ w .does; stays = w .stays; whole = w .whole; few = w .few; handles-length = w .handles-length; holders-length = w .holders-length }
 
 module _ (s : Scopes) (handles holders : List ℕ) (handed : ℕ) where
-  pub comes-refused : Stands s handles holders handed → (m : Step) (o n : ℕ) (r : Reached) → r ≡ record { state = s; handed = handed; adds = Refused n } → m ≡ refused n → (drained : List ℕ) → Comes m o r handles holders drained
+  pub comes-refused : Stands s handles holders handed → (m : Step) (o n : ℕ) (r : Reached) → r ≡ record { state = s; handed = handed; adds = Refused n } → m ≡ refused n → (drained : List ℕ) → Comes s handles holders handed m o r handles holders drained
   comes-refused stands m o n r is e drained =
-      subst (λ (x : Reached). Comes m o x handles holders drained) (sym is)
-      (record { does = e; whole = stands .whole; few = tt; handles-length = stands .handles-length; holders-length = stands .holders-length })
+      subst (λ (x : Reached). Comes s handles holders handed m o x handles holders drained) (sym is)
+      (record { does = e; stays = λ _. (refl, refl, refl, refl); whole = stands .whole; few = tt; handles-length = stands .handles-length; holders-length = stands .holders-length })
 
   -- a frame that does just that
   pub works-by : {place : Placement} (f : Frame) (o : ℕ) (m : Step) (r : Reached) (handles′ holders′ drained : List ℕ) → step base place (stateOf (view s) handles holders handed) f ≡ m
-      → Comes m o r handles′ holders′ drained → Works place f o s handles holders handed r handles′ holders′ drained
+      → Comes s handles holders handed m o r handles′ holders′ drained → Works place f o s handles holders handed r handles′ holders′ drained
   works-by f o m r handles′ holders′ drained e w =
-      record { does = e ∙ w .does; whole = w .whole; few = w .few; handles-length = w .handles-length; holders-length = w .holders-length }
+      record { does = e ∙ w .does; stays = w .stays; whole = w .whole; few = w .few; handles-length = w .handles-length; holders-length = w .holders-length }

@@ -14,6 +14,7 @@ use Rattle.rules.specs.Scopes.{byId, byNumber}
 use Rattle.rules.specs.Needs.{outputOf}
 use Rattle.rules.specs.Frames.{Frame, outputNeed, Remembered, isGone, lost, outputShown, State, addNeed, setNeed, shows, oneLine, step}
 use Rattle.rules.proofs.Chains.{when-false}
+use Rattle.rules.proofs.Tells.{clash}
 use Rattle.scopes.specs.View.{view, idOf}
 use Rattle.scopes.specs.declared.Scopes.{Scopes}
 use Rattle.scopes.specs.declared.ScopeId.{ScopeId}
@@ -38,6 +39,7 @@ module _ (needs remembers : List ℕ) (needed b h : ℕ) (long : length needs �
   unfolding addNeed base _>>=_ refuse_when_
   adding-22 l = record {
     does = λ c handles holders handed o drained. rw (le-leb NEEDS needed l, addNeed);
+    stays = λ _. refl;
     few = tt;
     needs-length = long;
     remembers-length = long′;
@@ -49,6 +51,7 @@ module _ (needs remembers : List ℕ) (needed b h : ℕ) (long : length needs �
     does = λ c handles holders handed o drained.
         rw (lt-leb NEEDS needed l, addNeed)
         (λ t. oneLine (shows o (needed ∷ [])) (record { scopes = c; handles = handleAt (c .slots .occupied) handles holders; handed = handed; needs = sym (need-set needs remembers needed b h (omega arith) (omega arith)) t; needed = needed + 1 }));
+    stays = λ q. clash q refl;
     few = tt;
     needs-length = simp length-set long;
     remembers-length = simp length-set long′;
@@ -65,6 +68,8 @@ module _ (s : Scopes) (handles holders : List ℕ) (handed : ℕ) (t : Needing) 
       → WorksWith nowhere f o s handles holders handed t (record { state = s; handed = handed; adds = adds }) handles holders t′ drained
   makes x y q adds t′ a e drained = record {
     does = e ∙ ap (λ (z : Remembered). addNeed base z standing >>= λ u. oneLine (shows o (t .needed ∷ [])) u) (sym q) ∙ a .does (view s) handles holders handed o drained;
+    stays = λ _. (refl, refl, refl, refl);
+    needs-stay = a .stays;
     whole = stands .stands .whole;
     few = a .few;
     handles-length = stands .stands .handles-length;
@@ -116,6 +121,8 @@ module _ (s : Scopes) (handles holders : List ℕ) (handed : ℕ) (t : Needing) 
         ∙ (λ u. sym e u >>= λ o. oneLine (shows 0x24 (outputShown o ∷ [])) (stateWith (view s) handles holders handed t))
         ∙ shows-output a (stateWith (view s) handles holders handed t) drained
         ∙ λ u. stepped 0x24 (sym q u) (stateWith (view s) handles holders handed t) drained;
+    stays = λ _. (refl, refl, refl, refl);
+    needs-stay = λ _. refl;
     whole = stands .stands .whole;
     few = subst Few (sym q) (few-output a);
     handles-length = stands .stands .handles-length;

@@ -108,10 +108,11 @@ kind-owned freedNeed = refl
 
 module _ (s : Scopes) (handles holders : List ℕ) (handed : ℕ) where
   pub other-comes : Stands s handles holders handed → (h : ℕ) (d : Need) → isScopeKind (needKind d) ≡ false → (o : ℕ) (drained : List ℕ)
-      → Comes (freedThen o (freeOwn h (stateOf (view s) handles holders handed) d)) o (record { state = s; handed = handed; adds = Nothing }) handles holders drained
+      → Comes s handles holders handed (freedThen o (freeOwn h (stateOf (view s) handles holders handed) d)) o (record { state = s; handed = handed; adds = Nothing }) handles holders drained
   unfolding _>>=_
   other-comes stands h d e o drained = record {
     does = ap (freedThen o) (other-kept h (stateOf (view s) handles holders handed) d e);
+    stays = λ _. (refl, refl, refl, refl);
     whole = stands .whole;
     few = tt;
     handles-length = stands .handles-length;
@@ -181,6 +182,8 @@ module _ (place : Placement) (s : Scopes) (handles holders : List ℕ) (handed :
           when-false 21 _ (not-lost here n there (ap isGone is ∙ g))
           ∙ (λ u. allotNeed base place n here (is u) >>= λ r. oneLine (shows 0x23 (slotShown (r .0) ∷ [])) (r .1))
           ∙ λ u. e u >>= λ r. oneLine (shows 0x23 (slotShown (r .0) ∷ [])) (r .1);
+      stays = λ _. (refl, refl, refl, refl);
+      needs-stay = λ _. refl;
       whole = stands .stands .whole;
       few = tt;
       handles-length = stands .stands .handles-length;
@@ -206,30 +209,30 @@ module _ (place : Placement) (s : Scopes) (handles holders : List ℕ) (handed :
     inside = let room = below s handles holders handed t stands n there in (omega (arith, stands .needs-length), omega (arith, stands .remembers-length))
 
     module _ (id : Id) (is : needIn (getD (t .needs) n 0) ≡ defer id) (r : Reached) (handles′ holders′ : List ℕ) (a : AllotsOne place id s handles holders handed r handles′ holders′) (drained : List ℕ) where
-      first-to : (t′ : Needing) → (isRefused (r .adds) ≡ false → owned place (rememberedAt (t .needs) (t .remembers)) (t .needed) bare n there id is (stateOf (view (r .state)) handles′ holders′ (r .handed)) ≡ stateWith (view (r .state)) handles′ holders′ (r .handed) t′)
+      first-to : (t′ : Needing) → (isRefused (r .adds) ≡ false → owned place (rememberedAt (t .needs) (t .remembers)) (t .needed) bare n there id is (stateOf (view (r .state)) handles′ holders′ (r .handed)) ≡ stateWith (view (r .state)) handles′ holders′ (r .handed) t′) → (isRefused (r .adds) ≡ true → t′ ≡ t)
           → length (t′ .needs) ≡ NEEDS → length (t′ .remembers) ≡ NEEDS → WorksWith place (allocNeed n) 0x23 s handles holders handed t r handles′ holders′ t′ drained
       first-to = beside s handles holders handed t stands (allocNeed n) 0x23 _ _ (first-is place (rememberedAt (t .needs) (t .remembers)) (t .needed) bare n there id is) r handles′ holders′ drained (a .comes 0x23 drained)
 
       pub first-refused : isRefused (r .adds) ≡ true → WorksWith place (allocNeed n) 0x23 s handles holders handed t r handles′ holders′ t drained
-      first-refused e = first-to t (λ q. clash e q) (stands .needs-length) (stands .remembers-length)
+      first-refused e = first-to t (λ q. clash e q) (λ _. refl) (stands .needs-length) (stands .remembers-length)
 
       pub first-works : isRefused (r .adds) ≡ false → WorksWith place (allocNeed n) 0x23 s handles holders handed t r handles′ holders′ (table (set (t .needs) n (getD handles′ handed 0)) (set (t .remembers) n handed) (t .needed)) drained
       first-works e =
-          first-to _ (λ _. set-own (view (r .state)) handles′ holders′ (r .handed) t n (inside .0) (inside .1) handed (ap isScopeKind (a .hands e .1)))
+          first-to _ (λ _. set-own (view (r .state)) handles′ holders′ (r .handed) t n (inside .0) (inside .1) handed (ap isScopeKind (a .hands e .1))) (λ q. clash q e)
           (simp length-set (stands .needs-length)) (simp length-set (stands .remembers-length))
 
     module _ (d : Need) (is : d ≡ needIn (getD (t .needs) n 0)) (kept : isGone d ≡ false) (r : Reached) (handles′ : List ℕ) (drained : List ℕ)
-        (w : Comes (freedThen 0x25 (freeOwn (getD (t .remembers) n 0) bare d)) 0x25 r handles′ holders drained) where
-      drop-to : (t′ : Needing) → (isRefused (r .adds) ≡ false → (within (rememberedAt (t .needs) (t .remembers)) (t .needed) (stateOf (view (r .state)) handles′ holders (r .handed)) ▹ setNeed n noNeed) ≡ stateWith (view (r .state)) handles′ holders (r .handed) t′)
+        (w : Comes s handles holders handed (freedThen 0x25 (freeOwn (getD (t .remembers) n 0) bare d)) 0x25 r handles′ holders drained) where
+      drop-to : (t′ : Needing) → (isRefused (r .adds) ≡ false → (within (rememberedAt (t .needs) (t .remembers)) (t .needed) (stateOf (view (r .state)) handles′ holders (r .handed)) ▹ setNeed n noNeed) ≡ stateWith (view (r .state)) handles′ holders (r .handed) t′) → (isRefused (r .adds) ≡ true → t′ ≡ t)
           → length (t′ .needs) ≡ NEEDS → length (t′ .remembers) ≡ NEEDS → WorksWith place (dropNeed n) 0x25 s handles holders handed t r handles′ holders t′ drained
       drop-to =
           beside s handles holders handed t stands (dropNeed n) 0x25 _ _ (drop-is place (rememberedAt (t .needs) (t .remembers)) (t .needed) bare n there (sym (ap isGone is) ∙ kept)) r handles′ holders drained
           (comes-by 0x25 r handles′ holders drained (λ u. freedThen 0x25 (freeOwn (getD (t .remembers) n 0) bare (sym is u))) w)
 
       pub drop-refused : isRefused (r .adds) ≡ true → WorksWith place (dropNeed n) 0x25 s handles holders handed t r handles′ holders t drained
-      drop-refused e = drop-to t (λ q. clash e q) (stands .needs-length) (stands .remembers-length)
+      drop-refused e = drop-to t (λ q. clash e q) (λ _. refl) (stands .needs-length) (stands .remembers-length)
 
-      pub drop-works : WorksWith place (dropNeed n) 0x25 s handles holders handed t r handles′ holders (table (set (t .needs) n 0) (set (t .remembers) n 0) (t .needed)) drained
-      drop-works =
-          drop-to _ (λ _. set-gone (view (r .state)) handles′ holders (r .handed) t n (inside .0) (inside .1))
+      pub drop-works : isRefused (r .adds) ≡ false → WorksWith place (dropNeed n) 0x25 s handles holders handed t r handles′ holders (table (set (t .needs) n 0) (set (t .remembers) n 0) (t .needed)) drained
+      drop-works e =
+          drop-to _ (λ _. set-gone (view (r .state)) handles′ holders (r .handed) t n (inside .0) (inside .1)) (λ q. clash q e)
           (simp length-set (stands .needs-length)) (simp length-set (stands .remembers-length))

@@ -15,8 +15,9 @@ use Rattle.rules.specs.Frames.{State, scopes≔, Line, shows, oneLine, Step, st
 use Rattle.rules.proofs.Chains.{All, unless-some, unless-none, when-true, when-false}
 use Rattle.rules.proofs.Leaves.{bind-leaves, take-leaves}
 use Rattle.rules.proofs.Held.{got-agrees}
+use Rattle.rules.proofs.Tells.{clash}
 use Rattle.scopes.specs.View.{view, bound, Seen, seen, told, toldOnly, replied}
-use Rattle.scopes.specs.Lent.{Whole}
+use Rattle.scopes.specs.Lent.{isRefusal, Whole}
 use Rattle.scopes.proofs.Finds.{no-top}
 use Rattle.scopes.specs.declared.Scopes.{Scopes}
 use Rattle.scopes.specs.declared.Outcome.{Outcome}
@@ -28,7 +29,7 @@ use Rattle.frames.specs.Steps.{nowhere, stepped, addsOf, handleOr, Few, 
 use Rattle.handles.specs.declared.Handle.{Handle as Known}
 use Rattle.frames.specs.declared.steps.Adds.{Adds}
 use Rattle.frames.specs.declared.steps.Adds.the-variants.{Drained}
-use Rattle.frames.proofs.Moving.{few-reply, over-same, told-does, only-does}
+use Rattle.frames.proofs.Moving.{few-reply, reply-leaves, over-same, told-does, only-does}
 use Rattle.frames.proofs.Allocations.{has-top}
 use Rattle.frames.proofs.Handling.{spent-unknown, spent-freed, unspent}
 
@@ -47,7 +48,7 @@ module _ (s : Scopes) (handles holders : List ℕ) (handed : ℕ) (stands : Stan
   -- nothing moves
   still : (f : frame.Frame) (o : ℕ) (adds : Adds) (drained : List ℕ) → Few adds → step base nowhere standing f ≡ stepped o adds standing drained
       → Works nowhere f o s handles holders handed (record { state = s; handed = handed; adds = adds }) handles holders drained
-  still f o adds drained few e = record { does = e; whole = stands .whole; few = few; handles-length = stands .handles-length; holders-length = stands .holders-length }
+  still f o adds drained few e = record { does = e; stays = λ _. (refl, refl, refl, refl); whole = stands .whole; few = few; handles-length = stands .handles-length; holders-length = stands .holders-length }
 
   -- ---- get
 
@@ -81,6 +82,7 @@ module _ (s : Scopes) (handles holders : List ℕ) (handed : ℕ) (stands : Stan
       let n : length (c .dangling) ≡ count = sym (ap length q) ∙ length-take count drained ∙ omega arith in
       record {
         does = λ u. oneLine (shows 0x0f (n u ∷ sym q u)) (over-same c handles holders handed drained (rule.dangling≔ [] c) (view t) (sym e) refl u);
+        stays = λ q. clash q refl;
         whole = ok;
         few = few;
         handles-length = stands .handles-length;
@@ -103,10 +105,10 @@ module _ (s : Scopes) (handles holders : List ℕ) (handed : ℕ) (stands : Stan
       unfolding step
       define-freed e = unless-some 3 _ (has-top s stands ne .1) ∙ when-true 13 _ (spent-freed standing h (ap isFreed (coded .kind) ∙ e))
 
-      pub define-works : h < handed → isFreed (kindOf (x .address .kind)) ≡ false → (o : Outcome) → seen o ≡ toldOnly c (rule.defineName base name (x .address .slot .0) h c) → Whole (o .state)
+      pub define-works : h < handed → isFreed (kindOf (x .address .kind)) ≡ false → (o : Outcome) → seen o ≡ toldOnly c (rule.defineName base name (x .address .slot .0) h c) → Whole (o .state) → (isRefusal (o .reply) ≡ true → o .state ≡ s)
           → (r : Reached) → r ≡ record { state = o .state; handed = handed; adds = addsOf (o .reply) } → (drained : List ℕ) → Works nowhere (frame.define name h) 0x09 s handles holders handed r handles holders drained
       unfolding step
-      define-works l live o e ok r is drained =
+      define-works l live o e ok left r is drained =
           let t = has-top s stands ne in
           let known : seen o ≡ toldOnly c (rule.bindIn base (t .0) name (standing .handles h .address) h c)
           = e ∙ (λ u. toldOnly c (rule.defineName base name (sym (coded .slot) u) h c)) ∙ ap (toldOnly c) (unless-some 3 _ (t .1)) in
@@ -115,7 +117,7 @@ module _ (s : Scopes) (handles holders : List ℕ) (handed : ℕ) (stands : Stan
           ∙ only-does c handles holders handed drained 0x09 (view (o .state)) (o .reply) (rule.bindIn base (t .0) name (standing .handles h .address) h c) known
           (λ x q. bind-leaves base c (t .0) name (standing .handles h .address) h .at x q .slots-are) in
           subst (λ (z : Reached). Works nowhere (frame.define name h) 0x09 s handles holders handed z handles holders drained) (sym is)
-          (record { does = does; whole = ok; few = few-reply (o .reply); handles-length = stands .handles-length; holders-length = stands .holders-length })
+          (record { does = does; stays = λ q. (reply-leaves (o .reply) left q, refl, refl, refl); whole = ok; few = few-reply (o .reply); handles-length = stands .handles-length; holders-length = stands .holders-length })
 
   -- ---- read name
 

@@ -1,6 +1,6 @@
 -- The steps of a script with needs, W-201 of document 02: what the frames 20 to 25, and 0c, 0d, 0e beside needs, promise. Assumes nothing.
 use mathlib.Core.Path.{_≡_}
-use mathlib.Core.Bool.{Bool}
+use mathlib.Core.Bool.{Bool, true}
 use mathlib.Core.List.{List, [], _∷_}
 use Prim.Native.Nat.{ℕ}
 use lib.ListN.{length}
@@ -21,7 +21,7 @@ use Rattle.needs.specs.declared.OutputAnswer.{OutputAnswer}
 use Rattle.needs.specs.declared.OutputAnswer.the-variants as output
 use Rattle.handles.specs.Handles.{handleAt}
 use Rattle.handles.specs.NeedTable.{rememberedAt, Needing, table, stateWith}
-use Rattle.frames.specs.Steps.{nowhere, stepped, Few, Stands, Reached, onFrees, freeArrays}
+use Rattle.frames.specs.Steps.{nowhere, stepped, isRefused, Few, Stands, Reached, RefusedStays, onFrees, freeArrays}
 use Rattle.frames.specs.declared.steps.Adds.{Adds}
 use Rattle.frames.specs.declared.steps.Adds.the-variants.{One, Refused}
 use Rattle.frames.specs.declared.steps.Stepped.{Stepped}
@@ -37,10 +37,12 @@ pub record StandsWith (s : Scopes) (handles holders : List ℕ) (handed : ℕ) (
   pub remembers-length : length (t .remembers) ≡ NEEDS
 
 -- The frame f, of opcode o, leads from the state and the tables before it to r and the tables after it, as the rules say where slots go by
--- `place`. After a refusal nothing is said of them: no step follows.
+-- `place`. A refused step leaves them.
 pub record WorksWith (place : Placement) (f : rules.Frame) (o : ℕ) (s : Scopes) (handles holders : List ℕ) (handed : ℕ) (t : Needing) (r : Reached) (handles′ holders′ : List ℕ) (t′ : Needing) (drained : List ℕ) : Type 0 where
   pub does : rules.step base place (stateWith (view s) handles holders handed t) f
       ≡ stepped o (r .adds) (stateWith (view (r .state)) handles′ holders′ (r .handed) t′) drained
+  pub stays : RefusedStays s handles holders handed r handles′ holders′
+  pub needs-stay : isRefused (r .adds) ≡ true → t′ ≡ t
   pub whole : Whole (r .state)
   pub few : Few (r .adds)
   pub handles-length : length handles′ ≡ HANDLES
@@ -62,10 +64,11 @@ abbrev pub Makes : rules.Frame → ℕ → Scopes → List ℕ → List ℕ → 
 Makes f o s handles holders handed t adds t′ =
     StandsWith s handles holders handed t → (drained : List ℕ) → WorksWith nowhere f o s handles holders handed t (record { state = s; handed = handed; adds = adds }) handles holders t′ drained
 
--- one more need, x, was asked for: 22, or its number is added
+-- one more need, x, was asked for: 22, and the needs stay, or its number is added
 pub record AddsNeed (x : Remembered) (t : Needing) (adds : Adds) (t′ : Needing) : Type 0 where
   pub does : (c : scope.Scopes) (handles holders : List ℕ) (handed o : ℕ) (drained : List ℕ)
       → (rules.addNeed base x (stateWith c handles holders handed t) >>= λ u. oneLine (shows o (t .needed ∷ [])) u) ≡ stepped o adds (stateWith c handles holders handed t′) drained
+  pub stays : isRefused adds ≡ true → t′ ≡ t
   pub few : Few adds
   pub needs-length : length (t′ .needs) ≡ NEEDS
   pub remembers-length : length (t′ .remembers) ≡ NEEDS

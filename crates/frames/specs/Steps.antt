@@ -119,19 +119,26 @@ pub record Reached : Type 0 where
 unfoldable pub nowhere : Placement
 nowhere n slots = none
 
+-- a refused step leaves the state, the count of handles and both tables as they were
+abbrev pub RefusedStays : Scopes → (handles holders : List ℕ) → ℕ → Reached → (handles′ holders′ : List ℕ) → Type 0
+RefusedStays s handles holders handed r handles′ holders′ =
+    isRefused (r .adds) ≡ true → (r .state ≡ s) × (r .handed ≡ handed) × (handles′ ≡ handles) × (holders′ ≡ holders)
+
 -- The frame f, of opcode o, leads from the state and the tables before it to r and the tables after it, as the rules say where slots go by
--- `place`. After a refusal nothing is said of them: no step follows.
+-- `place`. A refused step leaves them.
 pub record Works (place : Placement) (f : rules.Frame) (o : ℕ) (s : Scopes) (handles holders : List ℕ) (handed : ℕ) (r : Reached) (handles′ holders′ drained : List ℕ) : Type 0 where
   pub does : rules.step base place (stateOf (view s) handles holders handed) f
       ≡ stepped o (r .adds) (stateOf (view (r .state)) handles′ holders′ (r .handed)) drained
+  pub stays : RefusedStays s handles holders handed r handles′ holders′
   pub whole : Whole (r .state)
   pub few : Few (r .adds)
   pub handles-length : length handles′ ≡ HANDLES
   pub holders-length : length holders′ ≡ SLOTS
 
 -- m, which several frames have a use for, comes to r and the tables after it, with a line of opcode o
-pub record Comes (m : rules.Step) (o : ℕ) (r : Reached) (handles′ holders′ drained : List ℕ) : Type 0 where
+pub record Comes (s : Scopes) (handles holders : List ℕ) (handed : ℕ) (m : rules.Step) (o : ℕ) (r : Reached) (handles′ holders′ drained : List ℕ) : Type 0 where
   pub does : m ≡ stepped o (r .adds) (stateOf (view (r .state)) handles′ holders′ (r .handed)) drained
+  pub stays : RefusedStays s handles holders handed r handles′ holders′
   pub whole : Whole (r .state)
   pub few : Few (r .adds)
   pub handles-length : length handles′ ≡ HANDLES
@@ -241,6 +248,7 @@ loading o t h = do
 pub record Grants (y : Reply) (handed n : ℕ) (k : AddressKind) (handed′ : ℕ) (adds : Adds) (handles handles′ holders holders′ : List ℕ) : Type 0 where
   pub says : adds ≡ addsOf y
   pub hands : (a : SlotAddress) → y ≡ reply.At a → (handed′ ≡ handed + n) × Hands handles handles′ holders holders′ handed n (a .0) (kindOf k)
+  pub stays : isRefused adds ≡ true → (handed′ ≡ handed) × (handles′ ≡ handles) × (holders′ ≡ holders)
   pub handles-length : length handles′ ≡ HANDLES
   pub holders-length : length holders′ ≡ SLOTS
 
@@ -260,7 +268,7 @@ LoadsOn halves handles holders handed h adds =
 
 -- one slot was asked for in the scope of that id; the handle that was handed out is the next one, and of that scope
 pub record AllotsOne (place : Placement) (id : scope.Id) (s : Scopes) (handles holders : List ℕ) (handed : ℕ) (r : Reached) (handles′ holders′ : List ℕ) : Type 0 where
-  pub comes : (o : ℕ) (drained : List ℕ) → Comes (allottedIn place id o (stateOf (view s) handles holders handed)) o r handles′ holders′ drained
+  pub comes : (o : ℕ) (drained : List ℕ) → Comes s handles holders handed (allottedIn place id o (stateOf (view s) handles holders handed)) o r handles′ holders′ drained
   pub hands : isRefused (r .adds) ≡ false → (handed < HANDLES) × (kindIn (getD handles′ handed 0) ≡ inScope id)
 
 -- .. over the lent arrays
@@ -275,7 +283,7 @@ AllotsInScope place id halves links owner live number n handles holders handed r
 abbrev pub Frees : (rules.State → Answer rules.State) → Scopes → Scopes → (handles holders : LentArray ℕ) → ℕ → Stepped → Type 0
 Frees m s t handles holders handed r =
     Stands s (now (handles .entry)) (now (holders .entry)) handed → (o : ℕ) (drained : List ℕ)
-    → Comes (freedThen o (m (stateOf (view s) (now (handles .entry)) (now (holders .entry)) handed))) o (record { state = t; handed = r .handed; adds = r .adds }) (now (handles .exit)) (now (holders .entry)) drained
+    → Comes s (now (handles .entry)) (now (holders .entry)) handed (freedThen o (m (stateOf (view s) (now (handles .entry)) (now (holders .entry)) handed))) o (record { state = t; handed = r .handed; adds = r .adds }) (now (handles .exit)) (now (holders .entry)) drained
 
 -- .. over the lent arrays, and over those of a freeing
 abbrev pub LentFrees : (rules.State → Answer rules.State) → LentArrays → Numbers → (handles holders : LentArray ℕ) → ℕ → Stepped → Type 0

@@ -42,7 +42,7 @@ returns-3 c = λ s stands.
     let ne = a .before .before .before .before .before .if1 .left in
     let o = outcome a s in
     let e = a .alloc .ensures s (stands .whole) in
-    works-granted _ _ _ _ _ stands frame.alloc 0x06 (has-top _ stands ne .0) kind.Local 1 o _ _ _ (omega arith) (alloc-seen _ _ _ _ _ stands ne o (e .0)) (e .1) (made-is (c .granted .ensures .0)) (c .granted .ensures .1) (alloc-step _ _ _ _ _ stands ne)
+    works-granted _ _ _ _ _ stands frame.alloc 0x06 (has-top _ stands ne .0) kind.Local 1 o _ _ _ (omega arith) (alloc-seen _ _ _ _ _ stands ne o (e .0)) (e .1) (e .2) (made-is (c .granted .ensures .0)) (c .granted .ensures .1) (alloc-step _ _ _ _ _ stands ne)
 
 pub alloc-spec : {M : Type 1} → statement M
 alloc-spec =

@@ -62,7 +62,7 @@ returns-3 c = λ s stands.
     let k = known (state (p .before) s) (idOf id) (p .place-of .result) (p .place-of .ensures) (a .before .before .before .before .before .if1 .left) in
     let o = outcome a s in
     let b = a .alloc-in .ensures s (stands .whole) in
-    in-granted _ _ _ _ _ stands id _ (k .is) o _ _ _ (in-seen _ _ _ _ _ stands id _ (k .is) o (b .0)) (c .granted .ensures .1) (omega (arith, a .before .before .before .before .if2 .left)) (b .1) (made-is (c .granted .ensures .0))
+    in-granted _ _ _ _ _ stands id _ (k .is) o _ _ _ (in-seen _ _ _ _ _ stands id _ (k .is) o (b .0)) (c .granted .ensures .1) (omega (arith, a .before .before .before .before .if2 .left)) (b .1) (b .2) (made-is (c .granted .ensures .0))
 
 pub alloc-in-scope-spec : {M : Type 1} → statement M
 alloc-in-scope-spec =

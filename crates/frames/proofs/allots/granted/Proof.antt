@@ -27,7 +27,7 @@ returns c =
 returns-2 : tie.Need-returns-2
 returns-2 c =
     let s = c .before .before .before .before in
-    (refl, grants-none (s .args .o .reply) (s .args .many) (c .before .slot-or .result) (c .before .slot-or .ensures) (s .pre .1) (s .args .handed) (s .args .kind) (c .before .before .adds-of .result) (c .before .before .adds-of .ensures) _ _ _ _ (s .pre .0 .1) (s .pre .0 .2) (c .if1 .left))
+    (refl, grants-none (s .args .o .reply) (s .args .many) (c .before .slot-or .result) (c .before .slot-or .ensures) (s .pre .1) (s .args .handed) (s .args .kind) (c .before .before .adds-of .result) (c .before .before .adds-of .ensures) _ _ _ _ (s .pre .0 .1) (s .pre .0 .2) (c .if1 .left) refl refl)
 
 pub granted-spec : {M : Type 1} → statement M
 granted-spec =

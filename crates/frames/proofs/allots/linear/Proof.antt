@@ -57,7 +57,7 @@ returns-4 c = λ s stands.
     let o = outcome a s in
     let b = a .alloc-run .ensures s (stands .whole) in
     works-granted _ _ _ _ _ stands (frame.linear k) 0x08 (has-top _ stands ne .0) (c .before .run-kind .result) k o _ _ _ (omega (arith, a .before .before .before .before .if3 .left))
-    (linear-seen _ _ _ _ _ stands k pos ne o (b .0)) (b .1) (made-is (c .granted .ensures .0)) (c .granted .ensures .1) (linear-step _ _ _ _ _ stands k pos ne (c .before .run-kind .result) (c .before .run-kind .ensures .1))
+    (linear-seen _ _ _ _ _ stands k pos ne o (b .0)) (b .1) (b .2) (made-is (c .granted .ensures .0)) (c .granted .ensures .1) (linear-step _ _ _ _ _ stands k pos ne (c .before .run-kind .result) (c .before .run-kind .ensures .1))
 
 pub linear-spec : {M : Type 1} → statement M
 linear-spec =

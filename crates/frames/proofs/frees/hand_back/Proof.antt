@@ -61,7 +61,7 @@ returns-2 c = λ s stands op.
     let e = g .give-back .ensures s (stands .whole) in
     back-refused _ _ _ _ stands (st .args .h .0) (st .args .x) (st .pre .1 .1) (st .args .dangles) (st .pre .1 .0)
     (held-is _ _ _ _ stands (st .args .h .0) (st .args .x) (st .pre .1 .1) _ (k .is-held .result) refl (k .is-held .ensures) ∙ not-false _ (g .before .before .before .before .if1 .left))
-    o (e .0) (e .1) (sym (c .before .before .is-done .ensures) ∙ not-true _ (c .before .if2 .taken)) _ (reached-is (c .ended .ensures)) op
+    o (e .0) (e .1) (e .2) (sym (c .before .before .is-done .ensures) ∙ not-true _ (c .before .if2 .taken)) _ (reached-is (c .ended .ensures)) op
 
 cast-i : tie.Need-cast-i
 cast-i c = search needs

@@ -66,7 +66,7 @@ returns-4 c = λ s holders stands.
     let a = k .before .before .before .before .before .args in
     let o = outcome d s in
     let e = d .define .ensures s (stands .whole) in
-    define-works _ _ _ _ stands (a .name) (a .h .0) (k .before .before .before .before .if1 .left) (k .unpacked .result) (k .unpacked .ensures) (k .before .before .if2 .left) (sym (d .before .before .before .is-freed .ensures) ∙ d .before .before .if3 .left) o (e .0) (e .1) _ (reached-is (c .ended .ensures))
+    define-works _ _ _ _ stands (a .name) (a .h .0) (k .before .before .before .before .if1 .left) (k .unpacked .result) (k .unpacked .ensures) (k .before .before .if2 .left) (sym (d .before .before .before .is-freed .ensures) ∙ d .before .before .if3 .left) o (e .0) (e .1) (e .2) _ (reached-is (c .ended .ensures))
 
 pub define-spec : {M : Type 1} → statement M
 define-spec =

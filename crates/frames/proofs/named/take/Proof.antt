@@ -25,7 +25,7 @@ returns c = λ s handles holders stands drained.
     let st = c .before .before .before in
     let o = outcome a s in
     let e = a .take .ensures s (stands .whole) in
-    ended-works _ _ _ _ stands o (e .1) _ (reached-is (c .ended .ensures)) (frame.takeFrom (st .args .name)) 0x0b drained (take-does _ _ _ _ stands drained (view (o .state)) (o .reply) (st .args .name) (e .0))
+    ended-works _ _ _ _ stands o (e .1) (e .2) _ (reached-is (c .ended .ensures)) (frame.takeFrom (st .args .name)) 0x0b drained (take-does _ _ _ _ stands drained (view (o .state)) (o .reply) (st .args .name) (e .0))
 
 pub take-spec : {M : Type 1} → statement M
 take-spec = tie.close (tie.spec take-requires ended-requires returns)

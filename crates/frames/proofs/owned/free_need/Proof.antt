@@ -75,6 +75,7 @@ element-write-remembers c = let st = c .before .before .before .before .before .
 returns-4 : tie.Need-returns-4
 returns-4 c = λ s stands drained.
     drop-works _ _ _ _ _ _ stands (c .before .before .before .before .before .before .before .before .before .before .before .before .before .before .args .k .0) (c .before .before .before .before .before .before .before .before .before .before .before .before .if1 .left) _ (c .before .before .before .before .before .before .before .before .before .before .need-in .ensures) (sym (c .before .before .before .before .before .before .before .before .before .is-gone .ensures) ∙ c .before .before .before .before .before .before .before .before .if2 .left) _ _ drained (c .before .before .free-own .ensures s (stands .stands) 0x25 drained)
+    (sym (c .before .is-refused .ensures) ∙ c .if3 .left)
 
 pub free-need-spec : {M : Type 1} → statement M
 free-need-spec =

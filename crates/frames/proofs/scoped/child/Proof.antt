@@ -23,7 +23,7 @@ returns c = λ s handles holders stands drained.
     let a = c .before in
     let o = outcome a s in
     let e = a .child .ensures s (stands .whole) in
-    ended-works _ _ _ _ stands o (e .1) _ (reached-is (c .ended .ensures)) frame.child 0x01 drained (child-does _ _ _ _ stands drained (view (o .state)) (o .reply) (e .0))
+    ended-works _ _ _ _ stands o (e .1) (e .2) _ (reached-is (c .ended .ensures)) frame.child 0x01 drained (child-does _ _ _ _ stands drained (view (o .state)) (o .reply) (e .0))
 
 pub child-spec : {M : Type 1} → statement M
 child-spec = tie.close (tie.spec child-requires ended-requires returns)

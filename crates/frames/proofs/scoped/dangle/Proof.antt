@@ -32,7 +32,7 @@ returns c = λ s handles holders stands drained.
     let st = m .before in
     let o = outcome a s in
     let e = a .dangle .ensures s (stands .whole) in
-    ended-works _ _ _ _ stands o (e .1) _ (reached-is (c .ended .ensures)) (frame.dangle (st .args .k)) 0x03 drained
+    ended-works _ _ _ _ stands o (e .1) (e .2) _ (reached-is (c .ended .ensures)) (frame.dangle (st .args .k)) 0x03 drained
     (dangle-does _ _ _ _ stands drained (view (o .state)) (o .reply) (st .args .k) (m .meant .ensures (state st s) .is) (e .0))
 
 pub dangle-spec : {M : Type 1} → statement M

@@ -32,7 +32,7 @@ returns c = λ handles holders stands drained.
     let st = c .before .before .before .before .before .before .before .before .before .before .before .before .before in
     let o = outcome a in
     let e = a .pop .ensures (stands .whole) in
-    ended-works _ _ _ _ stands o (e .1) _ (reached-is (c .ended .ensures)) (frame.pop (st .args .k)) 0x02 drained
+    ended-works _ _ _ _ stands o (e .1) (e .2) _ (reached-is (c .ended .ensures)) (frame.pop (st .args .k)) 0x02 drained
     (pop-does _ _ _ _ stands drained (view (o .state)) (o .reply) (st .args .k) (m .meant .ensures (state st) .is) (e .0))
 
 pub pop-spec : {M : Type 1} → statement M

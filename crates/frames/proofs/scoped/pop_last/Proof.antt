@@ -22,7 +22,7 @@ returns c = λ handles holders stands drained.
     let a = c .before in
     let o = outcome a in
     let e = a .pop-last .ensures (stands .whole) in
-    ended-works _ _ _ _ stands o (e .1) _ (reached-is (c .ended .ensures)) frame.popLast 0x05 drained (pop-last-does _ _ _ _ stands drained (view (o .state)) (o .reply) (e .0))
+    ended-works _ _ _ _ stands o (e .1) (e .2) _ (reached-is (c .ended .ensures)) frame.popLast 0x05 drained (pop-last-does _ _ _ _ stands drained (view (o .state)) (o .reply) (e .0))
 
 pub pop-last-spec : {M : Type 1} → statement M
 pop-last-spec = tie.close (tie.spec pop-last-requires ended-requires returns)

@@ -32,7 +32,7 @@ returns c = λ s handles holders stands drained.
     let st = m .before in
     let o = outcome a s in
     let e = a .restore .ensures s (stands .whole) in
-    ended-works _ _ _ _ stands o (e .1) _ (reached-is (c .ended .ensures)) (frame.restore (st .args .k)) 0x04 drained
+    ended-works _ _ _ _ stands o (e .1) (e .2) _ (reached-is (c .ended .ensures)) (frame.restore (st .args .k)) 0x04 drained
     (restore-does _ _ _ _ stands drained (view (o .state)) (o .reply) (st .args .k) (m .meant .ensures (state st s) .is) (e .0))
 
 pub restore-spec : {M : Type 1} → statement M
