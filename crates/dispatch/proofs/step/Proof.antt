@@ -18,7 +18,7 @@ need-step-requires : tie.Need-need-step-requires
 need-step-requires c κs = let st = c .before .before .before .before .before .before .before .before .before .before in ((state st, st .pre .0), c .before .before .before .before .before .before .before .before .before .if1 .taken)
 
 returns : tie.Need-returns
-returns c = let st = c .before .before .before .before .before .before .before .before .before .before .before in (λ g q. c .need-step .ensures g q (state st) (st .pre .0) _, st .pre .1, λ _. refl)
+returns c = let st = c .before .before .before .before .before .before .before .before .before .before .before in (λ g q. c .need-step .ensures g q (state st) (st .pre .0) _, (st .pre .1, λ _. refl))
 
 is-freeing-requires : tie.Need-is-freeing-requires
 is-freeing-requires c κs = tt
@@ -30,7 +30,7 @@ returns-2 : tie.Need-returns-2
 returns-2 c =
     let st = c .before .before .before .before .before .before .before .before .before .before .before .before .before in
     let p = c .before .before .before .before .before .before .before .before .before .before .before .is-freeing .ensures .holds (c .before .before .before .before .before .before .before .before .before .before .if2 .taken) in
-    (λ g q. with-any (st .args .f) g (inr (omega (arith, p .0)), λ e. omega (arith, p .1)) q (c .before .free-step .ensures g q (state st) (st .pre .0) _), st .pre .1, λ _. refl)
+    (λ g q. with-any (st .args .f) g (inr (omega (arith, p .0)), λ e. omega (arith, p .1)) q (c .before .free-step .ensures g q (state st) (st .pre .0) _), (st .pre .1, λ _. refl))
 
 plain-step-requires : tie.Need-plain-step-requires
 plain-step-requires c κs =
@@ -41,7 +41,7 @@ returns-3 : tie.Need-returns-3
 returns-3 c =
     let st = c .before .before .before .before .before .before .before .before .before .before .before .before .before .before .before .before in
     let p : PlainCode (st .args .f .opcode) = plain-by (st .args .f .opcode) (λ p. clash (c .before .before .before .before .before .before .before .before .before .before .before .before .before .before .is-freeing .ensures .shows p) (c .before .before .before .before .before .before .before .before .before .before .before .before .before .if2 .left)) (omega (arith, c .before .before .before .before .before .before .before .before .before .before .before .before .before .before .before .if1 .left)) in
-    (λ g q. plain-works _ _ _ _ _ (st .pre .0) g (st .args .f .opcode) _ _ _ _ (plain-code (st .args .f) g p q) (c .before .plain-step .ensures .0 g q), c .before .plain-step .ensures .1, c .before .plain-step .ensures .2)
+    (λ g q. plain-works _ _ _ _ _ (st .pre .0) g (st .args .f .opcode) _ _ _ _ (plain-code (st .args .f) g p q) (c .before .plain-step .ensures .0 g q), c .before .plain-step .ensures .1)
 
 pub step-spec : {M : Type 1} → statement M
 step-spec =

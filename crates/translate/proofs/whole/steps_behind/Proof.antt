@@ -96,7 +96,7 @@ enum-told : tie.Need-enum-told Inv-loop μ-loop
 enum-told c = search needs
 
 slice-aggregate-put-adds : tie.Need-slice-aggregate-put-adds Inv-loop μ-loop
-slice-aggregate-put-adds c = let st = c .before .before .before .before .before in sym (st .step .ensures .1)
+slice-aggregate-put-adds c = let st = c .before .before .before .before .before in sym (st .step .ensures .1 .0)
 
 put-adds-requires : tie.Need-put-adds-requires Inv-loop μ-loop
 put-adds-requires c κs =
@@ -110,7 +110,7 @@ put-adds-requires c κs =
     let a = c .before .before .before .before .before .before .before .before .before .before .before .before .before .before .before .before .before .before .before .before .before .before .before .before .before .before .before .before .before .before .before .before .before .before .before .before .before in
     let go = sym (on .onward-of .ensures) ∙ et .enum-told .given .1 in (
       going-few _ _ _ _ _ _ _ _ _ _ _ _ _ _ (l .loop .inv) (fa .frame-at .result) (fa .frame-at .ensures) (fi .frame-in .result) (fi .frame-in .ensures) (reached st) _ _ _ _ _ (pa .place-at .ensures) (st .step .ensures .0) (st .step .ensures .1) go,
-      st .step .ensures .1,
+      st .step .ensures .1 .0,
       going-room _ _ _ _ _ _ _ _ _ _ _ _ _ _ (l .loop .inv) (fa .frame-at .result) (fa .frame-at .ensures) (fi .frame-in .result) (fi .frame-in .ensures) (reached st) _ _ _ _ _ (pa .place-at .ensures) (st .step .ensures .0) (st .step .ensures .1) go (a .pre .2),
     )
 
