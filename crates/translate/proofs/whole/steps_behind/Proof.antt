@@ -109,9 +109,9 @@ put-adds-requires c κs =
     let l = c .before .before .before .before .before .before .before .before .before .before .before .before .before .before .before .before .before .before .before .before .before .before .before in
     let a = c .before .before .before .before .before .before .before .before .before .before .before .before .before .before .before .before .before .before .before .before .before .before .before .before .before .before .before .before .before .before .before .before .before .before .before .before .before in
     let go = sym (on .onward-of .ensures) ∙ et .enum-told .given .1 in (
-      going-few _ _ _ _ _ _ _ _ _ _ _ _ _ _ (l .loop .inv) (fa .frame-at .result) (fa .frame-at .ensures) (fi .frame-in .result) (fi .frame-in .ensures) (reached st) _ _ _ _ _ (pa .place-at .ensures) (st .step .ensures .0) (st .step .ensures .1) go,
+      going-few _ _ _ _ _ _ _ _ _ _ _ _ _ _ (l .loop .inv) (fa .frame-at .result) (fa .frame-at .ensures) (fi .frame-in .result) (fi .frame-in .ensures) (reached st) _ _ _ _ _ (pa .place-at .ensures) (st .step .ensures .0) (st .step .ensures .1 .0) go,
       st .step .ensures .1 .0,
-      going-room _ _ _ _ _ _ _ _ _ _ _ _ _ _ (l .loop .inv) (fa .frame-at .result) (fa .frame-at .ensures) (fi .frame-in .result) (fi .frame-in .ensures) (reached st) _ _ _ _ _ (pa .place-at .ensures) (st .step .ensures .0) (st .step .ensures .1) go (a .pre .2),
+      going-room _ _ _ _ _ _ _ _ _ _ _ _ _ _ (l .loop .inv) (fa .frame-at .result) (fa .frame-at .ensures) (fi .frame-in .result) (fi .frame-in .ensures) (reached st) _ _ _ _ _ (pa .place-at .ensures) (st .step .ensures .0) (st .step .ensures .1 .0) go (a .pre .2),
     )
 
 add-i : tie.Need-add-i Inv-loop μ-loop
@@ -130,7 +130,7 @@ loop-again c =
     let on = c .before .before .before .before .before .before .before .before in
     let et = c .before .before .before .before .before .before in
     let l = c .before .before .before .before .before .before .before .before .before .before .before .before .before .before .before .before .before .before .before .before .before .before .before .before .before .before .before in
-    going-on _ _ _ _ _ _ _ _ _ _ _ _ _ _ (l .loop .inv) (fa .frame-at .result) (fa .frame-at .ensures) (fi .frame-in .result) (fi .frame-in .ensures) (reached st) _ _ _ _ _ (pa .place-at .ensures) (st .step .ensures .0) (st .step .ensures .1) (sym (on .onward-of .ensures) ∙ et .enum-told .given .1) _ _ (v .put-adds .kept .0) (v .put-adds .ensures)
+    going-on _ _ _ _ _ _ _ _ _ _ _ _ _ _ (l .loop .inv) (fa .frame-at .result) (fa .frame-at .ensures) (fi .frame-in .result) (fi .frame-in .ensures) (reached st) _ _ _ _ _ (pa .place-at .ensures) (st .step .ensures .0) (st .step .ensures .1 .0) (sym (on .onward-of .ensures) ∙ et .enum-told .given .1) _ _ (v .put-adds .kept .0) (v .put-adds .ensures)
 
 cast-put-size : tie.Need-cast-put-size Inv-loop μ-loop
 cast-put-size c = let l = c .before .before in omega (arith, going-size _ _ _ _ _ _ _ _ _ _ _ _ _ _ (l .loop .inv))
