@@ -135,7 +135,8 @@ pub record Works (place : Placement) (f : rules.Frame) (o : ℕ) (s : Scopes) (h
   pub handles-length : length handles′ ≡ HANDLES
   pub holders-length : length holders′ ≡ SLOTS
 
--- m, which several frames have a use for, comes to r and the tables after it, with a line of opcode o
+-- m, which several frames have a use for, comes from the state and the tables before it to r and the tables after it, with a line of
+-- opcode o; refused, it leaves them
 pub record Comes (s : Scopes) (handles holders : List ℕ) (handed : ℕ) (m : rules.Step) (o : ℕ) (r : Reached) (handles′ holders′ drained : List ℕ) : Type 0 where
   pub does : m ≡ stepped o (r .adds) (stateOf (view (r .state)) handles′ holders′ (r .handed)) drained
   pub stays : RefusedStays s handles holders handed r handles′ holders′
@@ -244,7 +245,7 @@ loading o t h = do
   _ ← refuse 15 when (not (t .handles h .written))
   oneLine (loads o (t .handles h .address)) t
 
--- n slots were asked for, and y was answered: their handles, all of one kind
+-- n slots were asked for, and y was answered: their handles, all of one kind; where it was refused, none
 pub record Grants (y : Reply) (handed n : ℕ) (k : AddressKind) (handed′ : ℕ) (adds : Adds) (handles handles′ holders holders′ : List ℕ) : Type 0 where
   pub says : adds ≡ addsOf y
   pub hands : (a : SlotAddress) → y ≡ reply.At a → (handed′ ≡ handed + n) × Hands handles handles′ holders holders′ handed n (a .0) (kindOf k)
