@@ -100,7 +100,7 @@ fn check() {
     let times = |n| checks(black_box(n)) as u64;
     let best = clock::best(&mut [&mut || times(0), &mut || times(CHECKS)]);
     println!("\n## The check of a state handed in\n");
-    println!("Of a full state: 64 scopes in one line, 1,024 slots on one list, 256 names in one scope (crate `checks`).");
+    println!("Of a state that crate `checks` fills: 64 scopes in one line, 1,024 slots on one list, 256 names in one scope. Proved is that it is sound; that it is full is read off the code.");
     println!("`soundness::is_sound` takes it by value.\n");
     println!("| ours, ns a check |\n|---|");
     println!("| {} |", ns((best[1] - best[0]) / CHECKS as f64));
