@@ -13,7 +13,7 @@ cellAt cells a = getD cells (2 * a) 0 * 256 + getD cells (2 * a + 1) 0
 abbrev pub zeroed : ℕ → List ℕ → List ℕ
 zeroed size cells = replicate (2 * size) 0 ++ drop (2 * size) cells
 
--- ---- samples: "14 is 10 but for where the value comes from"
+-- ---- samples: 14 is 10 but for where the value comes from
 
 abbrev pub fillOf : Entry → ℕ → Entry
 fillOf Skip v = Skip

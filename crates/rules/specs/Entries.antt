@@ -24,7 +24,7 @@ outcome room p (unread n i) = refusedAt n i
 unfoldable pub translated : Room → List ℕ → Outcome
 translated room script = outcome room (readScript room script .place) (readScript room script .script)
 
--- ---- run: "20 after 1 and 2"; W-205: 24 and 23, "both after 20"; then 17
+-- ---- run: "20 after 1 and 2"; W-205: 24 and 23, "both after 20 .."; then 17
 
 -- it ran, with so many samples left over; or a refusal
 pub data RunOutcome : Type 0 where

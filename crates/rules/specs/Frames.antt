@@ -211,7 +211,7 @@ addNeed room x s = do
 unfoldable pub lost : State → ℕ → Bool
 lost s n = leb (s .needed) n || isGone (s .needs n .need)
 
--- 01: "Allocating turns Defer into a Scope address by alloc in, acts on an Address as above, and answers none otherwise": the last argument
+-- 01: "Allocating turns Defer into a Scope address by alloc in, acts on an Address as above, and answers none otherwise ..": the last argument
 -- is the need n. "on 23 of a deferred need 4 (its scope has closed), 16, 7"
 unfoldable pub allotNeed : Room → Placement → ℕ → State → Need → Answer (Option ℕ × State)
 allotNeed room place n s (defer id) = do

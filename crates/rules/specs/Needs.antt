@@ -138,7 +138,7 @@ pub record Allocated : Type 0 where
   pub scopes : Scopes
   pub slot : Option ℕ
 
--- "Allocating turns Defer into a Scope address by alloc in, acts on an Address as above, and answers none otherwise": 4, 7
+-- "Allocating turns Defer into a Scope address by alloc in, acts on an Address as above, and answers none otherwise ..": 4, 7
 unfoldable pub allocateNeed : Room → Placement → Need → Scopes → Answer Allocated
 allocateNeed room place (defer id) c = do
   r ← allocAddressIn room place id c

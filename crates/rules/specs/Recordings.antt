@@ -79,7 +79,7 @@ readByte r c =
       | false ↦ reader (r .line) 7 0
     ]
 
--- sample i in lent memory, "two bytes, high first", as far as there is room
+-- sample i in lent memory, as far as there is room; as 01's cell it is "two bytes there, high first"
 unfoldable pub keptAt : List ℕ → ℕ → ℕ → List ℕ
 keptAt memory i v = elim (ltb i (length memory / 2)) [ true ↦ set (set memory (2 * i) (v / 256)) (2 * i + 1) (v % 256) | false ↦ memory ]
 

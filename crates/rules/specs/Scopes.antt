@@ -141,7 +141,7 @@ setScope k x c = c ▹ live≔ (put (c .live) (k .index) (some x))
 abbrev pub afterCounter : ℕ → ℕ
 afterCounter n = (n + 1) % COUNTERS
 
--- "The index is the lowest free one from 1 to 63": 3, 8.
+-- "The index is the lowest free one from 1 to 63 (our rule).": 3, 8.
 -- "child: parent is the top; becomes top."
 unfoldable pub openChild : Room → Scopes → Answer (Id × Scopes)
 openChild room c = do
@@ -182,7 +182,8 @@ allocIn place s c = do
   k ← refuse 4 unless s
   allocate place k 1 c
 
--- "linear n: 0 gives an empty run with no address; 1 acts as alloc; n ≥ 2 pushes n times, owner top": 3, 7
+-- "linear n: 0 gives an empty run with no address; 1 acts as alloc; n ≥ 2 pushes n times, owner top, refused (7) exactly if g + n > 1,024. Size
+-- and the dangling list follow as for alloc.": 3, 7
 unfoldable pub allocRun : Placement → ℕ → Scopes → Answer (Option ℕ × Scopes)
 allocRun place zero c = do
   _ ← refuse 3 unless (topScope c)

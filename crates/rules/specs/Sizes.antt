@@ -74,7 +74,8 @@ WORD = 65536
 abbrev pub NEEDS : ℕ
 NEEDS = 64
 
--- "Text buffers: 32,768 bytes"
+-- "Names and values are 16 bits." has no number here: an operand has four digits (Text). "Text buffers: 32,768 bytes; a program refuses longer
+-- input by 17, whatever it holds."
 abbrev pub TEXT : ℕ
 TEXT = 32768
 

@@ -41,7 +41,7 @@ lowestClear occupied g = orElse (clearIn occupied g) (128 * g)
 abbrev pub startOf : Slots → ℕ
 startOf s = min (s .head) (s .segments)
 
--- "The first segment from there, below L, with a clear slot"
+-- "The first segment from there, below L, with a clear slot .."
 unfoldable pub firstWithClear : Slots → Option ℕ
 firstWithClear s = first (hasClear (s .occupied)) (startOf s) (s .segments - startOf s)
 
@@ -110,7 +110,7 @@ unfoldable pub pushes : ℕ → ℕ → Slots → Slots
 pushes g zero s = s
 pushes g (suc n) s = pushes (suc g) n (pushAt g s)
 
--- "pushes n times, refused (7) exactly if g + n > 1,024"
+-- "n ≥ 2 pushes n times, owner top, refused (7) exactly if g + n > 1,024"; whose they are is for the scopes to say
 unfoldable pub pushRun : ℕ → Placement
 pushRun m n s =
     elim (ltb (128 * m) (pastGreatest m s + n)) [

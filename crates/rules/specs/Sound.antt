@@ -41,7 +41,8 @@ soundSlots n s =
 
 -- ---- scopes
 
--- "top is live, or nothing is"
+-- "top is live, or nothing is". Stricter where nothing is live: then there is no top, and a state that stores one all the same isn't sound (A73
+-- in docs/DECISIONS.md).
 unfoldable pub soundTop : Room → Scopes → Bool
 soundTop room c =
     elim (c .top) [

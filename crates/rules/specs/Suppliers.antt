@@ -15,7 +15,7 @@ use Rattle.rules.specs.Recordings.{recorded}
 use Rattle.rules.specs.Entries.{translated, refusalAnswer, eeText, unlessLonger}
 use Rattle.rules.specs.Demand3.{Runs, scriptMeaning, scriptTakes}
 
--- ---- "the same lines and operands"
+-- ---- "the same lines and operands .."
 
 abbrev pub sameSource : Source → Source → Bool
 sameSource (constant v) (constant w) = eqb v w
@@ -181,9 +181,9 @@ pub data WhyNot (room : Room) (p : Place) (fs : List Frame) (ls : List Line) (si
   -- the script isn't "accepted by our rules"
   ours-refuse : (n i : ℕ) → steps room (placing (room .segments) p) (length (title p)) start fs ≡ refusedAt n i → WhyNot room p fs ls size
   -- "each run is consecutive, no slot is given while another allocation holds it"; and past the room no address is "below the size". A line of
-  -- another kind, or none, stands for some address too (shownFirst): then it is "the same lines" that fails.
+  -- another kind, or none, stands for some address too (shownFirst): then it is "the same lines .." that fails.
   no-room : Stops room start fs (drop (length (title p)) ls) → WhyNot room p fs ls size
-  -- "the same lines and operands", "its allocation's own address", "01's list rules over the list's own addresses", `ffff`
+  -- "the same lines and operands ..", "its allocation's own address", "01's list rules over the list's own addresses", `ffff`
   other-lines : (own : List Line) (needs : ℕ) → shownSteps room (length (title p)) start fs (drop (length (title p)) ls) ≡ accepted own needs
       → (title p ++ own ≡ ls → ⊥) → WhyNot room p fs ls size
   -- "every address is below the size"

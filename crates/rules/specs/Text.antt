@@ -174,7 +174,7 @@ pub record Titled : Type 0 where
   pub place : Place
   pub rest : List Split
 
--- "Scripts without it keep edition 1". "`f0` with another number or on a later line is 1", since no frame and no other line of a list has that
+-- "Scripts without it keep edition 1 ..". "`f0` with another number or on a later line is 1", since no frame and no other line of a list has that
 -- opcode.
 unfoldable pub titled : List Split → Titled
 titled [] = record { place = byHead; rest = [] }
