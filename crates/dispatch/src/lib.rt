@@ -120,10 +120,10 @@ pub fn step(
         f,
         place,
     );
-    let m = r.numbers;
+    let numbers = r.numbers;
     let adds = r.adds;
     Advance {
-        numbers: m,
+        numbers,
         handed: r.handed,
         needed,
         adds,
