@@ -31,7 +31,7 @@ use Rattle.needs.specs.declared.AddressKind.{AddressKind}
 use Rattle.handles.specs.Handles.{stateOf}
 use Rattle.frames.specs.Steps.{stepped, isRefused, Few, Stands, Works, Grants, Reached}
 use Rattle.frames.specs.declared.steps.Adds.{Adds}
-use Rattle.frames.specs.declared.steps.Adds.the-variants.{One, Refused}
+use Rattle.frames.specs.declared.steps.Adds.the-variants.{NoSlot, Refused}
 use Rattle.frames.specs.declared.steps.Stepped.{Stepped}
 use Rattle.frames.proofs.Moving.{few-reply, reply-leaves}
 use Rattle.frames.proofs.Allotting.{allots}
@@ -127,7 +127,7 @@ module _ (p : Place) (s : Scopes) (handles holders : List ℕ) (handed : ℕ) (s
   linear-16 zero pos ne l = absurd (pos refl)
   linear-16 (suc n) pos ne l = let t = has-top s stands ne in unless-some 3 _ (t .1) ∙ refused-on 16 _ (full (t .0) (runKind (suc n)) (suc n) l)
 
-  pub linear-0 : (n : ℕ) → n ≡ 0 → (s .top ≡ SCOPES → ⊥) → (drained : List ℕ) → Works place (linear n) 0x08 s handles holders handed (record { state = s; handed = handed; adds = One 0xffff }) handles holders drained
+  pub linear-0 : (n : ℕ) → n ≡ 0 → (s .top ≡ SCOPES → ⊥) → (drained : List ℕ) → Works place (linear n) 0x08 s handles holders handed (record { state = s; handed = handed; adds = NoSlot }) handles holders drained
   unfolding step
   linear-0 n e ne drained = record {
     does = ap (λ (m : ℕ). step base place standing (linear m)) e ∙ unless-some 3 _ (has-top s stands ne .1);

@@ -22,14 +22,16 @@ use Rattle.handles.specs.NeedTable.{rememberedAt, belongsIn, Needing, stateWith
 use Rattle.frames.specs.Steps.{nowhere, stepped, isRefused, freeing, freeCode, Works, Comes, Reached}
 use Rattle.frames.specs.Needing.{StandsWith, WorksWith}
 use Rattle.frames.specs.declared.steps.Adds.{Adds}
-use Rattle.frames.specs.declared.steps.Adds.the-variants.{Nothing, One, Store, Load, Drained, Refused}
+use Rattle.frames.specs.declared.steps.Adds.the-variants.{Nothing, Slot, NoSlot, Number, Store, Load, Drained, Refused}
 use Rattle.frames.proofs.Freeing.{chain}
 
 -- the state is changed by g, and comes to u, unless the step was refused
 stepped-as : (g : State → State) (o : ℕ) (adds : Adds) (t u : State) (drained : List ℕ) → (isRefused adds ≡ false → g t ≡ u) → mapped (λ r. (r .0, g (r .1))) (stepped o adds t drained) ≡ stepped o adds u drained
 unfolding mapped
 stepped-as g o Nothing t u drained e = ap (λ (x : State). stepped o Nothing x drained) (e refl)
-stepped-as g o (One a) t u drained e = ap (λ (x : State). stepped o (One a) x drained) (e refl)
+stepped-as g o (Slot a) t u drained e = ap (λ (x : State). stepped o (Slot a) x drained) (e refl)
+stepped-as g o NoSlot t u drained e = ap (λ (x : State). stepped o NoSlot x drained) (e refl)
+stepped-as g o (Number n) t u drained e = ap (λ (x : State). stepped o (Number n) x drained) (e refl)
 stepped-as g o (Store a v) t u drained e = ap (λ (x : State). stepped o (Store a v) x drained) (e refl)
 stepped-as g o (Load a) t u drained e = ap (λ (x : State). stepped o (Load a) x drained) (e refl)
 stepped-as g o (Drained n) t u drained e = ap (λ (x : State). stepped o (Drained n) x drained) (e refl)

@@ -19,7 +19,7 @@ use Rattle.slots.specs.Halves.{occ}
 use Rattle.scopes.specs.View.{view}
 use Rattle.scopes.specs.declared.Scopes.{Scopes}
 use Rattle.needs.specs.Kinds.{kindOf, addressOf}
-use Rattle.handles.specs.Handles.{slotIn, kindIn, handleAt, stateOf, Coded, freedAs}
+use Rattle.handles.specs.Handles.{heldBy, slotIn, kindIn, handleAt, stateOf, Coded, freedAs}
 use Rattle.frames.specs.Steps.{nowhere, sourceOf, stepped, loading, LoadsOf, Stands, Works}
 use Rattle.handles.specs.declared.Handle.{Handle as Known}
 use Rattle.frames.specs.declared.steps.Source.{Source as Kept}
@@ -77,11 +77,8 @@ module _ (s : Scopes) (handles holders : List ℕ) (handed : ℕ) (stands : Stan
       low : (b : ℕ) → slotIn b < SLOTS
       low b = omega arith
 
-  pub held-is : (holder : ℕ) (q : Bool) → holder ≡ getD holders slot 0 → q ≡ (occ (s .halves) slot && eqb holder h) → standing .handles h .held ≡ q
-  held-is holder q e p =
-      (λ t. occ (s .halves) (coded .slot t) && eqb (getD holders (coded .slot t) 0) h)
-      ∙ (λ t. occ (s .halves) slot && eqb (sym e t) h)
-      ∙ sym p
+  pub held-is : (q : Bool) → q ≡ heldBy (s .halves) holders slot h → standing .handles h .held ≡ q
+  held-is q p = (λ t. heldBy (s .halves) holders (coded .slot t) h) ∙ sym p
 
   -- ---- another number for the same slot
 

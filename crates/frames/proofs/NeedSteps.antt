@@ -27,7 +27,7 @@ use Rattle.handles.proofs.NeedTables.{need-set}
 use Rattle.frames.specs.Steps.{nowhere, stepped, Few}
 use Rattle.frames.specs.Needing.{StandsWith, WorksWith, AddsNeed, shownOf}
 use Rattle.frames.specs.declared.steps.Adds.{Adds}
-use Rattle.frames.specs.declared.steps.Adds.the-variants.{One, Refused}
+use Rattle.frames.specs.declared.steps.Adds.the-variants.{Number, Refused}
 
 -- ---- one more
 
@@ -45,7 +45,7 @@ module _ (needs remembers : List ℕ) (needed b h : ℕ) (long : length needs �
     remembers-length = long′;
   }
 
-  pub adding : needed < NEEDS → AddsNeed x (table needs remembers needed) (One needed) (table (set needs needed b) (set remembers needed h) (needed + 1))
+  pub adding : needed < NEEDS → AddsNeed x (table needs remembers needed) (Number needed) (table (set needs needed b) (set remembers needed h) (needed + 1))
   unfolding addNeed setNeed base _>>=_ refuse_when_
   adding l = record {
     does = λ c handles holders handed o drained.

@@ -24,9 +24,10 @@ use Rattle.scopes.specs.declared.Scopes.{Scopes}
 use Rattle.handles.specs.Handles.{kindIn, handleAt, stateOf}
 use Rattle.handles.specs.NeedTable.{needIn, rememberedAt, Needing, table, stateWith}
 use Rattle.handles.proofs.NeedTables.{own-is, again, need-set}
-use Rattle.frames.specs.Steps.{isRefused, freedThen, allottedIn, AllotsOne, Stands, Comes, Reached}
+use Rattle.frames.specs.Steps.{stepped, isRefused, Few, freedThen, allottedIn, AllotsOne, Stands, Comes, Reached}
 use Rattle.frames.specs.Needing.{needKind, StandsWith, WorksWith}
-use Rattle.frames.specs.declared.steps.Adds.the-variants.{Nothing, One, Refused}
+use Rattle.frames.specs.declared.steps.Adds.{Adds}
+use Rattle.frames.specs.declared.steps.Adds.the-variants.{Nothing, Slot, NoSlot, Refused}
 use Rattle.frames.proofs.NeedSteps.{lost-unknown, lost-gone, not-lost}
 use Rattle.frames.proofs.Beside.{refused-with, beside}
 use Rattle.frames.proofs.Moving.{comes-by}
@@ -174,18 +175,20 @@ module _ (place : Placement) (s : Scopes) (handles holders : List ℕ) (handed :
         let p : f ≡ put f n (record { need = at (record { slot = a .slot; kind = allocatedKind (a .kind) }); handle = getD (t .remembers) n 0 }) = put-ext f n _ f x (λ j _. refl) in
         λ u. given (some (a .slot), record { scopes = view s; handles = handleAt (view s .slots .occupied) handles holders; handed = handed; needs = sym p u; needed = t .needed })
 
-    shown-with : (a : Option ℕ) (d : Need) → needIn (getD (t .needs) n 0) ≡ d → isGone d ≡ false → allotNeed base place n here d ≡ given (a, here) → (drained : List ℕ)
-        → WorksWith place (allocNeed n) 0x23 s handles holders handed t (record { state = s; handed = handed; adds = One (slotShown a) }) handles holders t drained
+    shown-with : (a : Option ℕ) (adds : Adds) → ((drained : List ℕ) → oneLine (shows 0x23 (slotShown a ∷ [])) here ≡ stepped 0x23 adds here drained) → Few adds → (d : Need) → needIn (getD (t .needs) n 0) ≡ d → isGone d ≡ false
+        → allotNeed base place n here d ≡ given (a, here) → (drained : List ℕ)
+        → WorksWith place (allocNeed n) 0x23 s handles holders handed t (record { state = s; handed = handed; adds = adds }) handles holders t drained
     unfolding step _>>=_
-    shown-with a d is g e drained = record {
+    shown-with a adds shown few d is g e drained = record {
       does =
           when-false 21 _ (not-lost here n there (ap isGone is ∙ g))
           ∙ (λ u. allotNeed base place n here (is u) >>= λ r. oneLine (shows 0x23 (slotShown (r .0) ∷ [])) (r .1))
-          ∙ λ u. e u >>= λ r. oneLine (shows 0x23 (slotShown (r .0) ∷ [])) (r .1);
+          ∙ (λ u. e u >>= λ r. oneLine (shows 0x23 (slotShown (r .0) ∷ [])) (r .1))
+          ∙ shown drained;
       stays = λ _. (refl, refl, refl, refl);
       needs-stay = λ _. refl;
       whole = stands .stands .whole;
-      few = tt;
+      few = few;
       handles-length = stands .stands .handles-length;
       holders-length = stands .stands .holders-length;
       needs-length = stands .needs-length;
@@ -193,12 +196,12 @@ module _ (place : Placement) (s : Scopes) (handles holders : List ℕ) (handed :
     }
 
     pub again-works : (a : Address) → needIn (getD (t .needs) n 0) ≡ at a → (drained : List ℕ)
-        → WorksWith place (allocNeed n) 0x23 s handles holders handed t (record { state = s; handed = handed; adds = One (a .slot) }) handles holders t drained
-    again-works a e drained = shown-with (some (a .slot)) (at a) e refl (again-same a e) drained
+        → WorksWith place (allocNeed n) 0x23 s handles holders handed t (record { state = s; handed = handed; adds = Slot (record { 0 = a .slot }) }) handles holders t drained
+    again-works a e drained = shown-with (some (a .slot)) (Slot (record { 0 = a .slot })) (λ _. refl) tt (at a) e refl (again-same a e) drained
 
-    pub ignored-works : needIn (getD (t .needs) n 0) ≡ ignore → (drained : List ℕ) → WorksWith place (allocNeed n) 0x23 s handles holders handed t (record { state = s; handed = handed; adds = One 0xffff }) handles holders t drained
+    pub ignored-works : needIn (getD (t .needs) n 0) ≡ ignore → (drained : List ℕ) → WorksWith place (allocNeed n) 0x23 s handles holders handed t (record { state = s; handed = handed; adds = NoSlot }) handles holders t drained
     unfolding allotNeed
-    ignored-works e drained = shown-with none ignore e refl refl drained
+    ignored-works e drained = shown-with none NoSlot (λ _. refl) tt ignore e refl refl drained
 
     -- ---- 23 of a deferred need, and 25, from what is done over the scopes and the handles alone
 

@@ -23,7 +23,7 @@ use Rattle.handles.specs.Handles.{handleAt}
 use Rattle.handles.specs.NeedTable.{rememberedAt, Needing, table, stateWith}
 use Rattle.frames.specs.Steps.{nowhere, stepped, isRefused, Few, Stands, Reached, RefusedStays, onFrees, freeArrays}
 use Rattle.frames.specs.declared.steps.Adds.{Adds}
-use Rattle.frames.specs.declared.steps.Adds.the-variants.{One, Refused}
+use Rattle.frames.specs.declared.steps.Adds.the-variants.{Slot, NoSlot, Refused}
 use Rattle.frames.specs.declared.steps.Stepped.{Stepped}
 use Rattle.frames.specs.declared.needing.Noted.{Noted}
 
@@ -75,8 +75,8 @@ pub record AddsNeed (x : Remembered) (t : Needing) (adds : Adds) (t′ : Needing
 
 -- what 24 shows
 abbrev pub shownOf : OutputAnswer → Adds
-shownOf (output.Keep a) = One (a .0)
-shownOf output.Discard = One 0xffff
+shownOf (output.Keep a) = Slot a
+shownOf output.Discard = NoSlot
 shownOf (output.Refused n) = Refused n
 
 -- the kind of the address that a need has

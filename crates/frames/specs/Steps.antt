@@ -29,7 +29,7 @@ use Rattle.handles.specs.declared.Handle.{Handle}
 use Rattle.frames.specs.declared.steps.Source.{Source}
 use Rattle.frames.specs.declared.steps.Source.the-variants.{Constant, NextSample}
 use Rattle.frames.specs.declared.steps.Adds.{Adds}
-use Rattle.frames.specs.declared.steps.Adds.the-variants.{Nothing, One, Store, Load, Drained, Refused}
+use Rattle.frames.specs.declared.steps.Adds.the-variants.{Nothing, Slot, NoSlot, Number, Store, Load, Drained, Refused}
 use Rattle.frames.specs.declared.steps.Stepped.{Stepped}
 
 -- ---- what a step adds to the list, of opcode o; a drain's addresses are the first of `drained`
@@ -40,7 +40,9 @@ sourceOf NextSample = rules.nextSample
 
 abbrev pub stepped : ℕ → Adds → rules.State → List ℕ → rules.Step
 stepped o Nothing t drained = oneLine (shows o []) t
-stepped o (One a) t drained = oneLine (shows o (a ∷ [])) t
+stepped o (Slot a) t drained = oneLine (shows o (a .0 ∷ [])) t
+stepped o NoSlot t drained = oneLine (shows o (0xffff ∷ [])) t
+stepped o (Number n) t drained = oneLine (shows o (n ∷ [])) t
 stepped o (Store a x) t drained = oneLine (stores (a .0) (sourceOf x)) t
 stepped o (Load a) t drained = oneLine (loads o (a .0)) t
 stepped o (Drained n) t drained = oneLine (shows 0x0f (n ∷ take n drained)) t
@@ -49,10 +51,10 @@ stepped o (Refused n) t drained = refused n
 -- "01 adds its number; 06, 07, 0a, 0b add the address; 08 the first address or `ffff`"; a script's numbers are below 65,536
 abbrev pub addsOf : Reply → Adds
 addsOf reply.Done = Nothing
-addsOf (reply.At a) = One (a .0)
-addsOf reply.Empty = One 0xffff
-addsOf (reply.Opened i) = One (i .number % WORD)
-addsOf (reply.Found b) = One (b .address .0)
+addsOf (reply.At a) = Slot a
+addsOf reply.Empty = NoSlot
+addsOf (reply.Opened i) = Number (i .number % WORD)
+addsOf (reply.Found b) = Slot (b .address)
 addsOf (reply.Refused n) = Refused n
 
 -- the slot that was answered, or a number that no slot has
@@ -75,7 +77,9 @@ handleOr (reply.Refused n) = 65535
 
 abbrev pub isRefused : Adds → Bool
 isRefused Nothing = false
-isRefused (One a) = false
+isRefused (Slot a) = false
+isRefused NoSlot = false
+isRefused (Number n) = false
 isRefused (Store a x) = false
 isRefused (Load a) = false
 isRefused (Drained n) = false
@@ -84,7 +88,9 @@ isRefused (Refused n) = true
 -- a drain's addresses stand in a table of SLOTS
 abbrev pub Few : Adds → Type 0
 Few Nothing = Unit {0}
-Few (One a) = Unit {0}
+Few (Slot a) = Unit {0}
+Few NoSlot = Unit {0}
+Few (Number n) = Unit {0}
 Few (Store a x) = Unit {0}
 Few (Load a) = Unit {0}
 Few (Drained n) = n ≤ SLOTS

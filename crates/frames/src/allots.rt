@@ -29,17 +29,17 @@ use scopes::open;
 use slots::Place;
 use slots::SlotAddress;
 
-// The slot that was answered; 65,535 where there is none.
-fn slot_or(reply: Reply) -> usize
-    ensures { λ r. ⌜ r ≡ slotOr reply ⌝ }
+// The slot that was answered; one that isn't there where none was.
+fn slot_or(reply: Reply) -> SlotAddress
+    ensures { λ r. ⌜ r .0 ≡ slotOr reply ⌝ }
 {
     match reply {
-        Reply::At(a) => a.0 as usize,
-        Reply::Done => 65535,
-        Reply::Empty => 65535,
-        Reply::Opened(_) => 65535,
-        Reply::Found(_) => 65535,
-        Reply::Refused(_) => 65535,
+        Reply::At(a) => a,
+        Reply::Done => SlotAddress(65535),
+        Reply::Empty => SlotAddress(65535),
+        Reply::Opened(_) => SlotAddress(65535),
+        Reply::Found(_) => SlotAddress(65535),
+        Reply::Refused(_) => SlotAddress(65535),
     }
 }
 
@@ -60,7 +60,8 @@ fn granted(
     let reply = o.reply;
     let adds = adds_of(reply);
     let first = slot_or(reply);
-    if first < SLOTS {
+    let a = first.0 as usize;
+    if a < SLOTS {
         grant(handles, holders, handed, many, first, kind);
         return Stepped {
             numbers: n,
@@ -181,7 +182,7 @@ pub fn linear(
         return Stepped {
             numbers: n,
             handed,
-            adds: Adds::One(0xffff),
+            adds: Adds::NoSlot,
         };
     }
     let many = k as usize;

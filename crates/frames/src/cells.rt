@@ -41,9 +41,7 @@ pub fn write(
     let known = unpacked(handles[i]);
     let address = known.address;
     let slot = address.slot;
-    let a = slot.0 as usize;
-    let holder = holders[a];
-    if !is_held(halves, a, holder, h.0) {
+    if !is_held(halves, holders, slot, h) {
         return Adds::Refused(14);
     }
     handles[i] = packed(Handle {
@@ -68,9 +66,7 @@ fn load(
     let x = unpacked(handles[i]);
     let address = x.address;
     let slot = address.slot;
-    let a = slot.0 as usize;
-    let holder = holders[a];
-    if !is_held(halves, a, holder, h.0) {
+    if !is_held(halves, holders, slot, h) {
         return Adds::Refused(14);
     }
     if x.written {
@@ -97,20 +93,17 @@ pub fn read(
     load(halves, handles, holders, handed, h)
 }
 
-// The handle of the binding that was answered; 65,535 where there is none.
-fn handle_or(reply: Reply) -> u16
-    ensures { λ r. ⌜ r ≡ handleOr reply ⌝ }
+// The handle of the binding that was answered; one that was never handed out where none was.
+fn handle_or(reply: Reply) -> HandleNumber
+    ensures { λ r. ⌜ r .0 ≡ handleOr reply ⌝ }
 {
     match reply {
-        Reply::Found(b) => {
-            let h = b.handle;
-            h.0
-        }
-        Reply::Done => 65535,
-        Reply::At(_) => 65535,
-        Reply::Empty => 65535,
-        Reply::Opened(_) => 65535,
-        Reply::Refused(_) => 65535,
+        Reply::Found(b) => b.handle,
+        Reply::Done => HandleNumber(65535),
+        Reply::At(_) => HandleNumber(65535),
+        Reply::Empty => HandleNumber(65535),
+        Reply::Opened(_) => HandleNumber(65535),
+        Reply::Refused(_) => HandleNumber(65535),
     }
 }
 
@@ -131,9 +124,9 @@ pub fn read_name<'a>(
 {
     let reply = names::get(live, parent, bindings, n, name);
     let k = handle_or(reply);
-    let i = k as usize;
+    let i = k.0 as usize;
     if handed <= i {
         return adds_of(reply);
     }
-    load(halves, handles, holders, handed, HandleNumber(k))
+    load(halves, handles, holders, handed, k)
 }

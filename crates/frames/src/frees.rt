@@ -42,9 +42,7 @@ fn hand_back(
 {
     let address = x.address;
     let slot = address.slot;
-    let a = slot.0 as usize;
-    let holder = holders[a];
-    if !is_held(halves, a, holder, h.0) {
+    if !is_held(halves, holders, slot, h) {
         return refused(n, handed, 14);
     }
     let o = place::give_back(halves, links, owner, n, slot, dangles);

@@ -52,7 +52,7 @@ fn add(
     remembers[needed] = h;
     Noted {
         needed: needed + 1,
-        adds: Adds::One(needed as u16),
+        adds: Adds::Number(needed as u16),
     }
 }
 
@@ -130,8 +130,8 @@ fn shown(answer: OutputAnswer) -> Adds
     ensures { λ r. ⌜ r ≡ shownOf answer ⌝ }
 {
     match answer {
-        OutputAnswer::Keep(a) => Adds::One(a.0),
-        OutputAnswer::Discard => Adds::One(0xffff),
+        OutputAnswer::Keep(a) => Adds::Slot(a),
+        OutputAnswer::Discard => Adds::NoSlot,
         OutputAnswer::Refused(n) => Adds::Refused(n),
     }
 }

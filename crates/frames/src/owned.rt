@@ -97,7 +97,9 @@ fn is_refused(adds: Adds) -> bool
     match adds {
         Adds::Refused(_) => true,
         Adds::Nothing => false,
-        Adds::One(_) => false,
+        Adds::Slot(_) => false,
+        Adds::NoSlot => false,
+        Adds::Number(_) => false,
         Adds::Store(_, _) => false,
         Adds::Load(_) => false,
         Adds::Drained(_) => false,
@@ -200,13 +202,13 @@ pub fn allocate<'a>(
             Stepped {
                 numbers: n,
                 handed,
-                adds: Adds::One(slot.0),
+                adds: Adds::Slot(slot),
             }
         }
         Need::Ignore => Stepped {
             numbers: n,
             handed,
-            adds: Adds::One(0xffff),
+            adds: Adds::NoSlot,
         },
         Need::Freed => refused(n, handed, 21),
     }

@@ -20,7 +20,9 @@ pub enum Source {
 // What a frame's line has besides its opcode; or the number of a refusal.
 pub enum Adds {
     Nothing,
-    One(u16),
+    Slot(SlotAddress),
+    NoSlot, // shown as `ffff`
+    Number(u16), // of a scope or of a need
     Store(SlotAddress, Source),
     Load(SlotAddress),
     Drained(usize), // the count; the addresses stand in the table of drained slots
@@ -39,12 +41,12 @@ pub fn adds_of(reply: Reply) -> Adds
 {
     match reply {
         Reply::Done => Adds::Nothing,
-        Reply::At(a) => Adds::One(a.0),
-        Reply::Empty => Adds::One(0xffff),
-        Reply::Opened(id) => Adds::One((id.number % 65536) as u16),
+        Reply::At(a) => Adds::Slot(a),
+        Reply::Empty => Adds::NoSlot,
+        Reply::Opened(id) => Adds::Number((id.number % 65536) as u16),
         Reply::Found(b) => {
             let a = b.address;
-            Adds::One(a.0)
+            Adds::Slot(a)
         }
         Reply::Refused(n) => Adds::Refused(n),
     }

@@ -12,6 +12,7 @@ use Rattle.rules.specs.Sizes.{SLOTS, WORD, COUNTERS}
 use Rattle.rules.specs.Scopes.{Id, Scopes}
 use Rattle.rules.specs.Needs.{Kind, local, dangling, assigned, freed, scope}
 use Rattle.rules.specs.Frames.{Handle, noNeed, State}
+use Rattle.slots.specs.Halves.{occ}
 use Rattle.scopes.specs.declared.ScopeId.{ScopeId}
 use Rattle.scopes.specs.Lent.{LentArray}
 use Rattle.needs.specs.declared.AddressKind.{AddressKind}
@@ -57,6 +58,10 @@ kindCoded k id = kindBy (eqb k 1) (eqb k 2) (eqb k 3) (eqb k 4) id
 
 abbrev pub kindIn : ℕ → Kind
 kindIn b = kindCoded (b / KIND_PART % KINDS) (idIn b)
+
+-- slot a is occupied, and the handle that took it last is h
+abbrev pub heldBy : (halves holders : List ℕ) → ℕ → ℕ → Bool
+heldBy halves holders a h = occ halves a && eqb (getD holders a 0) h
 
 -- "An allocation is held until its slot is given back or its owner popped": its slot is occupied, and no later handle took it
 abbrev pub handleAt : (ℕ → Bool) → List ℕ → List ℕ → ℕ → Handle

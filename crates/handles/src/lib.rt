@@ -2,15 +2,13 @@
 pub mod remembered;
 
 ghost use mathlib.Core.Path.{_≡_};
-ghost use mathlib.Core.Bool.{_&&_};
 ghost use Prim.Native.Nat.{ℕ, _+_, _≤_, _<_};
 ghost use lib.Dec.{eqb};
 ghost use lib.ListN.{length};
 ghost use Rattle.rules.specs.Sizes.{HANDLES, SLOTS};
-ghost use Rattle.slots.specs.Halves.{occ};
 ghost use Rattle.scopes.specs.View.{idOf};
 ghost use Rattle.needs.specs.Kinds.{kindOf};
-ghost use Rattle.handles.specs.Handles.{Coded, kindCoded, codeOfKind, idOfKind, freedAs, HandsOut};
+ghost use Rattle.handles.specs.Handles.{Coded, kindCoded, codeOfKind, idOfKind, freedAs, HandsOut, heldBy};
 use needs::Address;
 use needs::AddressKind;
 use rules::COUNTERS;
@@ -18,6 +16,7 @@ use rules::HALVES;
 use rules::HANDLES;
 use rules::SLOTS;
 use rules::WORD;
+use scopes::HandleNumber;
 use scopes::ScopeId;
 use slots::SlotAddress;
 use slots::halves;
@@ -152,32 +151,39 @@ pub fn forgotten(x: Handle) -> u64
 
 // ---- held
 
-// Slot a is occupied, and `holder`, which took it last, is the handle h.
-pub fn is_held(halves: &[u64; HALVES], a: usize, holder: u16, h: u16) -> bool
-    requires { ⌜ a < SLOTS ⌝ }
-    ensures { λ r. ⌜ r ≡ (occ (now (halves .entry)) a && eqb holder h) ⌝ }
+// The slot is occupied, and the handle that took it last is h.
+pub fn is_held(
+    halves: &[u64; HALVES],
+    holders: &[u16; SLOTS],
+    slot: SlotAddress,
+    h: HandleNumber,
+) -> bool
+    requires { ⌜ slot .0 < SLOTS ⌝ }
+    ensures { λ r. ⌜ r ≡ heldBy (now (halves .entry)) (now (holders .entry)) (slot .0) (h .0) ⌝ }
 {
+    let a = slot.0 as usize;
     if halves::occupied(halves, a) {
-        return holder == h;
+        return holders[a] == h.0;
     }
     false
 }
 
 // ---- handed out
 
-// n handles from `handed` on, for the n slots from a on.
+// n handles from `handed` on, for the n slots from `first` on.
 pub fn grant(
     handles: &mut [u64; HANDLES],
     holders: &mut [u16; SLOTS],
     handed: usize,
     n: usize,
-    a: usize,
+    first: SlotAddress,
     kind: AddressKind,
 )
-    requires { ⌜ (handed + n ≤ HANDLES) × (a + n ≤ SLOTS) × (length (now handles) ≡ HANDLES) × (length (now holders) ≡ SLOTS) ⌝ }
-    ensures { λ _. ⌜ HandsOut handles holders handed n a (kindOf kind) ⌝ }
+    requires { ⌜ (handed + n ≤ HANDLES) × (first .0 + n ≤ SLOTS) × (length (now handles) ≡ HANDLES) × (length (now holders) ≡ SLOTS) ⌝ }
+    ensures { λ _. ⌜ HandsOut handles holders handed n (first .0) (kindOf kind) ⌝ }
     ensures { λ _. ⌜ (length (now (handles .exit)) ≡ HANDLES) × (length (now (holders .exit)) ≡ SLOTS) ⌝ }
 {
+    let a = first.0 as usize;
     let mut i: usize = 0;
     while i < n {
         let slot = a + i;

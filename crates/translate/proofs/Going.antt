@@ -48,7 +48,7 @@ use Rattle.frames.specs.Needing.{StandsWith, WorksWith}
 use Rattle.frames.proofs.Beside.{stands-sound, sound-stands}
 use Rattle.translate.specs.Whole.{frameIn, linesOf, linesText, onwardOf, stepsAt, framesOf, Read, Begun, walked, Ends, listed, refused as told}
 use Rattle.frames.specs.declared.steps.Adds.{Adds}
-use Rattle.frames.specs.declared.steps.Adds.the-variants.{Nothing, One, Store, Load, Drained, Refused}
+use Rattle.frames.specs.declared.steps.Adds.the-variants.{Nothing, Slot, NoSlot, Number, Store, Load, Drained, Refused}
 use Rattle.translate.specs.declared.whole.Onward.the-variants.{Go, Stop}
 use Rattle.translate.specs.declared.whole.Ended.{Ended}
 use Rattle.translate.specs.declared.whole.Ended.the-variants as ended
@@ -62,7 +62,9 @@ stops e = absurd (let z : _≡_ {A = ℕ} 0 1 = cc in omega arith)
 
 pub goes-on : (o : ℕ) (adds : Adds) (t : State) (l : List ℕ) → onwardOf adds ≡ Go → stepped o adds t l ≡ given (linesOf o adds l, t)
 goes-on o Nothing t l e = refl
-goes-on o (One a) t l e = refl
+goes-on o (Slot a) t l e = refl
+goes-on o NoSlot t l e = refl
+goes-on o (Number n) t l e = refl
 goes-on o (Store a v) t l e = refl
 goes-on o (Load a) t l e = refl
 goes-on o (Drained n) t l e = refl
@@ -70,7 +72,9 @@ goes-on o (Refused n) t l e = stops e
 
 pub stops-by : (o : ℕ) (adds : Adds) (t : State) (l : List ℕ) (n : ℕ) → onwardOf adds ≡ Stop n → stepped o adds t l ≡ refused n
 stops-by o Nothing t l n e = stops (sym e)
-stops-by o (One a) t l n e = stops (sym e)
+stops-by o (Slot a) t l n e = stops (sym e)
+stops-by o NoSlot t l n e = stops (sym e)
+stops-by o (Number m) t l n e = stops (sym e)
 stops-by o (Store a v) t l n e = stops (sym e)
 stops-by o (Load a) t l n e = stops (sym e)
 stops-by o (Drained m) t l n e = stops (sym e)

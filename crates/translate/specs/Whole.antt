@@ -21,7 +21,7 @@ use Rattle.text.specs.declared.lines.Reading.{Reading}
 use Rattle.text.specs.declared.lines.Reading.the-variants as reading
 use Rattle.frames.specs.Steps.{sourceOf}
 use Rattle.frames.specs.declared.steps.Adds.{Adds}
-use Rattle.frames.specs.declared.steps.Adds.the-variants.{Nothing, One, Store, Load, Drained, Refused}
+use Rattle.frames.specs.declared.steps.Adds.the-variants.{Nothing, Slot, NoSlot, Number, Store, Load, Drained, Refused}
 use Rattle.translate.specs.declared.whole.Onward.{Onward}
 use Rattle.translate.specs.declared.whole.Onward.the-variants as onward
 use Rattle.translate.specs.declared.whole.Guide.{Guide}
@@ -45,7 +45,9 @@ frameIn (reading.One f) = f
 -- what a frame of opcode o adds, as lines; none for a refusal
 abbrev pub linesOf : ℕ → Adds → List ℕ → List Line
 linesOf o Nothing drained = shows o [] ∷ []
-linesOf o (One a) drained = shows o (a ∷ []) ∷ []
+linesOf o (Slot a) drained = shows o (a .0 ∷ []) ∷ []
+linesOf o NoSlot drained = shows o (0xffff ∷ []) ∷ []
+linesOf o (Number n) drained = shows o (n ∷ []) ∷ []
 linesOf o (Store a x) drained = stores (a .0) (sourceOf x) ∷ []
 linesOf o (Load a) drained = loads o (a .0) ∷ []
 linesOf o (Drained n) drained = shows 0x0f (n ∷ take n drained) ∷ []
@@ -65,7 +67,9 @@ Puts page w t = now (page .exit) ≡ over (now (page .entry)) w t
 
 abbrev pub onwardOf : Adds → Onward
 onwardOf Nothing = onward.Go
-onwardOf (One a) = onward.Go
+onwardOf (Slot a) = onward.Go
+onwardOf NoSlot = onward.Go
+onwardOf (Number n) = onward.Go
 onwardOf (Store a x) = onward.Go
 onwardOf (Load a) = onward.Go
 onwardOf (Drained n) = onward.Go

@@ -62,7 +62,9 @@ fn onward_of(adds: Adds) -> Onward
 {
     match adds {
         Adds::Nothing => Onward::Go,
-        Adds::One(_) => Onward::Go,
+        Adds::Slot(_) => Onward::Go,
+        Adds::NoSlot => Onward::Go,
+        Adds::Number(_) => Onward::Go,
         Adds::Store(_, _) => Onward::Go,
         Adds::Load(_) => Onward::Go,
         Adds::Drained(_) => Onward::Go,
@@ -90,7 +92,9 @@ fn put_adds(page: &mut [u8], w: usize, opcode: u8, adds: Adds, drained: &[u16]) 
 {
     match adds {
         Adds::Nothing => put_line(page, w, opcode, 0, 0, 0),
-        Adds::One(a) => put_line(page, w, opcode, 1, a, 0),
+        Adds::Slot(a) => put_line(page, w, opcode, 1, a.0, 0),
+        Adds::NoSlot => put_line(page, w, opcode, 1, 0xffff, 0),
+        Adds::Number(n) => put_line(page, w, opcode, 1, n, 0),
         Adds::Store(a, x) => put_store(page, w, a.0, x),
         Adds::Load(a) => put_line(page, w, opcode, 1, a.0, 0),
         Adds::Drained(n) => put_drain(page, w, drained, n as u16),

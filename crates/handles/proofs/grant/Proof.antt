@@ -11,13 +11,16 @@ use Rattle.handles.proofs.grant.Statement.{statement}
 use Rattle.handles.proofs.grant.Tie as tie
 
 abbrev Inv-loop : tie.InvT-loop
-Inv-loop handles₀ holders₀ handed n a kind i₀ handles holders i = (i ≤ n) × Hands handles₀ handles holders₀ holders handed i a (kindOf kind) × (length handles ≡ HANDLES) × (length holders ≡ SLOTS)
+Inv-loop handles₀ holders₀ handed n kind a i₀ handles holders i = (i ≤ n) × Hands handles₀ handles holders₀ holders handed i a (kindOf kind) × (length handles ≡ HANDLES) × (length holders ≡ SLOTS)
 
 abbrev μ-loop : tie.MeasureT-loop
-μ-loop handles₀ holders₀ handed n a kind i₀ handles holders i = n - i
+μ-loop handles₀ holders₀ handed n kind a i₀ handles holders i = n - i
+
+cast-a : tie.Need-cast-a Inv-loop μ-loop
+cast-a c = search needs
 
 loop-holds : tie.Need-loop-holds Inv-loop μ-loop
-loop-holds c = (omega arith, hands-none _ _ _ _ _, c .pre .2, c .pre .3)
+loop-holds c = (omega arith, hands-none _ _ _ _ _, c .before .pre .2, c .before .pre .3)
 
 add-slot : tie.Need-add-slot Inv-loop μ-loop
 add-slot c = search needs
@@ -56,7 +59,7 @@ loop-again : tie.Need-loop-again Inv-loop μ-loop
 loop-again c = (omega arith, hands-more _ _ _ _ _ _ _ _ (c .before .before .loop .inv .1) _ (omega arith) (omega arith) (c .packed .ensures .slot) (c .packed .ensures .kind) (c .packed .ensures .written), simp length-set (c .before .before .loop .inv .2), simp length-set (c .before .before .loop .inv .3))
 
 returns : tie.Need-returns Inv-loop μ-loop
-returns c = (hands-all (c .before .loop .i) (c .before .before .args .n) (omega arith) (omega arith) (c .before .loop .inv .1), (c .before .loop .inv .2, c .before .loop .inv .3))
+returns c = (hands-all (c .before .loop .i) (c .before .before .before .args .n) (omega arith) (omega arith) (c .before .loop .inv .1), (c .before .loop .inv .2, c .before .loop .inv .3))
 
 pub grant-spec : {M : Type 1} → statement M
 grant-spec =
@@ -64,6 +67,7 @@ grant-spec =
     (tie.spec
     Inv-loop
     μ-loop
+    cast-a
     loop-holds
     add-slot
     add-h

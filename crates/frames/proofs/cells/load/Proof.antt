@@ -25,38 +25,29 @@ element-copy-out-unpacked c = omega (arith, c .before .pre .1, c .before .pre .0
 unpacked-requires : tie.Need-unpacked-requires
 unpacked-requires c κs = tt
 
-cast-a : tie.Need-cast-a
-cast-a c = search needs
-
-mul-holder : tie.Need-mul-holder
-mul-holder c = search needs
-
-element-copy-out-holder : tie.Need-element-copy-out-holder
-element-copy-out-holder c = search needs
-
 is-held-requires : tie.Need-is-held-requires
 is-held-requires c κs = search needs
 
 returns : tie.Need-returns
 returns c = λ f o s it stands.
-    let k = c .before .before .before .before .before .before in
+    let k = c .before .before .before .before in
     let h = start k .args .h .0 in
     works-refused _ _ _ _ stands f o 14 _ refl (load-14 _ _ _ _ stands h (k .unpacked .result) (k .unpacked .ensures) f o it
-    (held-is _ _ _ _ stands h (k .unpacked .result) (k .unpacked .ensures) _ (c .before .is-held .result) refl (c .before .is-held .ensures) ∙ not-true _ (c .if1 .taken)))
+    (held-is _ _ _ _ stands h (k .unpacked .result) (k .unpacked .ensures) (c .before .is-held .result) (c .before .is-held .ensures) ∙ not-true _ (c .if1 .taken)))
 
 returns-2 : tie.Need-returns-2
 returns-2 c = λ f o s it stands.
-    let k = c .before .before .before .before .before .before .before in
+    let k = c .before .before .before .before .before in
     let h = start k .args .h .0 in
     load-works _ _ _ _ stands h (k .unpacked .result) (k .unpacked .ensures) f o it
-    (held-is _ _ _ _ stands h (k .unpacked .result) (k .unpacked .ensures) _ (c .before .before .is-held .result) refl (c .before .before .is-held .ensures) ∙ not-false _ (c .before .if1 .left)) (c .if2 .taken)
+    (held-is _ _ _ _ stands h (k .unpacked .result) (k .unpacked .ensures) (c .before .before .is-held .result) (c .before .before .is-held .ensures) ∙ not-false _ (c .before .if1 .left)) (c .if2 .taken)
 
 returns-3 : tie.Need-returns-3
 returns-3 c = λ f o s it stands.
-    let k = c .before .before .before .before .before .before .before in
+    let k = c .before .before .before .before .before in
     let h = start k .args .h .0 in
     works-refused _ _ _ _ stands f o 15 _ refl (load-15 _ _ _ _ stands h (k .unpacked .result) (k .unpacked .ensures) f o it
-    (held-is _ _ _ _ stands h (k .unpacked .result) (k .unpacked .ensures) _ (c .before .before .is-held .result) refl (c .before .before .is-held .ensures) ∙ not-false _ (c .before .if1 .left)) (c .if2 .left))
+    (held-is _ _ _ _ stands h (k .unpacked .result) (k .unpacked .ensures) (c .before .before .is-held .result) (c .before .before .is-held .ensures) ∙ not-false _ (c .before .if1 .left)) (c .if2 .left))
 
 pub load-spec : {M : Type 1} → statement M
 load-spec =
@@ -66,9 +57,6 @@ load-spec =
     mul-unpacked
     element-copy-out-unpacked
     unpacked-requires
-    cast-a
-    mul-holder
-    element-copy-out-holder
     is-held-requires
     returns
     returns-2

@@ -28,20 +28,20 @@ adds-of-requires c κs = tt
 
 returns : tie.Need-returns
 returns c = λ s stands.
-    let g = c .before .before .before in
+    let g = c .before .before .before .before in
     let st = g .before in
-    named-refused _ _ _ _ stands (st .args .name) (g .get .result) (g .get .ensures (state st s) (stands .whole)) (omega (arith, c .before .before .handle-or .ensures, c .before .if1 .taken)) (c .adds-of .result) (c .adds-of .ensures)
+    named-refused _ _ _ _ stands (st .args .name) (g .get .result) (g .get .ensures (state st s) (stands .whole)) (omega (arith, c .before .before .before .handle-or .ensures, c .before .if1 .taken)) (c .adds-of .result) (c .adds-of .ensures)
 
 load-requires : tie.Need-load-requires
-load-requires c κs = let st = c .before .before .before in ((state st (st .pre .0), st .pre .1), c .if1 .left)
+load-requires c κs = let st = c .before .before .before .before in ((state st (st .pre .0), st .pre .1), c .if1 .left)
 
 returns-2 : tie.Need-returns-2
 unfolding base
 returns-2 c = λ s stands.
-    let g = c .before .before .before in
+    let g = c .before .before .before .before in
     let st = g .before in
     c .load .ensures (frame.readName (st .args .name)) 0x12 (state st s)
-    (loads-at _ _ _ _ stands (frame.readName (st .args .name)) 0x12 (sym (c .before .before .handle-or .ensures)) (named-loads _ _ _ _ stands (st .args .name) (g .get .result) (g .get .ensures (state st s) (stands .whole)) (omega (arith, c .before .before .handle-or .ensures, c .before .if1 .left)) (stands .state .handles .few))) stands
+    (loads-at _ _ _ _ stands (frame.readName (st .args .name)) 0x12 (sym (c .before .before .before .handle-or .ensures)) (named-loads _ _ _ _ stands (st .args .name) (g .get .result) (g .get .ensures (state st s) (stands .whole)) (omega (arith, c .before .before .before .handle-or .ensures, c .before .if1 .left)) (stands .state .handles .few))) stands
 
 pub read-name-spec : {M : Type 1} → statement M
 read-name-spec =

@@ -14,7 +14,7 @@ use Rattle.frames.proofs.cells.write.Statement.{statement}
 use Rattle.frames.proofs.cells.write.Tie as tie
 
 abbrev start : tie.After-is-held → tie.Start
-start c = c .before .before .before .before .before .before .before .before .before
+start c = c .before .before .before .before .before .before .before
 
 cast-i : tie.Need-cast-i
 cast-i c = search needs
@@ -32,25 +32,16 @@ element-copy-out-unpacked c = omega (arith, c .before .before .pre .1 .state .ha
 unpacked-requires : tie.Need-unpacked-requires
 unpacked-requires c κs = tt
 
-cast-a : tie.Need-cast-a
-cast-a c = search needs
-
-mul-holder : tie.Need-mul-holder
-mul-holder c = search needs
-
-element-copy-out-holder : tie.Need-element-copy-out-holder
-element-copy-out-holder c = search needs
-
 is-held-requires : tie.Need-is-held-requires
 is-held-requires c κs = search needs
 
 returns-2 : tie.Need-returns-2
 returns-2 c = λ o s stands.
     let st = start (c .before) in
-    let k = c .before .before .before .before .before .before in
+    let k = c .before .before .before .before in
     works-refused _ _ _ _ stands (frame.write (st .args .h .0) (sourceOf (st .args .x))) o 14 _ refl
     (write-14 _ _ _ _ stands (st .args .h .0) (k .unpacked .result) (k .unpacked .ensures) (sourceOf (st .args .x)) (k .before .before .if1 .left)
-    (held-is _ _ _ _ stands (st .args .h .0) (k .unpacked .result) (k .unpacked .ensures) _ (c .before .is-held .result) refl (c .before .is-held .ensures) ∙ not-true _ (c .if2 .taken)))
+    (held-is _ _ _ _ stands (st .args .h .0) (k .unpacked .result) (k .unpacked .ensures) (c .before .is-held .result) (c .before .is-held .ensures) ∙ not-true _ (c .if2 .taken)))
 
 allocated-requires : tie.Need-allocated-requires
 allocated-requires c κs = tt
@@ -58,7 +49,7 @@ allocated-requires c κs = tt
 packed-requires : tie.Need-packed-requires
 packed-requires c κs =
     let st = start (c .before .before) in
-    let k = c .before .before .before .before .before .before .before in
+    let k = c .before .before .before .before .before in
     subst (λ (a : ℕ). a < SLOTS) (sym (ap (λ (a : Address). a .slot) (c .allocated .ensures))) (slot-low _ _ _ _ (st .pre .1) (st .args .h .0) (k .unpacked .result) (k .unpacked .ensures))
 
 mul-handles : tie.Need-mul-handles
@@ -72,10 +63,10 @@ returns-3 : tie.Need-returns-3
 unfolding base
 returns-3 c = λ o s stands.
     let st = start (c .before .before .before) in
-    let k = c .before .before .before .before .before .before .before .before in
+    let k = c .before .before .before .before .before .before in
     write-works _ _ _ _ stands (st .args .h .0) (k .unpacked .result) (k .unpacked .ensures) o (st .args .x) (c .packed .result) _ (c .packed .ensures) (c .before .allocated .ensures) refl (k .before .before .if1 .left)
     (omega (arith, stands .state .handles .few, stands .handles-length))
-    (held-is _ _ _ _ stands (st .args .h .0) (k .unpacked .result) (k .unpacked .ensures) _ (c .before .before .before .is-held .result) refl (c .before .before .before .is-held .ensures) ∙ not-false _ (c .before .before .if2 .left))
+    (held-is _ _ _ _ stands (st .args .h .0) (k .unpacked .result) (k .unpacked .ensures) (c .before .before .before .is-held .result) (c .before .before .before .is-held .ensures) ∙ not-false _ (c .before .before .if2 .left))
 
 pub write-spec : {M : Type 1} → statement M
 write-spec =
@@ -86,9 +77,6 @@ write-spec =
     mul-unpacked
     element-copy-out-unpacked
     unpacked-requires
-    cast-a
-    mul-holder
-    element-copy-out-holder
     is-held-requires
     returns-2
     allocated-requires

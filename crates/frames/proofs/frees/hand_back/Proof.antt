@@ -15,19 +15,10 @@ use Rattle.frames.proofs.frees.hand_back.Statement.{statement}
 use Rattle.frames.proofs.frees.hand_back.Tie as tie
 
 abbrev start : tie.After-is-held → tie.Start
-start c = c .before .before .before .before .before .before
+start c = c .before .before .before .before
 
 abbrev outcome : tie.After-give-back → Scopes → Outcome
 outcome c s = record { state = withSlots s (c .give-back .last .0) (c .give-back .last .1 .0) (c .give-back .last .1 .1 .0) (c .give-back .result .numbers); reply = c .give-back .result .reply }
-
-cast-a : tie.Need-cast-a
-cast-a c = search needs
-
-mul-holder : tie.Need-mul-holder
-mul-holder c = search needs
-
-element-copy-out-holder : tie.Need-element-copy-out-holder
-element-copy-out-holder c = search needs
 
 is-held-requires : tie.Need-is-held-requires
 is-held-requires c κs = search needs
@@ -41,10 +32,10 @@ returns c = λ s stands o.
     let st = start k in
     comes-refused _ _ _ _ stands _ o 14 _ (reached-is (c .refused .ensures))
     (back-14 _ _ _ _ stands (st .args .h .0) (st .args .x) (st .pre .1 .1) (st .args .dangles) (st .pre .1 .0)
-    (held-is _ _ _ _ stands (st .args .h .0) (st .args .x) (st .pre .1 .1) _ (k .is-held .result) refl (k .is-held .ensures) ∙ not-true _ (c .before .if1 .taken)) o)
+    (held-is _ _ _ _ stands (st .args .h .0) (st .args .x) (st .pre .1 .1) (k .is-held .result) (k .is-held .ensures) ∙ not-true _ (c .before .if1 .taken)) o)
 
 give-back-requires : tie.Need-give-back-requires
-give-back-requires c κs = let p = c .before .before .before .before .before .before .before .before .before .before .pre .0 in (p .0, p .1 .whole)
+give-back-requires c κs = let p = c .before .before .before .before .before .before .before .before .pre .0 in (p .0, p .1 .whole)
 
 is-done-requires : tie.Need-is-done-requires
 is-done-requires c κs = tt
@@ -60,7 +51,7 @@ returns-2 c = λ s stands op.
     let o = outcome g s in
     let e = g .give-back .ensures s (stands .whole) in
     back-refused _ _ _ _ stands (st .args .h .0) (st .args .x) (st .pre .1 .1) (st .args .dangles) (st .pre .1 .0)
-    (held-is _ _ _ _ stands (st .args .h .0) (st .args .x) (st .pre .1 .1) _ (k .is-held .result) refl (k .is-held .ensures) ∙ not-false _ (g .before .before .before .before .if1 .left))
+    (held-is _ _ _ _ stands (st .args .h .0) (st .args .x) (st .pre .1 .1) (k .is-held .result) (k .is-held .ensures) ∙ not-false _ (g .before .before .before .before .if1 .left))
     o (e .0) (e .1) (e .2) (sym (c .before .before .is-done .ensures) ∙ not-true _ (c .before .if2 .taken)) _ (reached-is (c .ended .ensures)) op
 
 cast-i : tie.Need-cast-i
@@ -85,16 +76,13 @@ returns-3 c = λ s stands op.
     let o = outcome g s in
     let e = g .give-back .ensures s (stands .whole) in
     back-comes _ _ _ _ stands (st .args .h .0) (st .args .x) (st .pre .1 .1) (st .args .dangles) (st .pre .1 .0)
-    (held-is _ _ _ _ stands (st .args .h .0) (st .args .x) (st .pre .1 .1) _ (k .is-held .result) refl (k .is-held .ensures) ∙ not-false _ (g .before .before .before .before .if1 .left))
+    (held-is _ _ _ _ stands (st .args .h .0) (st .args .x) (st .pre .1 .1) (k .is-held .result) (k .is-held .ensures) ∙ not-false _ (g .before .before .before .before .if1 .left))
     (c .forgotten .result) (c .forgotten .ensures) (omega (arith, st .pre .1 .0, stands .state .handles .few, stands .handles-length)) o (e .0) (e .1) (sym (c .before .before .before .is-done .ensures) ∙ not-false _ (c .before .before .if2 .left)) op
 
 pub hand-back-spec : {M : Type 1} → statement M
 hand-back-spec =
     tie.close
     (tie.spec
-    cast-a
-    mul-holder
-    element-copy-out-holder
     is-held-requires
     refused-requires
     returns
