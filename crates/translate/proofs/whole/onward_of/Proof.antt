@@ -20,6 +20,12 @@ enum-told-4 c = search needs
 enum-told-5 : tie.Need-enum-told-5
 enum-told-5 c = search needs
 
+enum-told-6 : tie.Need-enum-told-6
+enum-told-6 c = search needs
+
+enum-told-7 : tie.Need-enum-told-7
+enum-told-7 c = search needs
+
 enum-known-adds : tie.Need-enum-known-adds
 enum-known-adds c = search needs
 
@@ -39,7 +45,13 @@ returns-5 : tie.Need-returns-5
 returns-5 c = search needs
 
 returns-6 : tie.Need-returns-6
-returns-6 c = sym (ap onwardOf (c .before .adds .given .1))
+returns-6 c = search needs
+
+returns-7 : tie.Need-returns-7
+returns-7 c = search needs
+
+returns-8 : tie.Need-returns-8
+returns-8 c = sym (ap onwardOf (c .before .adds .given .1))
 
 pub onward-of-spec : {M : Type 1} → statement M
 onward-of-spec =
@@ -50,10 +62,14 @@ onward-of-spec =
     enum-told-3
     enum-told-4
     enum-told-5
+    enum-told-6
+    enum-told-7
     enum-known-adds
     returns
     returns-2
     returns-3
     returns-4
     returns-5
-    returns-6)
+    returns-6
+    returns-7
+    returns-8)
