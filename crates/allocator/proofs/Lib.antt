@@ -1,3 +1,4 @@
 pub mod Entered
 pub mod Drained
 pub mod Unique
+pub mod Replies

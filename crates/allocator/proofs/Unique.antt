@@ -6,12 +6,12 @@ use mathlib.Core.List.{List}
 use Prim.Native.Nat.{ℕ}
 use Rattle.rules.specs.Notation.{Answer, given, refused}
 use Rattle.rules.specs.Needs as rule
-use Rattle.scopes.specs.View.{view, Seen}
+use Rattle.scopes.specs.View.{view}
 use Rattle.scopes.specs.Sound.{Sound, Typed}
 use Rattle.scopes.specs.declared.Scopes.{Scopes}
 use Rattle.scopes.specs.declared.Outcome.{Outcome}
 use Rattle.scopes.specs.declared.Reply.{Reply}
-use Rattle.scopes.proofs.Unique.{same-state, admits-one}
+use Rattle.scopes.proofs.Unique.{same-state}
 use Rattle.soundness.proofs.Agrees.{good-sound}
 use Rattle.needs.specs.declared.Need.{Need}
 use Rattle.allocations.specs.declared.AddressOutcome.{AddressOutcome}
@@ -21,11 +21,13 @@ use Rattle.allocations.specs.declared.OutputOutcome.{OutputOutcome}
 use Rattle.allocations.specs.declared.FreeOutcome.{FreeOutcome}
 use Rattle.allocations.specs.Outcomes.{SeenState, SeenBoth}
 use Rattle.allocations.proofs.Unique.{Proper, admits-address, admits-run, admits-slot, admits-output, admits-free}
+use Rattle.allocator.specs.Replies.{Value, seenReply}
 use Rattle.allocator.specs.Entries.{Checked, turned, taken, Call, Asked, AddressCall, RunCall, SlotCall, OutputCall, FreeCall}
 use Rattle.allocator.specs.Drained.{SeenDrain, drainSays, seenDrain, DrainCall}
 use Rattle.allocator.specs.declared.drain.DrainAnswer.{DrainAnswer}
 use Rattle.allocator.specs.declared.drain.DrainAnswer.the-variants.{Count, Refused}
 use Rattle.allocator.specs.declared.drain.DrainOutcome.{DrainOutcome}
+use Rattle.allocator.proofs.Replies.{same-reply}
 
 -- where the state isn't sound both are the refusal, and where it is, what the rule gives tells them
 pub checked-one : {R : Type 0} {s : Scopes} {refusal : R} {Gives : R → Type 0} {r q : R} → (Gives r → Gives q → r ≡ q) → Checked s refusal Gives r → Checked s refusal Gives q → r ≡ q
@@ -34,11 +36,15 @@ checked-one one (turned n e) (taken g k) = absurd (n g)
 checked-one one (taken g h) (turned m f) = absurd (m g)
 checked-one one (taken g h) (taken f k) = one h k
 
-pub call-one : (s : Scopes) (x : Seen) (r q : Outcome) → Typed (r .state) → Typed (q .state) → Call s x r → Call s x q → r ≡ q
-call-one s x r q tr tq = checked-one (admits-one x r q tr tq)
+pub call-one : (s : Scopes) (x : SeenState Value) (r q : Outcome) → Typed (r .state) → Typed (q .state) → Call s x r → Call s x q → r ≡ q
+call-one s x r q tr tq = checked-one λ h k.
+    let e : seenReply r ≡ seenReply q = h .0 ∙ sym (k .0) in
+    let t : r .state ≡ q .state = same-state (r .state) (q .state) (h .1) (k .1) tr tq (ap (λ (y : SeenState Value). y .next) e) in
+    let a : r .reply ≡ q .reply = same-reply (r .reply) (q .reply) (ap (λ (y : SeenState Value). y .says) e) in
+    λ i. record { state = t i; reply = a i }
 
-pub asked-one : (s : Scopes) (x r q : Reply) → Asked s x r → Asked s x q → r ≡ q
-asked-one s x r q = checked-one (λ e f. e ∙ sym f)
+pub asked-one : (s : Scopes) (x : Answer Value) (r q : Reply) → Asked s x r → Asked s x q → r ≡ q
+asked-one s x r q = checked-one (λ e f. same-reply r q (e ∙ sym f))
 
 -- ---- "All leave state .. unchanged": where the rule's next state is the one that came in, so is the record
 

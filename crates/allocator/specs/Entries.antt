@@ -4,8 +4,8 @@ use mathlib.Core.Path.{_≡_}
 use mathlib.Core.Option.{Option}
 use mathlib.Core.List.{List}
 use Prim.Native.Nat.{ℕ}
+use Rattle.rules.specs.Notation.{Answer}
 use Rattle.rules.specs.Needs as rule
-use Rattle.scopes.specs.View.{Seen, seen}
 use Rattle.scopes.specs.Sound.{Sound}
 use Rattle.scopes.specs.declared.Scopes.{Scopes}
 use Rattle.scopes.specs.declared.Outcome.{Outcome}
@@ -25,6 +25,7 @@ use Rattle.allocations.specs.declared.OutputOutcome.{OutputOutcome}
 use Rattle.allocations.specs.declared.FreeOutcome.{FreeOutcome}
 use Rattle.allocations.specs.Outcomes.{SeenState, seenAddress, seenRun, SeenBoth, seenSlot, seenOutput, seenFree}
 use Rattle.soundness.specs.Canonical.{Good}
+use Rattle.allocator.specs.Replies.{Value, replySays, seenReply}
 
 -- An entry was handed the state s and left r: the refusal where s isn't sound, else what `Gives` says.
 pub data Checked {R : Type 0} (s : Scopes) (refusal : R) (Gives : R → Type 0) (r : R) : Type 0 where
@@ -36,12 +37,12 @@ pub data Checked {R : Type 0} (s : Scopes) (refusal : R) (Gives : R → Type 0) 
 abbrev pub unsound : Scopes → Outcome
 unsound s = record { state = s; reply = reply.Refused 29 }
 
-abbrev pub Call : Scopes → Seen → Outcome → Type 0
-Call s x r = Checked s (unsound s) (λ o. (seen o ≡ x) × Sound (o .state)) r
+abbrev pub Call : Scopes → SeenState Value → Outcome → Type 0
+Call s x r = Checked s (unsound s) (λ o. (seenReply o ≡ x) × Sound (o .state)) r
 
 -- a question
-abbrev pub Asked : Scopes → Reply → Reply → Type 0
-Asked s x r = Checked s (reply.Refused 29) (λ o. o ≡ x) r
+abbrev pub Asked : Scopes → Answer Value → Reply → Type 0
+Asked s x r = Checked s (reply.Refused 29) (λ o. replySays o ≡ x) r
 
 abbrev pub unsoundAddress : Scopes → AddressOutcome
 unsoundAddress s = record { state = s; answer = address.Refused 29 }

@@ -3,7 +3,8 @@ ghost use mathlib.Core.Path.{_≡_};
 ghost use Rattle.rules.specs.Notation.{refuse_unless_};
 ghost use Rattle.rules.specs.Sizes.{base};
 ghost use Rattle.rules.specs.Scopes as rule;
-ghost use Rattle.scopes.specs.View.{view, idOf, opened, bound, told, toldOnly, replied};
+ghost use Rattle.scopes.specs.View.{view, idOf};
+ghost use Rattle.allocator.specs.Replies.{scope, boundTo, toldValue, toldDone, valued};
 ghost use Rattle.allocator.specs.Entries.{Call, Asked, unsound};
 use scopes::HandleNumber;
 use scopes::Outcome;
@@ -26,7 +27,7 @@ fn turned_away(s: Scopes) -> Outcome
 
 // Parent is the top; becomes top.
 pub fn child(s: Scopes) -> Outcome
-    ensures { λ r. ⌜ Call s (told opened (view s) (rule.openChild base (view s))) r ⌝ }
+    ensures { λ r. ⌜ Call s (toldValue scope (view s) (rule.openChild base (view s))) r ⌝ }
 {
     if !soundness::is_sound(s) {
         return turned_away(s); // before child's 3, 8
@@ -36,7 +37,7 @@ pub fn child(s: Scopes) -> Outcome
 
 // Marks it, top becomes its parent.
 pub fn dangle(s: Scopes, id: ScopeId) -> Outcome
-    ensures { λ r. ⌜ Call s (toldOnly (view s) (rule.dangleScope (rule.byId base (view s) (idOf id)) (view s))) r ⌝ }
+    ensures { λ r. ⌜ Call s (toldDone (view s) (rule.dangleScope (rule.byId base (view s) (idOf id)) (view s))) r ⌝ }
 {
     if !soundness::is_sound(s) {
         return turned_away(s); // before dangle's 4, 5
@@ -46,7 +47,7 @@ pub fn dangle(s: Scopes, id: ScopeId) -> Outcome
 
 // Unmarks it, top becomes the scope.
 pub fn restore(s: Scopes, id: ScopeId) -> Outcome
-    ensures { λ r. ⌜ Call s (toldOnly (view s) (rule.restoreScope (rule.byId base (view s) (idOf id)) (view s))) r ⌝ }
+    ensures { λ r. ⌜ Call s (toldDone (view s) (rule.restoreScope (rule.byId base (view s) (idOf id)) (view s))) r ⌝ }
 {
     if !soundness::is_sound(s) {
         return turned_away(s); // before restore's 4, 5
@@ -56,7 +57,7 @@ pub fn restore(s: Scopes, id: ScopeId) -> Outcome
 
 // Its slots dangle, its bindings go, top becomes its parent.
 pub fn pop(s: Scopes, id: ScopeId) -> Outcome
-    ensures { λ r. ⌜ Call s (toldOnly (view s) (rule.popScope base (rule.byId base (view s) (idOf id)) (view s))) r ⌝ }
+    ensures { λ r. ⌜ Call s (toldDone (view s) (rule.popScope base (rule.byId base (view s) (idOf id)) (view s))) r ⌝ }
 {
     if !soundness::is_sound(s) {
         return turned_away(s); // before pop's 4, 5, 6
@@ -66,7 +67,7 @@ pub fn pop(s: Scopes, id: ScopeId) -> Outcome
 
 // The same of root; then there is no top.
 pub fn pop_last(s: Scopes) -> Outcome
-    ensures { λ r. ⌜ Call s (toldOnly (view s) (rule.popLastScope base (view s))) r ⌝ }
+    ensures { λ r. ⌜ Call s (toldDone (view s) (rule.popLastScope base (view s))) r ⌝ }
 {
     if !soundness::is_sound(s) {
         return turned_away(s); // before pop last's 3, 6
@@ -76,7 +77,7 @@ pub fn pop_last(s: Scopes) -> Outcome
 
 // The id of the live scope with this number, the lower index of two.
 pub fn numbered(s: Scopes, n: u32) -> Reply
-    ensures { λ r. ⌜ Asked s (replied (λ k. opened (rule.idOf k)) (refuse 4 unless (rule.byNumber base (view s) n))) r ⌝ }
+    ensures { λ r. ⌜ Asked s (valued (λ k. scope (rule.idOf k)) (refuse 4 unless (rule.byNumber base (view s) n))) r ⌝ }
 {
     if !soundness::is_sound(s) {
         return Reply::Refused(29); // before 4
@@ -88,7 +89,7 @@ pub fn numbered(s: Scopes, n: u32) -> Reply
 
 // Binds in the top, replacing an equal name there and its moved mark.
 pub fn define(s: Scopes, name: u16, address: SlotAddress) -> Outcome
-    ensures { λ r. ⌜ Call s (toldOnly (view s) (rule.defineName base name (address .0) 0 (view s))) r ⌝ }
+    ensures { λ r. ⌜ Call s (toldDone (view s) (rule.defineName base name (address .0) 0 (view s))) r ⌝ }
 {
     if !soundness::is_sound(s) {
         return turned_away(s); // before define's 3, 9
@@ -98,7 +99,7 @@ pub fn define(s: Scopes, name: u16, address: SlotAddress) -> Outcome
 
 // The nearest binding, from the top up to root.
 pub fn get(s: Scopes, name: u16) -> Reply
-    ensures { λ r. ⌜ Asked s (replied bound (rule.getName base name (view s))) r ⌝ }
+    ensures { λ r. ⌜ Asked s (valued boundTo (rule.getName base name (view s))) r ⌝ }
 {
     if !soundness::is_sound(s) {
         return Reply::Refused(29); // before 3, 10, 11
@@ -108,7 +109,7 @@ pub fn get(s: Scopes, name: u16) -> Reply
 
 // The same, and marks it moved.
 pub fn take(s: Scopes, name: u16) -> Outcome
-    ensures { λ r. ⌜ Call s (told bound (view s) (rule.takeName base name (view s))) r ⌝ }
+    ensures { λ r. ⌜ Call s (toldValue boundTo (view s) (rule.takeName base name (view s))) r ⌝ }
 {
     if !soundness::is_sound(s) {
         return turned_away(s); // before take's 3, 10, 11

@@ -1,6 +1,10 @@
 -- `scope::get` meets its contract. Assumes nothing.
 use borrow.Author.Needs.{needs}
-use Rattle.allocator.proofs.Entered.{gives, refuses, passed}
+use Rattle.rules.specs.Sizes.{base}
+use Rattle.rules.specs.Scopes as rule
+use Rattle.scopes.specs.View.{view}
+use Rattle.allocator.proofs.Entered.{refuses, passed}
+use Rattle.allocator.proofs.Replies.{answers-binding}
 use Rattle.allocator.proofs.scope.get.Statement.{statement}
 use Rattle.allocator.proofs.scope.get.Tie as tie
 
@@ -11,4 +15,4 @@ get-spec =
     (λ c κs. search needs)
     (λ c. search refuses)
     (λ c κs. search passed)
-    (λ c. search gives))
+    (λ c. let a = c .before .before .before .args in answers-binding (c .before .before .is-sound .ensures .1) (c .before .if1 .left) (rule.getName base (a .name) (view (a .s))) (c .get .ensures)))
