@@ -66,7 +66,7 @@ LINES = 2048
 abbrev pub HANDLES : ℕ
 HANDLES = 2048
 
--- "Names and values are 16 bits.": each is below this
+-- "Names and values are 16 bits.": each is below this, for an operand has four digits (Text)
 abbrev pub WORD : ℕ
 WORD = 65536
 
@@ -74,8 +74,7 @@ WORD = 65536
 abbrev pub NEEDS : ℕ
 NEEDS = 64
 
--- "Names and values are 16 bits." has no number here: an operand has four digits (Text). "Text buffers: 32,768 bytes; a program refuses longer
--- input by 17, whatever it holds."
+-- "Text buffers: 32,768 bytes; a program refuses longer input by 17, whatever it holds."
 abbrev pub TEXT : ℕ
 TEXT = 32768
 

@@ -68,7 +68,7 @@ checked n s x = elim (soundSlots n s) [ true ↦ x | false ↦ refusing 29 s ]
 
 -- ---- the promises
 
--- what the type `[u64; 16]` says of the halves
+-- what the type `[u64; HALVES]` says of the halves
 pub record Typed (halves : List ℕ) : Type 0 where
   pub long : length halves ≡ HALVES
   pub wide : (i : ℕ) → getD halves i 0 < 2 ^ 64
