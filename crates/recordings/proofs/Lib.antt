@@ -1,4 +1,3 @@
-pub mod Four
 pub mod Turns
 pub mod WholeLines
 pub mod Limits

@@ -13,7 +13,8 @@ use Rattle.rules.specs.Text.{value}
 use Rattle.rules.specs.Recordings.{Reader, reader, fitsAt, digits, readByte, keptAt, keptBy, fed, kept, limit}
 use Rattle.rules.proofs.Readers.{Sound, facts, kept-end, kept-on, fits-in, byte-in, byte-last, sound-byte}
 use Rattle.rules.proofs.Cuts.{bad-fed, bad-kept}
-use Rattle.recordings.specs.Reading.{Digits, WholeLine, Same, Turned}
+use Rattle.text.specs.Lines.{FourDigits}
+use Rattle.recordings.specs.Reading.{WholeLine, Same, Turned}
 
 -- ---- the same
 
@@ -46,7 +47,7 @@ module _ (i : ℕ) (l : i < 4294967295) where
   digit-on : (k v c : ℕ) (s m : List ℕ) → fitsAt k c ≡ ltb (value c) 16 → eqb k 6 ≡ false → value c < 16 → Same (reader i k v) (c ∷ s) m (reader i (k + 1) (digits k v c)) s m
   digit-on k v c s m e f h = on k v c s m (e ∙ lt-ltb (value c) 16 h) f
 
-  line-on : (w a b c d v : ℕ) (s m : List ℕ) → Digits a b c d v → Same (reader i 0 w) (51 ∷ 48 ∷ a ∷ b ∷ c ∷ d ∷ 10 ∷ s) m (reader (i + 1) 0 0) s (keptAt m i v)
+  line-on : (w a b c d v : ℕ) (s m : List ℕ) → FourDigits a b c d v → Same (reader i 0 w) (51 ∷ 48 ∷ a ∷ b ∷ c ∷ d ∷ 10 ∷ s) m (reader (i + 1) 0 0) s (keptAt m i v)
   unfolding fitsAt
   line-on w a b c d v s m h =
       let u : ℕ = (((0 * 16 + value a) * 16 + value b) * 16 + value c) * 16 + value d in

@@ -4,9 +4,9 @@ use mathlib.Core.Bool.{true}
 use mathlib.Core.List.{List}
 use Prim.Native.Nat.{ℕ, _+_, _-_, _*_, _≤_, _<_}
 use lib.ListN.{length, getD, drop}
-use Rattle.rules.specs.Text.{value}
 use Rattle.rules.specs.Recordings.{Reader, reader, isReader, fed, kept}
 use Rattle.rules.specs.Entries.{PartRead}
+use Rattle.text.specs.Lines.{FourDigits}
 use Rattle.recordings.specs.declared.states.Reader as code
 
 -- the reader of the rules
@@ -20,19 +20,11 @@ pub record LeavesSamples (l : PartRead) (answer : ℕ) (samples : List ℕ) : Ty
 
 -- ---- a whole line
 
--- four digits, and the number that they make
-pub record Digits (a b c d v : ℕ) : Type 0 where
-  pub first : value a < 16
-  pub second : value b < 16
-  pub third : value c < 16
-  pub fourth : value d < 16
-  pub number : v ≡ value a * 4096 + value b * 256 + value c * 16 + value d
-
 -- `30`, four digits, LF from p on
 pub record WholeLine (part : List ℕ) (p v : ℕ) : Type 0 where
   pub three : getD part p 0 ≡ 51
   pub naught : getD part (p + 1) 0 ≡ 48
-  pub sample : Digits (getD part (p + 2) 0) (getD part (p + 3) 0) (getD part (p + 4) 0) (getD part (p + 5) 0) v
+  pub sample : FourDigits (getD part (p + 2) 0) (getD part (p + 3) 0) (getD part (p + 4) 0) (getD part (p + 5) 0) v
   pub lf : getD part (p + 6) 0 ≡ 10
 
 -- ---- some bytes of a part

@@ -1,9 +1,9 @@
 // Whole lines, one after the other.
 use crate::bytes::keep;
-use crate::lines::NONE;
 use crate::lines::sample_at;
 use crate::states::LINES;
 use crate::states::Reader;
+use text::digits::NO_NUMBER;
 ghost use mathlib.Core.Path.{_≡_};
 ghost use mathlib.Core.Bool.{true};
 ghost use mathlib.Core.List.{List};
@@ -22,7 +22,7 @@ fn keep_lines(first: u64, samples: &mut [u8], part: &[u8], from: usize) -> u64
     let mut p = from;
     while 7 <= part.len() - p {
         let v = sample_at(part, p);
-        if NONE <= v {
+        if NO_NUMBER <= v {
             return line;
         }
         keep(samples, line, v);
@@ -41,7 +41,7 @@ fn pass_lines(first: u64, part: &[u8], from: usize) -> u64
     let mut line = first;
     let mut p = from;
     while 7 <= part.len() - p {
-        if NONE <= sample_at(part, p) {
+        if NO_NUMBER <= sample_at(part, p) {
             return line;
         }
         line += 1;

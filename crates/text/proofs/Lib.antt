@@ -1,8 +1,10 @@
 pub mod Values
 pub mod Computed
+pub mod Four
 pub mod Words
 pub mod Rows
 pub mod Numbers
+pub mod AtOnce
 pub mod Told
 pub mod Splits
 pub mod Titling

@@ -16,7 +16,7 @@ use Rattle.rules.specs.Frames.{Line}
 use Rattle.rules.specs.Text.{Split, split, lineOf, frameTable, lineTable, sizeTable, Script, frames, unread, frameBefore, scriptFrom, Listed, listed, unlisted, lineBefore, sizeAt, sizeOr, listFrom}
 use Rattle.text.specs.Shapes.{pick}
 use Rattle.text.specs.Lines.{codeOf, framed, frameReading, lined, sizedOr, lineReading, decoded, takenOf, Took}
-use Rattle.text.specs.Whole.{ofScript, ofListed, sizeListing, lineThen}
+use Rattle.text.specs.Whole.{ofScript, scriptLeft, ofListed, sizeListing, lineThen}
 use Rattle.text.specs.declared.lines.Frame.{Frame}
 use Rattle.text.specs.declared.lines.Reading.{Reading}
 use Rattle.text.specs.declared.lines.Reading.the-variants.{Malformed, One}
@@ -42,14 +42,11 @@ before-frame i (some f) (frames fs) = ap Good (omega arith)
 before-frame i (some f) (unread n j) = refl
 
 module _ (room : Room) (s : List ℕ) (p i : ℕ) where
-  abbrev scriptLeft : ℕ → ℕ → CheckedScript
-  scriptLeft p i = ofScript i (scriptFrom room i (split (drop p s)))
-
-  pub script-end : length s ≤ p → scriptLeft p i ≡ Good i
+  pub script-end : length s ≤ p → scriptLeft room s p i ≡ Good i
   unfolding scriptFrom
   script-end h = rw (split-end s p h) (ap Good (omega arith))
 
-  pub script-late : p < length s → i ≡ room .lines → scriptLeft p i ≡ Refused 2 i
+  pub script-late : p < length s → i ≡ room .lines → scriptLeft room s p i ≡ Refused 2 i
   unfolding scriptFrom
   script-late h e = go (split (drop p s)) (last-line s p (omega arith) ∙ ne-eqb p (length s) (λ q. omega (arith, q)))
     where
@@ -58,14 +55,14 @@ module _ (room : Room) (s : List ℕ) (p i : ℕ) where
       go (l ∷ ls) q = rw (eq-eqb i (room .lines) e, scriptFrom)
 
   module _ (t : TakenLine) (k : Took frameReading s p t) (h : i ≡ room .lines → ⊥) where
-    script-step : scriptLeft p i ≡ frameThen i (t .reading) (scriptLeft (t .next) (i + 1))
+    script-step : scriptLeft room s p i ≡ frameThen i (t .reading) (scriptLeft room s (t .next) (i + 1))
     unfolding scriptFrom frameReading
     script-step = rw (k .here, k .as-read, ne-eqb i (room .lines) h, scriptFrom, add-one) (before-frame i (lineOf frameTable (k .line)) _)
 
-    pub script-bad : t .reading ≡ Malformed → scriptLeft p i ≡ Refused 1 i
+    pub script-bad : t .reading ≡ Malformed → scriptLeft room s p i ≡ Refused 1 i
     script-bad e = script-step ∙ rw e
 
-    pub script-on : (f : Frame) → t .reading ≡ One f → scriptLeft p i ≡ scriptLeft (t .next) (i + 1)
+    pub script-on : (f : Frame) → t .reading ≡ One f → scriptLeft room s p i ≡ scriptLeft room s (t .next) (i + 1)
     script-on f e = script-step ∙ rw e
 
 -- ---- lists

@@ -38,6 +38,22 @@ pub record NextLine (s : List ℕ) (e q : ℕ) : Type 0 where
 abbrev pub wordAt : List ℕ → ℕ → ℕ
 wordAt s p = value (getD s p 0) * 4096 + value (getD s (p + 1) 0) * 256 + value (getD s (p + 2) 0) * 16 + value (getD s (p + 3) 0)
 
+-- four bytes as one number, the first one lowest
+pub record Packed (a b c d w : ℕ) : Type 0 where
+  pub byte-1 : a < 256
+  pub byte-2 : b < 256
+  pub byte-3 : c < 256
+  pub byte-4 : d < 256
+  pub makes : w ≡ a + b * 256 + c * 65536 + d * 16777216
+
+-- four digits, and the number that they make
+pub record FourDigits (a b c d v : ℕ) : Type 0 where
+  pub first : value a < 16
+  pub second : value b < 16
+  pub third : value c < 16
+  pub fourth : value d < 16
+  pub number : v ≡ value a * 4096 + value b * 256 + value c * 16 + value d
+
 -- what digit k of ten counts for; 0 past them
 unfoldable pub weight : ℕ → ℕ
 weight zero = 0x1000000000
@@ -69,6 +85,14 @@ pub record DigitsFrom (s : List ℕ) (p : ℕ) (d : Digits) : Type 0 where
   pub stop : d .end < length s → 16 ≤ value (getD s (d .end) 0)
   pub number-is : d .number ≡ numberOf s p (d .end - p)
   pub below : d .number < 0x10000000000
+
+-- the digits up to end are an opcode's and those of two operands, 0 where there is none
+pub record Joined (end opcode a b : ℕ) (d : Digits) : Type 0 where
+  pub opcode-is : opcode < 0x10000
+  pub first-is : a < 0x10000
+  pub second-is : b < 0x10000
+  pub ends : d .end ≡ end
+  pub makes : d .number ≡ opcode * 0x100000000 + a * 0x10000 + b
 
 -- what a line of n digits that make the number comes to
 abbrev pub readingBy : Bool → ℕ → ℕ → Reading

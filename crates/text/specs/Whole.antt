@@ -2,10 +2,10 @@
 use mathlib.Core.Bool.{Bool}
 use mathlib.Core.List.{List}
 use Prim.Native.Nat.{ℕ, _+_}
-use lib.ListN.{length}
+use lib.ListN.{length, drop}
 use lib.Dec.{eqb, leb}
 use Rattle.rules.specs.Sizes.{Room}
-use Rattle.rules.specs.Text.{Script, frames, unread, title, readScript, Listed, listed, unlisted, readList}
+use Rattle.rules.specs.Text.{split, Script, frames, unread, scriptFrom, title, readScript, Listed, listed, unlisted, readList}
 use Rattle.text.specs.declared.lines.Reading.{Reading}
 use Rattle.text.specs.declared.lines.Reading.the-variants.{Malformed, One}
 use Rattle.text.specs.declared.whole.CheckedScript.{CheckedScript}
@@ -23,6 +23,10 @@ ofScript i (unread n j) = Refused n j
 abbrev pub ofListed : ℕ → Listed → Listing
 ofListed i (listed ls size) = Read size (i + length ls)
 ofListed i (unlisted n j) = Unread n j
+
+-- what the lines of s from p on come to, of which the first is line i
+abbrev pub scriptLeft : Room → List ℕ → ℕ → ℕ → CheckedScript
+scriptLeft room s p i = ofScript i (scriptFrom room i (split (drop p s)))
 
 -- a script's title, if it has one, is line 0
 unfoldable pub scriptChecked : Room → List ℕ → CheckedScript

@@ -1,12 +1,15 @@
 // A line of a script or of a list: an opcode of two digits, then operands of four. Rows of digits say which operands an opcode
 // has in each of the two.
+use crate::digits::NO_NUMBER;
+use crate::digits::four_digits;
 use crate::digits::is_other;
 use crate::digits::value_of;
+use crate::digits::word_of;
 use crate::table::unpack;
 ghost use mathlib.Core.Path.{_≡_};
-ghost use Prim.Native.Nat.{_≤_, _<_};
+ghost use Prim.Native.Nat.{_+_, _≤_, _<_};
 ghost use lib.ListN.{length};
-ghost use Rattle.text.specs.Lines.{Ends, NextLine, DigitsEnd, Tenth, DigitsFrom, decoded, takenOf, readingBy, readingOf, frameReading, lineReading, Took};
+ghost use Rattle.text.specs.Lines.{Ends, NextLine, DigitsEnd, Tenth, DigitsFrom, Joined, decoded, takenOf, readingBy, readingOf, frameReading, lineReading, Took};
 ghost use Rattle.text.specs.Shapes.{rowOf, shapeOf, fit};
 
 // A frame, or a line of a list: its opcode and its first two operands, 0 where it has fewer.
@@ -83,8 +86,50 @@ fn tenth(n: usize, p: usize) -> usize
     p + 10
 }
 
+// The digits up to end, of an opcode and two operands, if each of these is a number.
+fn together(end: usize, opcode: u64, a: u64, b: u64) -> Digits
+    ensures { λ r. ⌜ (r .number < 0x10000000000 → Joined end opcode a b r) ⌝ }
+{
+    if opcode < NO_NUMBER {
+        if a < NO_NUMBER {
+            if b < NO_NUMBER {
+                let number = opcode * 0x1_0000_0000 + a * 0x1_0000 + b;
+                return Digits { end, number };
+            }
+        }
+    }
+    Digits { end, number: NONE }
+}
+
+// The digits of a whole line with none, one or two operands, or NONE. The bytes are read four at a time, and the LF is looked for in what was
+// read, so that each word is one load.
+fn digits_at_once(s: &[u8], p: usize) -> Digits
+    requires { ⌜ p + 11 ≤ length (now s) ⌝ }
+    ensures { λ r. ⌜ (r .number < 0x10000000000 → DigitsFrom (now (s .entry)) p r) ⌝ }
+{
+    let front = word_of(s[p], s[p + 1], s[p + 2], s[p + 3]);
+    let opcode = four_digits(front % 0x1_0000 * 0x1_0000 + 0x3030);
+    if front / 0x1_0000 % 0x100 == 10 {
+        return together(p + 2, opcode, 0, 0);
+    }
+    let back = word_of(s[p + 4], s[p + 5], s[p + 6], s[p + 7]);
+    let a = four_digits(front / 0x1_0000 + back % 0x1_0000 * 0x1_0000);
+    if back / 0x1_0000 % 0x100 == 10 {
+        return together(p + 6, opcode, a, 0);
+    }
+    let last = word_of(s[p + 8], s[p + 9], s[p + 10], 0);
+    let b = four_digits(back / 0x1_0000 + last % 0x1_0000 * 0x1_0000);
+    if last / 0x1_0000 == 10 {
+        return together(p + 10, opcode, a, b);
+    }
+    Digits {
+        end: p,
+        number: NONE,
+    }
+}
+
 // The digits from p on, in one walk: a line's LF stands where they end. Past the tenth they are only passed over.
-pub fn digits_from(s: &[u8], p: usize) -> Digits
+pub fn digits_one_by_one(s: &[u8], p: usize) -> Digits
     requires { ⌜ p ≤ length (now s) ⌝ }
     ensures { λ r. ⌜ DigitsFrom (now (s .entry)) p r ⌝ }
 {
@@ -108,6 +153,20 @@ pub fn digits_from(s: &[u8], p: usize) -> Digits
         end: digits_end(s, e),
         number: number << left,
     }
+}
+
+// The digits from p on: at once, if they are a whole line's and no other text's end is near; else one by one.
+fn digits_from(s: &[u8], p: usize) -> Digits
+    requires { ⌜ p ≤ length (now s) ⌝ }
+    ensures { λ r. ⌜ DigitsFrom (now (s .entry)) p r ⌝ }
+{
+    if 11 <= s.len() - p {
+        let d = digits_at_once(s, p);
+        if d.number < NONE {
+            return d;
+        }
+    }
+    digits_one_by_one(s, p)
 }
 
 // The shape of each opcode's operands, a digit for each of 16 opcodes, the last for the first. 0: no such opcode; 1: no operand; 2: one;

@@ -1,7 +1,7 @@
 // The title of a text, and the check of a whole text before any step: the first line with 1 or 2.
 use crate::lines::NONE;
 use crate::lines::Reading;
-use crate::lines::digits_from;
+use crate::lines::digits_one_by_one;
 use crate::lines::frame_at;
 use crate::lines::list_line_at;
 use rules::LINES;
@@ -9,9 +9,9 @@ use rules::SLOTS;
 ghost use mathlib.Core.Path.{_≡_};
 ghost use Prim.Native.Nat.{_≤_};
 ghost use lib.ListN.{length};
-ghost use Rattle.rules.specs.Sizes.{base};
+ghost use Rattle.rules.specs.Sizes.{base, LINES};
 ghost use Rattle.text.specs.Titles.{Titles, titleIn};
-ghost use Rattle.text.specs.Whole.{scriptChecked, listing, sizeListing};
+ghost use Rattle.text.specs.Whole.{scriptLeft, scriptChecked, listing, sizeListing};
 ghost use Rattle.text.specs.Table.{RowsFor, Tabled};
 
 // The number of a title's digits, which are `f00002`.
@@ -33,7 +33,7 @@ pub enum Listing {
 pub fn title_lines(s: &[u8]) -> usize
     ensures { λ r. ⌜ Titles (now (s .entry)) r ⌝ }
 {
-    let d = digits_from(s, 0);
+    let d = digits_one_by_one(s, 0);
     let e = d.end;
     let number = d.number;
     if e != 6 {
@@ -51,13 +51,13 @@ pub fn title_lines(s: &[u8]) -> usize
     1
 }
 
-// Begins behind the title, which is line 0.
-pub fn check_script(s: &[u8]) -> CheckedScript
-    ensures { λ r. ⌜ r ≡ scriptChecked base (now (s .entry)) ⌝ }
+// Checks the lines of a script from a place on, of which the first is the given one.
+pub fn check_from(s: &[u8], from: usize, line: usize) -> CheckedScript
+    requires { ⌜ (from ≤ length (now s)) × (line ≤ LINES) ⌝ }
+    ensures { λ r. ⌜ r ≡ scriptLeft base (now (s .entry)) from line ⌝ }
 {
-    let first = title_lines(s);
-    let mut p = 7 * first;
-    let mut i = first;
+    let mut p = from;
+    let mut i = line;
     while p < s.len() {
         if i == LINES {
             return CheckedScript::Refused(2, i);
@@ -74,6 +74,14 @@ pub fn check_script(s: &[u8]) -> CheckedScript
         }
     }
     CheckedScript::Good(i)
+}
+
+// Begins behind the title, which is line 0.
+pub fn check_script(s: &[u8]) -> CheckedScript
+    ensures { λ r. ⌜ r ≡ scriptChecked base (now (s .entry)) ⌝ }
+{
+    let first = title_lines(s);
+    check_from(s, 7 * first, first)
 }
 
 // The size line, which is line i.

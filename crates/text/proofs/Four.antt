@@ -6,10 +6,10 @@ use native.Mathlib.Omega.{arith}
 use lib.Bits.{bitAnd, and-block, and-mask, and-le-r}
 use Rattle.rules.specs.Notation.{allBelow}
 use Rattle.rules.specs.Text.{value}
+use Rattle.text.specs.Lines.{Packed, FourDigits}
 use Rattle.text.proofs.Computed.{same-at}
-use Rattle.recordings.specs.Reading.{Digits}
 
-abbrev pub packed : ℕ → ℕ → ℕ → ℕ → ℕ
+abbrev packed : ℕ → ℕ → ℕ → ℕ → ℕ
 packed a b c d = a + b * 256 + c * 65536 + d * 16777216
 
 -- ---- one byte: the digit of a value
@@ -146,7 +146,7 @@ module _ (n m k l : ℕ) (hn : n < 16) (hm : m < 16) (hk : k < 16) (hl : l < 16)
       (sym (byte-4 (written n) (written m) (written k) (written l) (written-in n hn) (written-in m hm) (written-in k hk) (written-in l hl))
       ∙ ap (λ (x : ℕ). x / 16777216) again ∙ byte-4 a b c d ha hb hc hd)
 
-  four-digits : Digits a b c d (numberOf (packed n m k l))
+  four-digits : FourDigits a b c d (numberOf (packed n m k l))
   four-digits = record {
     first = subst (λ (x : ℕ). x < 16) (sym first-is) hn;
     second = subst (λ (x : ℕ). x < 16) (sym second-is) hm;
@@ -155,12 +155,12 @@ module _ (n m k l : ℕ) (hn : n < 16) (hm : m < 16) (hk : k < 16) (hl : l < 16)
     number = number-is n m k l hn hm hk hl ∙ sum-same n m k l _ _ _ _ first-is second-is third-is fourth-is;
   }
 
--- whatever is masked, its digits are the bytes or they are not
-pub digits-of : (y a b c d : ℕ) → a < 256 → b < 256 → c < 256 → d < 256 → bytesOf (bitAnd y 0x0f0f0f0f) ≡ packed a b c d → Digits a b c d (numberOf (bitAnd y 0x0f0f0f0f))
-digits-of y a b c d ha hb hc hd e =
-    subst (λ (m : ℕ). Digits a b c d (numberOf m)) (sym (and-15 y))
+-- whatever is masked, its digits are the bytes of a word or they are not
+pub digits-of : (y w a b c d : ℕ) → Packed a b c d w → bytesOf (bitAnd y 0x0f0f0f0f) ≡ w → FourDigits a b c d (numberOf (bitAnd y 0x0f0f0f0f))
+digits-of y w a b c d p e =
+    subst (λ (m : ℕ). FourDigits a b c d (numberOf m)) (sym (and-15 y))
     (four-digits (y % 256 % 16) (y / 256 % 256 % 16) (y / 65536 % 256 % 16) (y / 16777216 % 16) (omega arith) (omega arith) (omega arith) (omega arith)
-    a b c d ha hb hc hd (ap bytesOf (sym (and-15 y)) ∙ e))
+    a b c d (p .byte-1) (p .byte-2) (p .byte-3) (p .byte-4) (ap bytesOf (sym (and-15 y)) ∙ e ∙ p .makes))
 
 pub values-in : (y : ℕ) → bitAnd y 0x0f0f0f0f ≤ 0x0f0f0f0f
 values-in y = and-le-r y 0x0f0f0f0f
