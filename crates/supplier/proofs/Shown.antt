@@ -14,7 +14,7 @@ use Rattle.rules.specs.Notation.{given, refused}
 use Rattle.rules.specs.Sizes.{Room, base}
 use Rattle.rules.specs.Slots.{Place, exactlyAt, placing}
 use Rattle.rules.specs.Frames.{State, start, Frame, Line, step, Step, refusedAt, before, onward}
-use Rattle.rules.specs.Text.{Split, split, lineOf, lineTable, sizeTable, operandsOf, opcodeOf, Titled, titled, title, readScript, Listed, listed, unlisted, lineBefore, sizeAt, sizeOr, listFrom, underTitle, readList}
+use Rattle.rules.specs.Text.{Split, split, lineOf, lineTable, sizeTable, operandsOf, opcodeOf, Titled, titled, title, Script, frames, readScript, Listed, listed, unlisted, lineBefore, sizeAt, sizeOr, listFrom, underTitle, readList}
 use Rattle.rules.specs.Suppliers.{shownFirst, asShown, shownSteps}
 use Rattle.rules.proofs.ReadExact.{not-listed}
 use Rattle.rules.proofs.OneLine.{one-line}
@@ -26,10 +26,10 @@ use Rattle.text.specs.Titles.{placeBy, Titles}
 use Rattle.text.specs.declared.lines.Frame as code
 use Rattle.text.specs.declared.lines.Reading.{Reading}
 use Rattle.text.specs.declared.lines.Reading.the-variants.{Malformed, One}
-use Rattle.translate.specs.Whole.{guideAt, stepsAt, framesOf, walked}
+use Rattle.translate.specs.Whole.{guideAt, stepsAt, walkFrom, walked}
 use Rattle.translate.specs.declared.whole.Guide.the-variants.{Shown}
 use Rattle.translate.proofs.Titled.{titles-length}
-use Rattle.supplier.specs.Judged.{TheList, overLines}
+use Rattle.supplier.specs.Judged.{Read, framesOf, TheList, overLines}
 
 -- ---- the lines of a list that is read, as readings
 
@@ -152,11 +152,12 @@ module _ (list shown : List ℕ) (lines size : ℕ) (t : TheList list shown line
           ap (λ (n : ℕ). drop n (t .all)) (sym (add-one i)) ∙ sym (drop-drop 1 i (t .all)) ∙ ap (λ (n : ℕ). drop n (drop i (t .all))) (sym one) in
           ap (before (r .0)) (ih (r .1) ∙ ap (shownSteps base (suc i) (r .1) fs) next)
 
-  pub walked-shown : (script : List ℕ) (n : ℕ) → Titles script n → walked by n script ≡ overLines script (t .all)
+  pub walked-shown : (script : List ℕ) (n : ℕ) → Titles script n → Read script → walked by n script ≡ overLines script (t .all)
   unfolding walked overLines readScript
-  walked-shown script n k =
+  walked-shown script n k read =
       let q : placeBy n ≡ readScript base script .place = sym (ap (λ (x : Titled). x .place) (k .is)) in
       let fs : List Frame = framesOf (readScript base script .script) in
       let m : n ≡ length (title (readScript base script .place)) = sym (titles-length n (k .most)) ∙ ap (λ (p : Place). length (title p)) q in
-      ap (before (title (placeBy n))) (steps-shown fs n start)
+      ap (λ (r : Script). before (title (placeBy n)) (walkFrom by n start r)) (read .reads ∙ ap frames (sym (ap framesOf (read .reads))))
+      ∙ ap (before (title (placeBy n))) (steps-shown fs n start)
       ∙ (λ u. before (title (q u)) (shownSteps base (m u) start fs (drop (m u) (t .all))))

@@ -28,11 +28,11 @@ use Rattle.text.specs.Whole.{ofScript, scriptChecked, ofListed, listing}
 use Rattle.text.specs.declared.whole.CheckedScript.the-variants as checked
 use Rattle.text.specs.declared.whole.Listing.{Listing}
 use Rattle.text.specs.declared.whole.Listing.the-variants as lists
-use Rattle.translate.specs.Whole.{framesOf, guideAt, walked, Read, Ends, listed as stands, refused as stopped}
+use Rattle.translate.specs.Whole.{guideAt, walked, Ends, listed as stands, refused as stopped}
 use Rattle.translate.specs.declared.whole.Ended.{Ended}
 use Rattle.translate.specs.declared.whole.Ended.the-variants as ended
 use Rattle.translate.specs.declared.whole.Guide.the-variants.{Shown}
-use Rattle.supplier.specs.Judged.{TheList, overLines, SaysShown, SaysBoth}
+use Rattle.supplier.specs.Judged.{Read, framesOf, TheList, overLines, SaysShown, SaysBoth}
 use Rattle.supplier.proofs.Shown.{walked-shown}
 use Rattle.supplier.proofs.Texts.{seven, same-length, same-bytes, same-lines}
 
@@ -53,7 +53,7 @@ module _ (script list shown page : List ℕ) (count size : ℕ) (read : Read scr
     (h : (n : ℕ) × Titles script n × Ends (walked (guideAt (Shown count) shown) n script) r page) where
   -- what the steps came to, for the lines of the list
   came-over : (l : TheList list shown count size) → Came (overLines script (l .all)) page r
-  came-over l = came (subst (λ (o : Outcome). Ends o r page) (walked-shown list shown count size l script (h .0) (h .1)) (h .2))
+  came-over l = came (subst (λ (o : Outcome). Ends o r page) (walked-shown list shown count size l script (h .0) (h .1) read) (h .2))
 
   abbrev Says : Bool → Type 0
   Says b = SaysShown script list shown count size b
@@ -208,6 +208,14 @@ module _ (script list : List ℕ) (read : Read script) where
       told : (x : Bool) → verdictAnswer (says x) ≡ elim x [ true ↦ 1 | false ↦ 0 ]
       told true = refl
       told false = refl
+
+pub script-read : (script : List ℕ) (n : ℕ) → scriptChecked base script ≡ checked.Good n → Read script
+unfolding scriptChecked
+script-read script n e = go (readScript base script .script) refl e
+  where
+    go : (r : Script) → readScript base script .script ≡ r → ofScript (length (title (readScript base script .place))) r ≡ checked.Good n → Read script
+    go (frames fs) q e = record { all = fs; reads = q }
+    go (unread m i) q e = absurd (let w : _≡_ {A = ℕ} 0 1 = cc in omega arith)
 
 pub script-unread : (script list : List ℕ) (n i r : ℕ) → checked.Refused n i ≡ scriptChecked base script → r ≡ refusalAnswer n i → r ≡ verdictAnswer (verdict base script list)
 unfolding scriptChecked verdict judged

@@ -1,16 +1,24 @@
 -- A script and a list that are read, and what the steps say of them. Assumes nothing.
 use mathlib.Core.Path.{_≡_}
 use mathlib.Core.Bool.{Bool, _&&_}
-use mathlib.Core.List.{List}
+use mathlib.Core.List.{List, []}
 use Prim.Native.Nat.{ℕ, _≤_}
 use lib.ListN.{length, drop}
 use Rattle.rules.specs.Sizes.{base}
-use Rattle.rules.specs.Frames.{Line, start, Outcome, before}
-use Rattle.rules.specs.Text.{title, readScript, listed, readList}
+use Rattle.rules.specs.Frames.{Frame, Line, start, Outcome, before}
+use Rattle.rules.specs.Text.{Script, frames, unread, title, readScript, listed, readList}
 use Rattle.rules.specs.Entries.{translated}
 use Rattle.rules.specs.Suppliers.{shownSteps, isAccepted, agreesWith}
 use Rattle.text.specs.Table.{Rows}
-use Rattle.translate.specs.Whole.{framesOf}
+
+-- the script's lines are read: behind the title they are these frames
+pub record Read (script : List ℕ) : Type 0 where
+  pub all : List Frame
+  pub reads : readScript base script .script ≡ frames all
+
+abbrev pub framesOf : Script → List Frame
+framesOf (frames fs) = fs
+framesOf (unread n i) = []
 
 -- the list's lines and its size, and a table that has so many lines of it
 pub record TheList (list shown : List ℕ) (lines size : ℕ) : Type 0 where

@@ -16,8 +16,7 @@ ghost use lib.ListN.{length, take};
 ghost use Rattle.rules.specs.Sizes.{base};
 ghost use Rattle.rules.specs.Suppliers.{verdict, verdictAnswer};
 ghost use Rattle.rules.specs.Tells.{Tells};
-ghost use Rattle.translate.specs.Whole.{Read};
-ghost use Rattle.supplier.specs.Judged.{TheList, SaysShown, SaysBoth};
+ghost use Rattle.supplier.specs.Judged.{Read, TheList, SaysShown, SaysBoth};
 
 // The size line has so many bytes.
 const SIZE_LINE: usize = 7;

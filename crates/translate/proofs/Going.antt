@@ -1,22 +1,22 @@
 -- The loop over the frames: with i of them done, what was written and what remains give the whole. Assumes nothing.
 use mathlib.Core.Path.{_≡_, refl, sym, ap, subst, _∙_, fun-ext}
-use mathlib.Core.Bool.{Bool, true, false}
+use mathlib.Core.Bool.{Bool, false}
 use mathlib.Core.Option.{Option, none, some}
 use mathlib.Core.List.{List, [], _∷_, _++_, append-assoc}
-use Prim.Native.Nat.{ℕ, zero, suc, _+_, _*_, _≤_, _<_}
+use Prim.Native.Nat.{ℕ, zero, suc, _+_, _*_, _-_, _≤_, _<_}
 use native.Mathlib.Omega.{arith}
 use native.Mathlib.Numerals.{add-one}
-use lib.Dec.{eqb}
+use borrow.Author.Tests.{ne-eqb}
 use lib.ListN.{length, getD, take, drop, replicate, length-append, length-replicate}
 use lib.Seq.{take-at}
 use Rattle.rules.specs.Notation.{given, refused}
-use Rattle.rules.specs.Sizes.{Room, base, NEEDS, SLOTS, PAGE, HANDLES, LINES}
+use Rattle.rules.specs.Sizes.{base, NEEDS, SLOTS, PAGE, HANDLES, LINES}
 use Rattle.rules.specs.Slots.{Placement, Place, placing, freshSlots}
 use Rattle.rules.specs.Scopes as rule
 use Rattle.rules.specs.Frames.{State, start, Frame, Line, shows, step, Step, Outcome, accepted, refusedAt, before, onward, steps}
 use Rattle.rules.specs.Demand3.{Fair}
 use Rattle.rules.specs.Sound.{sumBelow}
-use Rattle.rules.specs.Text.{Split, split, Titled, title, readScript, lineOf, frameTable, Script, frames, unread, frameBefore, scriptFrom, lineText, listText}
+use Rattle.rules.specs.Text.{Split, split, Titled, title, readScript, rowed, lineOf, frameTable, Script, frames, unread, frameBefore, scriptFrom, lineText, listText}
 use Rattle.rules.specs.Entries.{outcome, translated}
 use Rattle.rules.proofs.Sound.{SlotsSound, StateSound}
 use Rattle.rules.proofs.KeepsSteps.{keeps-step}
@@ -30,14 +30,18 @@ use Rattle.scopes.specs.View.{view}
 use Rattle.scopes.specs.Lent.{numbersOf, made, Whole}
 use Rattle.scopes.specs.declared.Numbers.{Numbers}
 use Rattle.scopes.specs.declared.Scopes.{Scopes}
+use Rattle.text.specs.Shapes.{shapeOf}
 use Rattle.text.specs.Lines.{codeOf, frameOf, framed, frameReading, Took}
 use Rattle.text.specs.Titles.{placeBy, Titles}
+use Rattle.text.specs.Whole.{ofScript, scriptLeft}
 use Rattle.text.specs.Writing.{over}
 use Rattle.text.specs.declared.lines.Frame as code
 use Rattle.text.specs.declared.lines.Reading.{Reading}
 use Rattle.text.specs.declared.lines.Reading.the-variants as reading
 use Rattle.text.specs.declared.lines.TakenLine.{TakenLine}
+use Rattle.text.specs.declared.whole.CheckedScript.the-variants as checked
 use Rattle.text.proofs.Splits.{split-end}
+use Rattle.text.proofs.Texts.{script-late, script-bad}
 use Rattle.text.proofs.Rows.{frame-code}
 use Rattle.text.proofs.Bounds.{ScriptIn, script-in}
 use Rattle.text.proofs.Over.{next}
@@ -46,7 +50,7 @@ use Rattle.handles.specs.NeedTable.{rememberedAt, Needing, table, stateWith}
 use Rattle.frames.specs.Steps.{stepped, Few, Reached}
 use Rattle.frames.specs.Needing.{StandsWith, WorksWith}
 use Rattle.frames.proofs.Beside.{stands-sound, sound-stands}
-use Rattle.translate.specs.Whole.{frameIn, linesOf, linesText, onwardOf, stepsAt, framesOf, Read, Begun, walked, Ends, listed, refused as told}
+use Rattle.translate.specs.Whole.{frameIn, linesOf, linesText, onwardOf, stepsAt, walkFrom, stoppedAt, Begun, walked, Ends, listed, refused as told}
 use Rattle.frames.specs.declared.steps.Adds.{Adds}
 use Rattle.frames.specs.declared.steps.Adds.the-variants.{Nothing, Slot, NoSlot, Number, Store, Load, Drained, Refused}
 use Rattle.translate.specs.declared.whole.Onward.the-variants.{Go, Stop}
@@ -88,26 +92,40 @@ before-before ls ms (refusedAt n i) = refl
 
 -- ---- the frame of a line
 
-record Taking (room : Room) (i : ℕ) (x : Reading) (ls : List Split) (left : List Frame) : Type 0 where
+record Taking (i : ℕ) (f : code.Frame) (ls more : List Split) : Type 0 where
   frame : Frame
-  more : List Frame
-  is : left ≡ frame ∷ more
-  as-read : x ≡ reading.One (codeOf frame)
-  on : scriptFrom room (suc i) ls ≡ frames more
+  is : f ≡ codeOf frame
+  on : scriptFrom base i ls ≡ frameBefore i (some frame) (scriptFrom base (suc i) more)
 
-not-read : {P : Type 0} {n j : ℕ} {fs : List Frame} → unread n j ≡ frames fs → P
-not-read e = absurd (let z : _≡_ {A = ℕ} 0 1 = cc in omega arith)
-
-taking : (room : Room) (i : ℕ) (l : Split) (ls : List Split) (left : List Frame) → scriptFrom room i (l ∷ ls) ≡ frames left → Taking room i (frameReading l) ls left
-unfolding scriptFrom frameReading
-taking room i l ls left e = go (eqb i (room .lines)) (lineOf frameTable l) (scriptFrom room (suc i) ls) refl refl e
+taking : (i : ℕ) (l : Split) (ls : List Split) (f : code.Frame) → (i ≡ LINES → ⊥) → frameReading l ≡ reading.One f → Taking i f (l ∷ ls) ls
+unfolding scriptFrom frameReading base
+taking i l ls f early e = go (lineOf frameTable l) refl e
   where
-    go : (b : Bool) (o : Option Frame) (r : Script) → lineOf frameTable l ≡ o → scriptFrom room (suc i) ls ≡ r
-        → _≡_ {A = Script} (elim b [ true ↦ unread 2 i | false ↦ frameBefore i o r ]) (frames left) → Taking room i (framed (lineOf frameTable l)) ls left
-    go true o r p q e = not-read e
-    go false none r p q e = not-read e
-    go false (some f) (unread n j) p q e = not-read e
-    go false (some f) (frames gs) p q e = record { frame = f; more = gs; is = cc; as-read = ap framed p; on = q }
+    go : (o : Option Frame) → lineOf frameTable l ≡ o → framed o ≡ reading.One f → Taking i f (l ∷ ls) ls
+    go none q e = absurd (let z : _≡_ {A = ℕ} 0 1 = cc in omega arith)
+    go (some g) q e = let c : codeOf g ≡ f = cc in record { frame = g; is = sym c; on = rw (ne-eqb i LINES early, q, scriptFrom) }
+
+-- no frame has opcode 0
+zero-none : (f : code.Frame) → f .opcode ≡ 0 → frameOf f ≡ none
+unfolding frameOf rowed frameTable
+zero-none f e = ap (λ (o : ℕ). rowed frameTable (record { opcode = o; operands = take (shapeOf false o - 1) (f .a ∷ f .b ∷ []) })) e
+
+malformed : (l : Split) → frameIn (frameReading l) .opcode ≡ 0 → frameReading l ≡ reading.Malformed
+unfolding frameReading
+malformed l e = go (lineOf frameTable l) e
+  where
+    go : (o : Option Frame) → frameIn (framed o) .opcode ≡ 0 → framed o ≡ reading.Malformed
+    go none e = refl
+    go (some g) e = absurd (let q : none ≡ some g = sym (zero-none (codeOf g) e) ∙ frame-code g in let z : _≡_ {A = ℕ} 0 1 = cc in omega arith)
+
+one-of : (x : Reading) → (frameIn x .opcode ≡ 0 → ⊥) → x ≡ reading.One (frameIn x)
+one-of reading.Malformed n = absurd (n refl)
+one-of (reading.One f) n = refl
+
+-- what the lines behind a refused step come to
+unread-of : (i n j : ℕ) (r : Script) → ofScript i r ≡ checked.Refused n j → r ≡ unread n j
+unread-of i n j (frames fs) e = absurd (let z : _≡_ {A = ℕ} 0 1 = cc in omega arith)
+unread-of i n j (unread m k) e = let a : m ≡ n = cc in let b : k ≡ j = cc in λ u. unread (a u) (b u)
 
 -- ---- the loop
 
@@ -122,16 +140,21 @@ pub record Going (pl : ℕ → Place) (o : Outcome) (script page₀ : List ℕ) 
   pub within : p ≤ length script
   pub stands : StandsWith s handles holders handed nd
   pub small : Small i (stateWith (view s) handles holders handed nd)
-  pub left : List Frame
-  pub reads : scriptFrom base i (split (drop p script)) ≡ frames left
-  pub early : i + length left ≤ LINES
+  pub early : i ≤ LINES
   pub done : List Line
-  pub comes : o ≡ before done (stepsAt pl i (stateWith (view s) handles holders handed nd) left)
+  pub comes : o ≡ before done (walkFrom pl i (stateWith (view s) handles holders handed nd) (scriptFrom base i (split (drop p script))))
   pub at : w ≡ length (linesText done)
   pub written : page ≡ over page₀ 0 (linesText done)
   pub owed : w + 4 * owing base (view s) ≤ 11 * i + 4 * handed
   pub drained-length : length drained ≡ SLOTS
   pub page-length : length page ≡ length page₀
+
+-- the numbers are handed on one by one
+pub going-same : (pl : ℕ → Place) (o : Outcome) (script page₀ halves links owner : List ℕ) (live dangled : List Bool) (parent number bindings : List ℕ) (n m : Numbers) (handles holders drained : List ℕ) (handed : ℕ) (nd : Needing) (p i w : ℕ) (page : List ℕ) → n ≡ m
+    → Going pl o script page₀ (made halves links owner live dangled parent number bindings m) handles holders drained handed nd p i w page
+    → Going pl o script page₀ (made halves links owner live dangled parent number bindings n) handles holders drained handed nd p i w page
+going-same pl o script page₀ halves links owner live dangled parent number bindings n m handles holders drained handed nd p i w page e g =
+    subst (λ (x : Numbers). Going pl o script page₀ (made halves links owner live dangled parent number bindings x) handles holders drained handed nd p i w page) (sym e) g
 
 -- ---- before the first frame
 
@@ -163,17 +186,6 @@ read-from script n t =
     ap (λ (x : Titled). scriptFrom base (length (title (x .place))) (x .rest)) (t .is)
     ∙ ap (λ (i : ℕ). scriptFrom base i (split (drop (7 * n) script))) (titles-length n (t .most))
 
-framed-read : (script : List ℕ) (fs : List Frame) → readScript base script .script ≡ frames fs → framesOf (readScript base script .script) ≡ fs
-framed-read script fs e = ap framesOf e
-
-few-frames : (n : ℕ) (fs : List Frame) (r : Script) → ScriptIn base n r → r ≡ frames fs → n + length fs ≤ LINES
-unfolding base
-few-frames n fs r h e = subst (ScriptIn base n) e h
-
-in-room : (n : ℕ) → n ≤ 1 → n ≤ base .lines
-unfolding base
-in-room n l = omega (arith, l)
-
 -- the title's line is shorter than a frame's may be
 title-bytes : (n : ℕ) → n ≤ 1 → length (linesText (title (placeBy n))) ≤ 7 * n
 unfolding linesText linesLength
@@ -185,24 +197,21 @@ module _ (pl : ℕ → Place) (script page : List ℕ) (n w : ℕ) (b : Begun sc
   abbrev whole : Outcome
   whole = walked pl n script
 
-  going-start : (s : Scopes) → Read script → view s ≡ rule.freshScopes → Whole s → Going pl whole script page s (replicate HANDLES 0) (replicate SLOTS 0) (replicate SLOTS 0) 0 none-yet (7 * n) n w page
+  going-start : (s : Scopes) → view s ≡ rule.freshScopes → Whole s → Going pl whole script page s (replicate HANDLES 0) (replicate SLOTS 0) (replicate SLOTS 0) 0 none-yet (7 * n) n w page
   unfolding walked
-  going-start s r v h =
+  going-start s v h =
       let e = starts (view s) HANDLES SLOTS v in
       let o : owing base (view s) ≡ 0 = ap (λ (t : State). owing base (t .scopes)) e ∙ owes-none in
       let k : s .counter ≡ start .scopes .counter = ap (λ (t : State). t .scopes .counter) e in
       let t = b .titles in
-      let f : scriptFrom base n (split (drop (7 * n) script)) ≡ frames (r .all) = sym (read-from script n t) ∙ r .reads in
       record {
         within = t .within;
         stands = sound-stands s (replicate HANDLES 0) (replicate SLOTS 0) 0 none-yet (subst (StateSound base) (sym e) (start-sound base (base-wide .segments) (base-wide .scopes))) h
             (omega (arith, k, small-start 0 .count)) (length-replicate {A = ℕ} HANDLES 0) (length-replicate {A = ℕ} SLOTS 0) (length-replicate {A = ℕ} NEEDS 0) (length-replicate {A = ℕ} NEEDS 0);
         small = subst (Small n) (sym e) (small-start n);
-        left = r .all;
-        reads = f;
-        early = few-frames n (r .all) (scriptFrom base n (split (drop (7 * n) script))) (script-in base (split (drop (7 * n) script)) n (in-room n (t .most))) f;
+        early = omega (arith, t .most);
         done = title (placeBy n);
-        comes = ap (λ (x : List Frame). before (title (placeBy n)) (stepsAt pl n start x)) (framed-read script (r .all) (r .reads)) ∙ ap (λ (x : State). before (title (placeBy n)) (stepsAt pl n x (r .all))) (sym e);
+        comes = λ u. before (title (placeBy n)) (walkFrom pl n (sym e u) (read-from script n t u));
         at = b .at;
         written = b .written;
         owed = omega (arith, o, b .at, title-bytes n (t .most));
@@ -211,11 +220,11 @@ module _ (pl : ℕ → Place) (script page : List ℕ) (n w : ℕ) (b : Begun sc
       }
 
   -- the same state, made of its parts
-  pub going-fresh : (s : Scopes) → Read script → view s ≡ rule.freshScopes → Whole s → (m : Numbers) → m ≡ numbersOf s
+  pub going-fresh : (s : Scopes) → view s ≡ rule.freshScopes → Whole s → (m : Numbers) → m ≡ numbersOf s
       → Going pl whole script page (made (s .halves) (s .links) (s .owner) (s .live) (s .dangled) (s .parent) (s .number) (s .bindings) m) (replicate HANDLES 0) (replicate SLOTS 0) (replicate SLOTS 0) 0 none-yet (7 * n) n w page
-  going-fresh s r v h m e =
+  going-fresh s v h m e =
       subst (λ (x : Numbers). Going pl whole script page (made (s .halves) (s .links) (s .owner) (s .live) (s .dangled) (s .parent) (s .number) (s .bindings) x) (replicate HANDLES 0) (replicate SLOTS 0) (replicate SLOTS 0) 0 none-yet (7 * n) n w page)
-      (sym e) (going-start s r v h)
+      (sym e) (going-start s v h)
 
 -- ---- frame by frame
 
@@ -227,6 +236,21 @@ module _ (pl : ℕ → Place) (i : ℕ) (s : State) where
   none-at : stepsAt pl i s [] ≡ accepted [] (s .scopes .size)
   unfolding stepsAt
   none-at = refl
+
+  -- the step of the frame is taken: the lines behind it go on from where it leads
+  walk-on : (f : Frame) (r : Script) (ls : List Line) (t : State) → step base (by (pl i)) s f ≡ given (ls, t) → walkFrom pl i s (frameBefore i (some f) r) ≡ before ls (walkFrom pl (suc i) t r)
+  unfolding onward
+  walk-on f (frames fs) ls t e = next-at f fs ∙ ap (λ (x : Step). onward i x (λ t. stepsAt pl (suc i) t fs)) e
+  walk-on f (unread n j) ls t e = refl
+
+  -- it is refused: a line behind it that can't be read decides
+  walk-stop : (f : Frame) (r : Script) (n : ℕ) (page : List ℕ) (done : List Line) → i ≤ LINES → ScriptIn base (suc i) r → step base (by (pl i)) s f ≡ refused n
+      → Ends (before done (walkFrom pl i s (frameBefore i (some f) r))) (stoppedAt n i (ofScript (suc i) r)) page
+  unfolding onward base
+  walk-stop f (frames fs) n page done h l e =
+      let q : walkFrom pl i s (frames (f ∷ fs)) ≡ refusedAt n i = next-at f fs ∙ ap (λ (x : Step). onward i x (λ t. stepsAt pl (suc i) t fs)) e in
+      subst (λ (x : Outcome). Ends (before done x) (ended.Refused n i) page) (sym q) (told h)
+  walk-stop f (unread m j) n page done h l e = told (l .2)
 
 -- by one place everywhere it is as the rules' `steps`
 pub steps-everywhere : (p : Place) (fs : List Frame) (i : ℕ) (s : State) → stepsAt (λ _. p) i s fs ≡ steps base (by p) i s fs
@@ -244,14 +268,38 @@ module _ (pl : ℕ → Place) (o : Outcome) (script page₀ : List ℕ) (s : Sco
   here-sound : StateSound base here
   here-sound = stands-sound s handles holders handed nd (g .stands)
 
-  module _ (t : TakenLine) (k : Took frameReading script p t) (f : code.Frame) (ef : f ≡ frameIn (t .reading))
+  -- ---- a line that can't be read
+
+  unread-here : (n j : ℕ) → scriptLeft base script p i ≡ checked.Refused n j → j ≤ LINES → Ends o (ended.Refused n j) page
+  unread-here n j e l =
+      let q : o ≡ refusedAt n j = g .comes ∙ ap (λ (r : Script). before (g .done) (walkFrom pl i here r)) (unread-of i n j (scriptFrom base i (split (drop p script))) e) in
+      subst (λ (x : Outcome). Ends x (ended.Refused n j) page) (sym q) (told l)
+
+  pub going-late : p < length script → i ≡ LINES → Ends o (ended.Refused 2 i) page
+  unfolding base
+  going-late h e = unread-here 2 i (script-late base script p i h e) (g .early)
+
+  pub going-bad : (t : TakenLine) → Took frameReading script p t → (i ≡ LINES → ⊥) → (f : code.Frame) → f ≡ frameIn (t .reading) → f .opcode ≡ 0 → Ends o (ended.Refused 1 i) page
+  unfolding base
+  going-bad t k ne f ef e =
+      let z : frameIn (frameReading (k .line)) .opcode ≡ 0 = sym (ap (λ (x : Reading). frameIn x .opcode) (k .as-read)) ∙ sym (ap (λ (x : code.Frame). x .opcode) ef) ∙ e in
+      unread-here 1 i (script-bad base script p i t k ne (k .as-read ∙ malformed (k .line) z)) (g .early)
+
+  -- ---- a frame
+
+  module _ (t : TakenLine) (k : Took frameReading script p t) (ne : i ≡ LINES → ⊥) (f : code.Frame) (ef : f ≡ frameIn (t .reading)) (some-frame : f .opcode ≡ 0 → ⊥)
       (r : Reached) (handles′ holders′ drained′ : List ℕ) (nd′ : Needing)
       (at : Place) (same : at ≡ pl i) (works : (x : Frame) → frameOf f ≡ some x → WorksWith (by at) x (f .opcode) s handles holders handed nd r handles′ holders′ nd′ drained′) where
-    taken : Taking base i (frameReading (k .line)) (split (drop (t .next) script)) (g .left)
-    taken = taking base i (k .line) (split (drop (t .next) script)) (g .left) (sym (ap (scriptFrom base i) (k .here)) ∙ g .reads)
+    abbrev behind : Script
+    behind = scriptFrom base (suc i) (split (drop (t .next) script))
+
+    taken : Taking i f (k .line ∷ split (drop (t .next) script)) (split (drop (t .next) script))
+    taken =
+        taking i (k .line) (split (drop (t .next) script)) f ne
+        (sym (k .as-read) ∙ one-of (t .reading) (λ z. some-frame (ap (λ (x : code.Frame). x .opcode) ef ∙ z)) ∙ ap reading.One (sym ef))
 
     is-frame : frameOf f ≡ some (taken .frame)
-    is-frame = ap frameOf ef ∙ ap (λ (x : Reading). frameOf (frameIn x)) (k .as-read ∙ taken .as-read) ∙ frame-code (taken .frame)
+    is-frame = ap frameOf (taken .is) ∙ frame-code (taken .frame)
 
     work : WorksWith (by (pl i)) (taken .frame) (f .opcode) s handles holders handed nd r handles′ holders′ nd′ drained′
     work = subst (λ (x : Place). WorksWith (by x) (taken .frame) (f .opcode) s handles holders handed nd r handles′ holders′ nd′ drained′) same (works (taken .frame) is-frame)
@@ -259,15 +307,19 @@ module _ (pl : ℕ → Place) (o : Outcome) (script page₀ : List ℕ) (s : Sco
     abbrev there : State
     there = stateWith (view (r .state)) handles′ holders′ (r .handed) nd′
 
-    comes-on : o ≡ before (g .done) (onward i (step base (by (pl i)) here (taken .frame)) (λ x. stepsAt pl (suc i) x (taken .more)))
-    comes-on = g .comes ∙ ap (before (g .done)) (ap (stepsAt pl i here) (taken .is) ∙ next-at pl i here (taken .frame) (taken .more))
+    enough : suc i ≤ LINES
+    enough = omega (arith, g .early, ne)
 
-    pub going-stop : (n : ℕ) → onwardOf (r .adds) ≡ Stop n → Ends (o) (ended.Refused n i) page
-    unfolding onward
-    going-stop n e =
+    comes-on : o ≡ before (g .done) (walkFrom pl i here (frameBefore i (some (taken .frame)) behind))
+    comes-on = g .comes ∙ ap (λ (x : Script). before (g .done) (walkFrom pl i here x)) (ap (scriptFrom base i) (k .here) ∙ taken .on)
+
+    pub going-stop : (n : ℕ) → onwardOf (r .adds) ≡ Stop n → (x : Ended) → x ≡ stoppedAt n i (scriptLeft base script (t .next) (i + 1)) → Ends o x page
+    unfolding base
+    going-stop n e x ex =
         let q : step base (by (pl i)) here (taken .frame) ≡ refused n = work .does ∙ stops-by (f .opcode) (r .adds) there drained′ n e in
-        let o : o ≡ refusedAt n i = comes-on ∙ ap (λ (x : Step). before (g .done) (onward i x (λ y. stepsAt pl (suc i) y (taken .more)))) q in
-        subst (λ (x : Outcome). Ends x (ended.Refused n i) page) (sym o) (told (omega (arith, g .early)))
+        let w = walk-stop pl i here (taken .frame) behind n page (g .done) (g .early) (script-in base (split (drop (t .next) script)) (suc i) enough) q in
+        let same : x ≡ stoppedAt n i (ofScript (suc i) behind) = ex ∙ ap (λ (j : ℕ). stoppedAt n i (scriptLeft base script (t .next) j)) (add-one i) in
+        subst (λ (y : Ended). Ends o y page) (sym same) (subst (λ (y : Outcome). Ends y (stoppedAt n i (ofScript (suc i) behind)) page) (sym comes-on) w)
 
     module _ (dl : length drained′ ≡ SLOTS) (e : onwardOf (r .adds) ≡ Go) where
       abbrev lines : List Line
@@ -281,9 +333,6 @@ module _ (pl : ℕ → Place) (o : Outcome) (script page₀ : List ℕ) (s : Sco
 
       sound : StateSound base there
       sound = keeps-step base here here-sound (base-wide .slots) (by (pl i)) (fair (pl i)) (taken .frame) .at (lines, there) gives
-
-      enough : suc i + length (taken .more) ≤ LINES
-      enough = omega (arith, g .early, ap length (taken .is))
 
       paid : w + length (linesText lines) + 4 * owing base (view (r .state)) ≤ 11 * suc i + 4 * r .handed
       paid = omega (arith, g .owed, pays base (by (pl i)) here here-sound (taken .frame) .at (lines, there) gives .covers, lines-length lines)
@@ -305,11 +354,9 @@ module _ (pl : ℕ → Place) (o : Outcome) (script page₀ : List ℕ) (s : Sco
         within = k .within;
         stands = sound-stands (r .state) handles′ holders′ (r .handed) nd′ sound (work .whole) (omega (arith, small-on .count, enough)) (work .handles-length) (work .holders-length) (work .needs-length) (work .remembers-length);
         small = small-on;
-        left = taken .more;
-        reads = taken .on;
         early = enough;
         done = g .done ++ lines;
-        comes = comes-on ∙ ap (λ (x : Step). before (g .done) (onward i x (λ y. stepsAt pl (suc i) y (taken .more)))) gives ∙ before-before (g .done) lines (stepsAt pl (suc i) there (taken .more));
+        comes = comes-on ∙ ap (before (g .done)) (walk-on pl i here (taken .frame) behind lines there gives) ∙ before-before (g .done) lines (walkFrom pl (suc i) there behind);
         at = q .0 ∙ ap (λ (m : ℕ). m + length (linesText lines)) (g .at) ∙ sym (ap length (lines-on (g .done) lines) ∙ length-append (linesText (g .done)) (linesText lines));
         written = next page₀ page page′ 0 w (linesText (g .done)) (linesText lines) (omega arith) (omega (arith, g .at)) (g .written) (q .1) ∙ ap (over page₀ 0) (sym (lines-on (g .done) lines));
         owed = omega (arith, paid, q .0);
@@ -332,12 +379,12 @@ module _ (pl : ℕ → Place) (o : Outcome) (script page₀ : List ℕ) (s : Sco
   going-last h = omega (arith, g .owed, here-sound .handles .few, g .early, g .page-length)
 
   module _ (over-all : length script ≤ p) where
-    no-more : g .left ≡ []
+    no-more : scriptFrom base i (split (drop p script)) ≡ frames []
     unfolding scriptFrom
-    no-more = let q : scriptFrom base i [] ≡ frames (g .left) = sym (ap (scriptFrom base i) (split-end script p over-all)) ∙ g .reads in cc
+    no-more = ap (scriptFrom base i) (split-end script p over-all)
 
     comes-last : o ≡ accepted (g .done ++ []) (s .size)
-    comes-last = g .comes ∙ ap (before (g .done)) (ap (stepsAt pl i here) no-more ∙ none-at pl i here)
+    comes-last = g .comes ∙ ap (before (g .done)) (ap (walkFrom pl i here) no-more ∙ none-at pl i here)
 
     pub going-end : length page₀ ≡ PAGE → (v : ℕ) (page′ : List ℕ) → v ≡ w + 7 → length page′ ≡ length page → page′ ≡ over page w (lineText (shows 0x90 (s .size ∷ [])))
         → Ends (o) (ended.Listed v (s .size)) page′
@@ -352,16 +399,20 @@ module _ (pl : ℕ → Place) (o : Outcome) (script page₀ : List ℕ) (s : Sco
 
 -- ---- by the script's edition
 
--- the frames behind the title, whose line stands before theirs: what the rules translate the script to
-pub walked-edition : (script : List ℕ) (n : ℕ) → Titles script n → Read script → walked (λ _. placeBy n) n script ≡ translated base script
-unfolding walked translated outcome readScript
-walked-edition script n t r =
-    let q : readScript base script .place ≡ placeBy n = ap (λ (x : Titled). x .place) (t .is) in
-    (λ u. before (title (placeBy n)) (steps-everywhere (placeBy n) (framed-read script (r .all) (r .reads) u) n start u))
-    ∙ sym (ap (outcome base (readScript base script .place)) (r .reads)
-    ∙ (λ u. before (title (q u)) (steps base (by (q u)) (length (title (q u))) start (r .all)))
-    ∙ ap (λ (i : ℕ). before (title (placeBy n)) (steps base (by (placeBy n)) i start (r .all))) (titles-length n (t .most)))
+by-title : (n : ℕ) → n ≤ 1 → (r : Script) → before (title (placeBy n)) (walkFrom (λ _. placeBy n) n start r) ≡ outcome base (placeBy n) r
+unfolding outcome
+by-title n l (unread m j) = refl
+by-title n l (frames fs) =
+    ap (before (title (placeBy n))) (steps-everywhere (placeBy n) fs n start)
+    ∙ ap (λ (i : ℕ). before (title (placeBy n)) (steps base (by (placeBy n)) i start fs)) (sym (titles-length n l))
 
-pub by-edition : (script page : List ℕ) (n : ℕ) (p : Place) (r : Ended) → p ≡ placeBy n → Titles script n → Read script → Ends (walked (λ _. p) n script) r page → Ends (translated base script) r page
-by-edition script page n p r e t read h =
-    subst (λ (o : Outcome). Ends o r page) (ap (λ (x : Place). walked (λ _. x) n script) e ∙ walked-edition script n t read) h
+-- what stands behind the title, whose line stands before: what the rules translate the script to
+pub walked-edition : (script : List ℕ) (n : ℕ) → Titles script n → walked (λ _. placeBy n) n script ≡ translated base script
+unfolding walked translated readScript
+walked-edition script n t =
+    let q : readScript base script .place ≡ placeBy n = ap (λ (x : Titled). x .place) (t .is) in
+    by-title n (t .most) (readScript base script .script) ∙ ap (λ (x : Place). outcome base x (readScript base script .script)) (sym q)
+
+pub by-edition : (script page : List ℕ) (n : ℕ) (p : Place) (r : Ended) → p ≡ placeBy n → Titles script n → Ends (walked (λ _. p) n script) r page → Ends (translated base script) r page
+by-edition script page n p r e t h =
+    subst (λ (o : Outcome). Ends o r page) (ap (λ (x : Place). walked (λ _. x) n script) e ∙ walked-edition script n t) h

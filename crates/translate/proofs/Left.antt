@@ -10,13 +10,10 @@ use lib.Seq.{take-suc, drop-cons, set-at, length-take-le}
 use borrow.Author.Tests.{le-leb, lt-leb}
 use Rattle.rules.specs.Notation.{if_then_else_}
 use Rattle.rules.specs.Sizes.{base, LINES}
-use Rattle.rules.specs.Slots.{Place}
 use Rattle.rules.specs.Frames.{Outcome}
-use Rattle.rules.specs.Text.{Script, frames, unread, title, readScript, listText}
-use Rattle.rules.specs.Entries.{outcome, translated, refusalAnswer, Translation, listLeft, translateEntry}
-use Rattle.text.specs.Whole.{ofScript, scriptChecked}
-use Rattle.text.specs.declared.whole.CheckedScript.the-variants.{Good, Refused}
-use Rattle.translate.specs.Whole.{LeavesList, Read, Ends, listed, refused}
+use Rattle.rules.specs.Text.{listText}
+use Rattle.rules.specs.Entries.{translated, refusalAnswer, Translation, listLeft, translateEntry}
+use Rattle.translate.specs.Whole.{LeavesList, Ends, listed, refused}
 use Rattle.translate.specs.declared.whole.Ended.{Ended}
 use Rattle.translate.specs.declared.whole.Ended.the-variants as ended
 
@@ -80,27 +77,6 @@ module _ (script list page : List ℕ) (e : Ended) (h : Ends (translated base sc
           let e : n ≡ length (listText ls size) = omega arith in
           rw (le-leb (length (listText ls size)) (length list) (omega arith), if_then_else_)
           (record { answered = e; list-left = a ∙ ap (λ (b : List ℕ). b ++ drop n list) t ∙ ap (λ (j : ℕ). listText ls size ++ drop j list) e })
-
--- ---- by the check of the text
-
-good-refused : {P : Type 0} {n m j : ℕ} → Good n ≡ Refused m j → P
-good-refused e = absurd (let z : _≡_ {A = ℕ} 0 1 = cc in omega arith)
-
-pub checked-good : (script : List ℕ) (n : ℕ) → scriptChecked base script ≡ Good n → Read script
-unfolding scriptChecked
-checked-good script n e = go (readScript base script .script) refl e
-  where
-    go : (r : Script) → readScript base script .script ≡ r → ofScript (length (title (readScript base script .place))) r ≡ Good n → Read script
-    go (frames fs) q e = record { all = fs; reads = q }
-    go (unread m i) q e = good-refused (sym e)
-
-pub left-unread : (script list : List ℕ) (n i r : ℕ) → scriptChecked base script ≡ Refused n i → r ≡ refusalAnswer n i → LeavesList (translateEntry base script list) r list
-unfolding scriptChecked translateEntry translated outcome listLeft
-left-unread script list n i r e a = go (readScript base script .place) (readScript base script .script) e
-  where
-    go : (p : Place) (x : Script) → ofScript (length (title p)) x ≡ Refused n i → LeavesList (listLeft (outcome base p x) list) r list
-    go p (frames fs) e = good-refused e
-    go p (unread m j) e = let y : m ≡ n = cc in let z : j ≡ i = cc in record { answered = rw (y, z) a; list-left = refl }
 
 -- ---- any two results that the promise admits are equal
 

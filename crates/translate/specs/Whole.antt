@@ -19,6 +19,8 @@ use Rattle.text.specs.Writing.{over}
 use Rattle.text.specs.declared.lines.Frame.{Frame}
 use Rattle.text.specs.declared.lines.Reading.{Reading}
 use Rattle.text.specs.declared.lines.Reading.the-variants as reading
+use Rattle.text.specs.declared.whole.CheckedScript.{CheckedScript}
+use Rattle.text.specs.declared.whole.CheckedScript.the-variants as checked
 use Rattle.frames.specs.Steps.{sourceOf}
 use Rattle.frames.specs.declared.steps.Adds.{Adds}
 use Rattle.frames.specs.declared.steps.Adds.the-variants.{Nothing, Slot, NoSlot, Number, Store, Load, Drained, Refused}
@@ -37,7 +39,7 @@ pub record LeavesList (l : Translation) (answer : ℕ) (list : List ℕ) : Type 
 
 -- ---- one frame
 
--- the frame of a line that was read; a script whose lines are read has no other
+-- the frame of a line; of a malformed one a frame with opcode 0, which no frame has
 abbrev pub frameIn : Reading → Frame
 frameIn reading.Malformed = frame 0 0 0
 frameIn (reading.One f) = f
@@ -77,11 +79,6 @@ onwardOf (Refused n) = onward.Stop n
 
 -- ---- the whole script
 
--- the script's lines are read: behind the title they are these frames
-pub record Read (script : List ℕ) : Type 0 where
-  pub all : List rules.Frame
-  pub reads : readScript base script .script ≡ frames all
-
 -- the script has n title lines, and they stand on the first w bytes of the page
 pub record Begun (script page : List ℕ) (n w : ℕ) : Type 0 where
   pub titles : Titles script n
@@ -105,13 +102,19 @@ unfoldable pub stepsAt : (ℕ → Place) → ℕ → State → List rules.Frame 
 stepsAt by i s [] = accepted [] (s .scopes .size)
 stepsAt by i s (f ∷ fs) = onward i (step base (placing (base .segments) (by i)) s f) (λ t. stepsAt by (suc i) t fs)
 
-abbrev pub framesOf : Script → List rules.Frame
-framesOf (frames fs) = fs
-framesOf (unread n i) = []
+-- the lines from line i on: where one of them can't be read, nothing else counts
+abbrev pub walkFrom : (ℕ → Place) → ℕ → State → Script → Outcome
+walkFrom by i s (frames fs) = stepsAt by i s fs
+walkFrom by i s (unread n j) = refusedAt n j
 
--- a script that is read and has n title lines: its title, and its frames
+-- a script that has n title lines: its title, and what stands behind it
 unfoldable pub walked : (ℕ → Place) → ℕ → List ℕ → Outcome
-walked by n script = before (title (placeBy n)) (stepsAt by n start (framesOf (readScript base script .script)))
+walked by n script = before (title (placeBy n)) (walkFrom by n start (readScript base script .script))
+
+-- a step is refused by n at line i: "Text: the first line with 1 or 2, before any step", by what the lines behind it come to
+abbrev pub stoppedAt : ℕ → ℕ → CheckedScript → Ended
+stoppedAt n i (checked.Good m) = ended.Refused n i
+stoppedAt n i (checked.Refused m j) = ended.Refused m j
 
 -- the list stands at the start of the page, or a refusal is told
 pub data Ends : Outcome → Ended → List ℕ → Type 0 where

@@ -1,8 +1,6 @@
 // Scripts into lists: the steps of all frames, the page, and translate.
 use rules::PAGE;
 use text::refusal::refuse;
-use text::whole::CheckedScript;
-use text::whole::check_script;
 use whole::Ended;
 use whole::steps as whole_steps;
 ghost use mathlib.Core.Path.{_≡_};
@@ -11,7 +9,7 @@ ghost use Prim.Native.Nat.{_≤_};
 ghost use lib.ListN.{length, take, drop};
 ghost use Rattle.rules.specs.Sizes.{base};
 ghost use Rattle.rules.specs.Entries.{translateEntry};
-ghost use Rattle.translate.specs.Whole.{LeavesList, Read};
+ghost use Rattle.translate.specs.Whole.{LeavesList};
 
 pub mod whole; // all steps of a script, and the page
 
@@ -27,9 +25,10 @@ fn copy(page: &[u8], list: &mut [u8], n: usize)
     }
 }
 
-// The script is read: its steps, and 17 last.
-fn translate_read(script: &[u8], list: &mut [u8]) -> u64
-    requires { ⌜ Read (now script) ⌝ }
+// Translates the script: its lines and their steps, and 17 last. The answer is how many bytes the list takes; or, on a refusal, its number and
+// its line, and then the lent memory is as it was.
+#[no_mangle]
+pub extern "C" fn translate(script: &[u8], list: &mut [u8]) -> u64
     ensures { λ r. ⌜ LeavesList (translateEntry base (now (script .entry)) (now (list .entry))) r (now (list .exit)) ⌝ }
 {
     let mut page = [0u8; PAGE];
@@ -42,17 +41,5 @@ fn translate_read(script: &[u8], list: &mut [u8]) -> u64
             copy(&page, list, n);
             n as u64
         }
-    }
-}
-
-// Translates the script. The answer is how many bytes the list takes; or, on a refusal, its number and its line, and then the lent memory is
-// as it was.
-#[no_mangle]
-pub extern "C" fn translate(script: &[u8], list: &mut [u8]) -> u64
-    ensures { λ r. ⌜ LeavesList (translateEntry base (now (script .entry)) (now (list .entry))) r (now (list .exit)) ⌝ }
-{
-    match check_script(script) {
-        CheckedScript::Refused(m, i) => refuse(m, i),
-        CheckedScript::Good(_) => translate_read(script, list),
     }
 }

@@ -1,26 +1,31 @@
 // The frames of a script, one after another, over tables of their own; the list is written on a page.
 ghost use mathlib.Core.Path.{_≡_};
-ghost use Prim.Native.Nat.{_+_, _≤_};
+ghost use Prim.Native.Nat.{_+_, _≤_, _<_};
 ghost use lib.ListN.{length};
-ghost use Rattle.rules.specs.Sizes.{base, SLOTS, PAGE};
+ghost use Rattle.rules.specs.Sizes.{base, SLOTS, LINES, PAGE};
 ghost use Rattle.rules.specs.Frames.{stores};
 ghost use Rattle.rules.specs.Text.{lineText, title};
 ghost use Rattle.rules.specs.Entries.{translated};
 ghost use Rattle.slots.specs.Spots.{placeOf};
 ghost use Rattle.text.specs.Titles.{placeBy};
+ghost use Rattle.text.specs.Whole.{scriptLeft};
 ghost use Rattle.frames.specs.Steps.{Few, sourceOf};
-ghost use Rattle.translate.specs.Whole.{frameIn, linesText, addedText, Puts, onwardOf, guideAt, HasLines, Read, Begun, Ends, EndsWalk, EndsShown};
+ghost use Rattle.translate.specs.Whole.{frameIn, linesText, addedText, Puts, onwardOf, stoppedAt, guideAt, HasLines, Begun, Ends, EndsWalk, EndsShown};
 use dispatch::step;
 use frames::steps::Adds;
 use frames::steps::Source;
 use rules::HANDLES;
+use rules::LINES;
 use rules::NEEDS;
 use rules::SLOTS;
+use scopes::Numbers;
 use slots::Place;
 use slots::SlotAddress;
 use text::lines::Frame;
 use text::lines::Reading;
 use text::lines::frame_at;
+use text::whole::CheckedScript;
+use text::whole::check_from;
 use text::whole::title_lines;
 use text::writing::put_drain;
 use text::writing::put_line;
@@ -44,6 +49,7 @@ pub enum Guide {
     Shown(usize),
 }
 
+// The frame of a line; of a malformed one a frame with opcode 0, which no frame has.
 fn frame_in(x: Reading) -> Frame
     ensures { λ r. ⌜ r ≡ frameIn x ⌝ }
 {
@@ -141,8 +147,33 @@ fn place_at(guide: Guide, shown: &[u64], i: usize) -> Place
     }
 }
 
-// The script is read, and its title stands on the page: every frame behind it, then the size line. The state is opened once into local
-// arrays, which are lent to the steps.
+// The same numbers, one by one: the compiler keeps these apart, where the whole of them would be copied from step to step.
+fn each_of(n: Numbers) -> Numbers
+    ensures { λ r. ⌜ r ≡ n ⌝ }
+{
+    Numbers {
+        count: n.count,
+        segments: n.segments,
+        head: n.head,
+        top: n.top,
+        counter: n.counter,
+        size: n.size,
+    }
+}
+
+// A step is refused by m at line i. A line behind it that can't be read comes before that: the next one begins at p.
+fn stopped(script: &[u8], p: usize, m: u8, i: usize) -> Ended
+    requires { ⌜ (p ≤ length (now script)) × (i < LINES) ⌝ }
+    ensures { λ r. ⌜ r ≡ stoppedAt m i (scriptLeft base (now (script .entry)) p (i + 1)) ⌝ }
+{
+    match check_from(script, p, i + 1) {
+        CheckedScript::Refused(n, j) => Ended::Refused(n, j),
+        CheckedScript::Good(_) => Ended::Refused(m, i),
+    }
+}
+
+// The title stands on the page: every line behind it is read and its step done, then the size line. So a line is read once, and what the steps
+// did is lost where a later line can't be read. The state is opened once into local arrays, which are lent to the steps.
 fn steps_behind(
     script: &[u8],
     shown: &[u64],
@@ -151,7 +182,7 @@ fn steps_behind(
     guide: Guide,
     begun: usize,
 ) -> Ended
-    requires { ⌜ Read (now script) × HasLines guide (now shown) × (length (now page) ≡ PAGE) × Begun (now script) (now page) titles begun ⌝ }
+    requires { ⌜ HasLines guide (now shown) × (length (now page) ≡ PAGE) × Begun (now script) (now page) titles begun ⌝ }
     ensures { λ r. ⌜ EndsWalk guide shown script page titles r ⌝ }
 {
     let mut handles = [0u64; HANDLES];
@@ -175,9 +206,15 @@ fn steps_behind(
     let mut i: usize = titles;
     let mut w: usize = begun;
     while p < script.len() {
+        if i == LINES {
+            return Ended::Refused(2, i);
+        }
         let t = frame_at(script, p);
         let x = t.reading;
         let f = frame_in(x);
+        if f.opcode == 0 {
+            return Ended::Refused(1, i);
+        }
         let place = place_at(guide, shown, i);
         let r = step(
             &mut halves,
@@ -201,11 +238,11 @@ fn steps_behind(
         );
         let adds = r.adds;
         match onward_of(adds) {
-            Onward::Stop(m) => return Ended::Refused(m, i),
+            Onward::Stop(m) => return stopped(script, t.next, m, i),
             Onward::Go => {
                 w = put_adds(page, w, f.opcode, adds, &drained);
                 let m = r.numbers;
-                n = m;
+                n = each_of(m);
                 handed = r.handed;
                 needed = r.needed;
                 p = t.next;
@@ -217,9 +254,9 @@ fn steps_behind(
     Ended::Listed(put_size(page, w, size as u16), size)
 }
 
-// The script is read: its title, and what stands behind it, by its edition.
+// A script's title, and what stands behind it, by its edition.
 pub fn steps(script: &[u8], page: &mut [u8]) -> Ended
-    requires { ⌜ Read (now script) × (length (now page) ≡ PAGE) ⌝ }
+    requires { ⌜ length (now page) ≡ PAGE ⌝ }
     ensures { λ r. ⌜ Ends (translated base (now (script .entry))) r (now (page .exit)) ⌝ }
 {
     let none = [0u64; 1];
@@ -231,7 +268,7 @@ pub fn steps(script: &[u8], page: &mut [u8]) -> Ended
 
 // The same, but that slots go where a list shows them: the table has its lines.
 pub fn steps_shown(script: &[u8], shown: &[u64], lines: usize, page: &mut [u8]) -> Ended
-    requires { ⌜ Read (now script) × (lines ≤ length (now shown)) × (length (now page) ≡ PAGE) ⌝ }
+    requires { ⌜ (lines ≤ length (now shown)) × (length (now page) ≡ PAGE) ⌝ }
     ensures { λ r. ⌜ EndsShown lines shown script page r ⌝ }
 {
     let titles = title_lines(script);

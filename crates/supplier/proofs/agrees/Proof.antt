@@ -3,8 +3,7 @@ use mathlib.Core.Path.{sym, _∙_}
 use native.Mathlib.Omega.{arith}
 use Rattle.rules.specs.Sizes.{base}
 use Rattle.text.proofs.Bounds.{script-refused}
-use Rattle.translate.proofs.Left.{checked-good}
-use Rattle.supplier.proofs.Verdicts.{script-unread}
+use Rattle.supplier.proofs.Verdicts.{script-read, script-unread}
 use borrow.Author.Needs.{needs}
 use Rattle.supplier.proofs.agrees.Statement.{statement}
 use Rattle.supplier.proofs.agrees.Tie as tie
@@ -34,7 +33,7 @@ agrees-read-requires : tie.Need-agrees-read-requires
 agrees-read-requires c κs =
     let k = c .before .before in
     let a = c .before .before .before .before .before in
-    checked-good (a .args .script .now) _ (sym (k .check-script .ensures) ∙ c .enum-told .given .1)
+    script-read (a .args .script .now) _ (sym (k .check-script .ensures) ∙ c .enum-told .given .1)
 
 returns : tie.Need-returns
 returns c =

@@ -5,12 +5,6 @@ use Rattle.translate.proofs.Titled.{over-again}
 use Rattle.translate.proofs.Going.{by-edition}
 use Rattle.translate.proofs.whole.steps.Statement.{statement}
 use Rattle.translate.proofs.whole.steps.Tie as tie
-use Rattle.translate.proofs.whole.steps.Reads as reads
-use Rattle.translate.proofs.whole.steps.Lts as lts
-use Rattle.text.proofs.whole.title_lines.Reads as title-lines-reads
-use Rattle.translate.proofs.whole.place_by.Reads as place-by-reads
-use Rattle.translate.proofs.whole.put_title.Reads as put-title-reads
-use Rattle.translate.proofs.whole.steps_behind.Reads as steps-behind-reads
 
 title-lines-requires : tie.Need-title-lines-requires
 title-lines-requires c κs = search needs
@@ -29,9 +23,8 @@ steps-behind-requires c κs =
     let st = c .before .before .before .before .before .before .before .before .before .before in
     let t = c .before .before .before .before .before .before .before in
     let w = c .before .before .before .before .before in (
-      st .pre .0,
       tt,
-      w .put-title .kept .0 ∙ st .pre .1,
+      w .put-title .kept .0 ∙ st .pre,
       record { titles = t .title-lines .ensures; at = w .put-title .ensures .0; written = over-again _ _ _ (w .put-title .ensures .1) },
     )
 
@@ -40,11 +33,10 @@ same-length c = search needs
 
 returns : tie.Need-returns
 returns c =
-    let st = c .before .before .before .before .before .before .before .before .before .before .before .before .before in
     let t = c .before .before .before .before .before .before .before .before .before .before in
     let by = c .before .before .before .before .before in
     let s = c .before .before in
-    by-edition _ _ _ _ _ (by .place-by .ensures) (t .title-lines .ensures) (st .pre .0) (s .steps-behind .ensures)
+    by-edition _ _ _ _ _ (by .place-by .ensures) (t .title-lines .ensures) (s .steps-behind .ensures)
 
 pub steps-spec : {M : Type 1} → statement M
 steps-spec =

@@ -9,7 +9,7 @@ use Rattle.scopes.specs.Lent.{made}
 use Rattle.handles.specs.NeedTable.{table}
 use Rattle.frames.specs.Steps.{Reached}
 use Rattle.translate.specs.Whole.{guideAt, walked}
-use Rattle.translate.proofs.Going.{Going, going-fresh, going-stop, going-few, going-room, going-on, going-size, going-last, going-end}
+use Rattle.translate.proofs.Going.{Going, going-same, going-fresh, going-late, going-bad, going-stop, going-few, going-room, going-on, going-size, going-last, going-end}
 use Rattle.translate.proofs.whole.steps_behind.Statement.{statement}
 use Rattle.translate.proofs.whole.steps_behind.Tie as tie
 
@@ -51,27 +51,47 @@ numbers-of-requires : tie.Need-numbers-of-requires Inv-loop μ-loop
 numbers-of-requires c κs = tt
 
 mul-p : tie.Need-mul-p Inv-loop μ-loop
-mul-p c = let a = c .before .before .before .before .before .before .before .before .before .before .before .before .before in omega (arith, a .pre .3 .titles .most)
+mul-p c = let a = c .before .before .before .before .before .before .before .before .before .before .before .before .before in omega (arith, a .pre .2 .titles .most)
 
 loop-holds : tie.Need-loop-holds Inv-loop μ-loop
 loop-holds c =
     let f = c .before .before .before .before .before .before .before .before .before in
     let a = c .before .before .before .before .before .before .before .before .before .before .before .before .before in
-    going-fresh (guideAt (a .args .guide) (a .args .shown .now)) (a .args .script .now) (a .args .page .now) (a .args .titles) (a .args .begun) (a .pre .3) (f .fresh .result) (a .pre .0) (f .fresh .ensures .0)
+    going-fresh (guideAt (a .args .guide) (a .args .shown .now)) (a .args .script .now) (a .args .page .now) (a .args .titles) (a .args .begun) (a .pre .2) (f .fresh .result) (f .fresh .ensures .0)
     (record { sound = f .fresh .ensures .1; sized = record { halves = search needs; links = search needs; owner = owner-length (c .before .before .before .before .before .before); live = live-length (c .before .before .before .before .before); dangled = dangled-length (c .before .before .before .before); parent = parent-length (c .before .before .before); number = number-length (c .before .before); bindings = bindings-length (c .before) } })
     (c .numbers-of .result) (c .numbers-of .ensures)
 
+same-length : tie.Need-same-length Inv-loop μ-loop
+same-length c = let l = c .before .before in l .loop .inv .page-length
+
+returns : tie.Need-returns Inv-loop μ-loop
+returns c =
+    let l = c .before .before in
+    let t = c .before in
+    going-late _ _ _ _ _ _ _ _ _ _ _ _ _ _ (l .loop .inv) (t .loop-test .taken) (c .if1 .taken)
+
 frame-at-requires : tie.Need-frame-at-requires Inv-loop μ-loop
-frame-at-requires c κs = c .loop-test .taken
+frame-at-requires c κs = let t = c .before in t .loop-test .taken
 
 frame-in-requires : tie.Need-frame-in-requires Inv-loop μ-loop
 frame-in-requires c κs = tt
 
+same-length-2 : tie.Need-same-length-2 Inv-loop μ-loop
+same-length-2 c = let l = c .before .before .before .before .before .before in l .loop .inv .page-length
+
+returns-2 : tie.Need-returns-2 Inv-loop μ-loop
+returns-2 c =
+    let fa = c .before .before .before in
+    let fi = c .before .before in
+    let late = c .before .before .before .before in
+    let l = c .before .before .before .before .before .before in
+    going-bad _ _ _ _ _ _ _ _ _ _ _ _ _ _ (l .loop .inv) (fa .frame-at .result) (fa .frame-at .ensures) (late .if1 .left) (fi .frame-in .result) (fi .frame-in .ensures) (c .if2 .taken)
+
 place-at-requires : tie.Need-place-at-requires Inv-loop μ-loop
-place-at-requires c κs = let a = c .before .before .before .before .before .before .before .before .before .before .before .before .before .before .before .before .before in a .pre .1
+place-at-requires c κs = let a = c .before .before .before .before .before .before .before .before .before .before .before .before .before .before .before .before .before .before .before .before in a .pre .0
 
 step-requires : tie.Need-step-requires Inv-loop μ-loop
-step-requires c κs = let l = c .before .before .before .before .before .before .before .before .before .before .before .before .before .before .before .before .before in (l .loop .inv .stands, l .loop .inv .drained-length)
+step-requires c κs = let l = c .before .before .before .before .before .before .before .before .before .before .before .before .before .before .before .before .before .before .before .before in (l .loop .inv .stands, l .loop .inv .drained-length)
 
 onward-of-requires : tie.Need-onward-of-requires Inv-loop μ-loop
 onward-of-requires c κs = tt
@@ -79,18 +99,28 @@ onward-of-requires c κs = tt
 enum-known-m : tie.Need-enum-known-m Inv-loop μ-loop
 enum-known-m c = search needs
 
-same-length : tie.Need-same-length Inv-loop μ-loop
-same-length c = let l = c .before .before .before .before .before .before .before .before .before .before .before .before .before .before .before .before .before .before .before .before .before .before in l .loop .inv .page-length
+stopped-requires : tie.Need-stopped-requires Inv-loop μ-loop
+stopped-requires c κs =
+    let fa = c .before .before .before .before .before .before .before .before .before .before .before .before .before .before .before .before .before .before .before .before .before .before in
+    let late = c .before .before .before .before .before .before .before .before .before .before .before .before .before .before .before .before .before .before .before .before .before .before .before in
+    let l = c .before .before .before .before .before .before .before .before .before .before .before .before .before .before .before .before .before .before .before .before .before .before .before .before .before in
+    (fa .frame-at .ensures .within, omega (arith, l .loop .inv .early, late .if1 .left))
 
-returns : tie.Need-returns Inv-loop μ-loop
-unfolding base
-returns c =
-    let fa = c .before .before .before .before .before .before .before .before .before .before .before .before .before .before .before .before .before .before .before .before in
-    let fi = c .before .before .before .before .before .before .before .before .before .before .before .before .before .before .before .before .before .before .before in
-    let pa = c .before .before .before .before .before .before .before .before .before .before .before .before .before .before .before .before .before .before in
-    let st = c .before .before .before .before in
-    let l = c .before .before .before .before .before .before .before .before .before .before .before .before .before .before .before .before .before .before .before .before .before .before in
-    going-stop _ _ _ _ _ _ _ _ _ _ _ _ _ _ (l .loop .inv) (fa .frame-at .result) (fa .frame-at .ensures) (fi .frame-in .result) (fi .frame-in .ensures) (reached st) _ _ _ _ _ (pa .place-at .ensures) (st .step .ensures .0) _ (sym (c .before .before .before .onward-of .ensures) ∙ c .before .m .given .1)
+same-length-3 : tie.Need-same-length-3 Inv-loop μ-loop
+same-length-3 c = let l = c .before .before .before .before .before .before .before .before .before .before .before .before .before .before .before .before .before .before .before .before .before .before .before .before .before .before in l .loop .inv .page-length
+
+returns-3 : tie.Need-returns-3 Inv-loop μ-loop
+returns-3 c =
+    let fa = c .before .before .before .before .before .before .before .before .before .before .before .before .before .before .before .before .before .before .before .before .before .before .before in
+    let fi = c .before .before .before .before .before .before .before .before .before .before .before .before .before .before .before .before .before .before .before .before .before .before in
+    let pa = c .before .before .before .before .before .before .before .before .before .before .before .before .before .before .before .before .before .before .before in
+    let st = c .before .before .before .before .before in
+    let on = c .before .before .before .before in
+    let em = c .before .before in
+    let late = c .before .before .before .before .before .before .before .before .before .before .before .before .before .before .before .before .before .before .before .before .before .before .before .before in
+    let bad = c .before .before .before .before .before .before .before .before .before .before .before .before .before .before .before .before .before .before .before .before in
+    let l = c .before .before .before .before .before .before .before .before .before .before .before .before .before .before .before .before .before .before .before .before .before .before .before .before .before .before in
+    going-stop _ _ _ _ _ _ _ _ _ _ _ _ _ _ (l .loop .inv) (fa .frame-at .result) (fa .frame-at .ensures) (late .if1 .left) (fi .frame-in .result) (fi .frame-in .ensures) (bad .if2 .left) (reached st) _ _ _ _ _ (pa .place-at .ensures) (st .step .ensures .0) _ (sym (on .onward-of .ensures) ∙ em .m .given .1) _ (c .stopped .ensures)
 
 enum-told : tie.Need-enum-told Inv-loop μ-loop
 enum-told c = search needs
@@ -100,37 +130,48 @@ slice-aggregate-put-adds c = let st = c .before .before .before .before .before 
 
 put-adds-requires : tie.Need-put-adds-requires Inv-loop μ-loop
 put-adds-requires c κs =
-    let fa = c .before .before .before .before .before .before .before .before .before .before .before .before .before .before .before .before .before .before .before .before .before in
-    let fi = c .before .before .before .before .before .before .before .before .before .before .before .before .before .before .before .before .before .before .before .before in
+    let fa = c .before .before .before .before .before .before .before .before .before .before .before .before .before .before .before .before .before .before .before .before .before .before .before in
+    let fi = c .before .before .before .before .before .before .before .before .before .before .before .before .before .before .before .before .before .before .before .before .before .before in
     let pa = c .before .before .before .before .before .before .before .before .before .before .before .before .before .before .before .before .before .before .before in
     let st = c .before .before .before .before .before in
     let on = c .before .before .before .before in
     let et = c .before .before in
-    let l = c .before .before .before .before .before .before .before .before .before .before .before .before .before .before .before .before .before .before .before .before .before .before .before in
-    let a = c .before .before .before .before .before .before .before .before .before .before .before .before .before .before .before .before .before .before .before .before .before .before .before .before .before .before .before .before .before .before .before .before .before .before .before .before .before in
+    let late = c .before .before .before .before .before .before .before .before .before .before .before .before .before .before .before .before .before .before .before .before .before .before .before .before in
+    let bad = c .before .before .before .before .before .before .before .before .before .before .before .before .before .before .before .before .before .before .before .before in
+    let l = c .before .before .before .before .before .before .before .before .before .before .before .before .before .before .before .before .before .before .before .before .before .before .before .before .before .before in
+    let a = c .before .before .before .before .before .before .before .before .before .before .before .before .before .before .before .before .before .before .before .before .before .before .before .before .before .before .before .before .before .before .before .before .before .before .before .before .before .before .before .before in
     let go = sym (on .onward-of .ensures) ∙ et .enum-told .given .1 in (
-      going-few _ _ _ _ _ _ _ _ _ _ _ _ _ _ (l .loop .inv) (fa .frame-at .result) (fa .frame-at .ensures) (fi .frame-in .result) (fi .frame-in .ensures) (reached st) _ _ _ _ _ (pa .place-at .ensures) (st .step .ensures .0) (st .step .ensures .1 .0) go,
+      going-few _ _ _ _ _ _ _ _ _ _ _ _ _ _ (l .loop .inv) (fa .frame-at .result) (fa .frame-at .ensures) (late .if1 .left) (fi .frame-in .result) (fi .frame-in .ensures) (bad .if2 .left) (reached st) _ _ _ _ _ (pa .place-at .ensures) (st .step .ensures .0) (st .step .ensures .1 .0) go,
       st .step .ensures .1 .0,
-      going-room _ _ _ _ _ _ _ _ _ _ _ _ _ _ (l .loop .inv) (fa .frame-at .result) (fa .frame-at .ensures) (fi .frame-in .result) (fi .frame-in .ensures) (reached st) _ _ _ _ _ (pa .place-at .ensures) (st .step .ensures .0) (st .step .ensures .1 .0) go (a .pre .2),
+      going-room _ _ _ _ _ _ _ _ _ _ _ _ _ _ (l .loop .inv) (fa .frame-at .result) (fa .frame-at .ensures) (late .if1 .left) (fi .frame-in .result) (fi .frame-in .ensures) (bad .if2 .left) (reached st) _ _ _ _ _ (pa .place-at .ensures) (st .step .ensures .0) (st .step .ensures .1 .0) go (a .pre .1),
     )
 
+each-of-requires : tie.Need-each-of-requires Inv-loop μ-loop
+each-of-requires c κs = tt
+
 add-i : tie.Need-add-i Inv-loop μ-loop
-add-i c = let l = c .before .before .before .before .before .before .before .before .before .before .before .before .before .before .before .before .before .before .before .before .before .before .before .before .before .before .before in omega (arith, l .loop .inv .early)
+add-i c = let l = c .before .before .before .before .before .before .before .before .before .before .before .before .before .before .before .before .before .before .before .before .before .before .before .before .before .before .before .before .before .before .before in omega (arith, l .loop .inv .early)
 
 loop-less : tie.Need-loop-less Inv-loop μ-loop
-loop-less c = let fa = c .before .before .before .before .before .before .before .before .before .before .before .before .before .before .before .before .before .before .before .before .before .before .before .before .before in omega (arith, fa .frame-at .ensures .forward, fa .frame-at .ensures .within, fa .before .loop-test .taken)
+loop-less c =
+    let fa = c .before .before .before .before .before .before .before .before .before .before .before .before .before .before .before .before .before .before .before .before .before .before .before .before .before .before .before .before in
+    let t = c .before .before .before .before .before .before .before .before .before .before .before .before .before .before .before .before .before .before .before .before .before .before .before .before .before .before .before .before .before .before in
+    omega (arith, fa .frame-at .ensures .forward, fa .frame-at .ensures .within, t .loop-test .taken)
 
 loop-again : tie.Need-loop-again Inv-loop μ-loop
 loop-again c =
-    let v = c .before .before .before in
-    let fa = c .before .before .before .before .before .before .before .before .before .before .before .before .before .before .before .before .before .before .before .before .before .before .before .before .before in
-    let fi = c .before .before .before .before .before .before .before .before .before .before .before .before .before .before .before .before .before .before .before .before .before .before .before .before in
-    let pa = c .before .before .before .before .before .before .before .before .before .before .before .before .before .before .before .before .before .before .before .before .before .before .before in
-    let st = c .before .before .before .before .before .before .before .before .before in
-    let on = c .before .before .before .before .before .before .before .before in
-    let et = c .before .before .before .before .before .before in
-    let l = c .before .before .before .before .before .before .before .before .before .before .before .before .before .before .before .before .before .before .before .before .before .before .before .before .before .before .before in
-    going-on _ _ _ _ _ _ _ _ _ _ _ _ _ _ (l .loop .inv) (fa .frame-at .result) (fa .frame-at .ensures) (fi .frame-in .result) (fi .frame-in .ensures) (reached st) _ _ _ _ _ (pa .place-at .ensures) (st .step .ensures .0) (st .step .ensures .1 .0) (sym (on .onward-of .ensures) ∙ et .enum-told .given .1) _ _ (v .put-adds .kept .0) (v .put-adds .ensures)
+    let v = c .before .before .before .before in
+    let fa = c .before .before .before .before .before .before .before .before .before .before .before .before .before .before .before .before .before .before .before .before .before .before .before .before .before .before .before .before in
+    let fi = c .before .before .before .before .before .before .before .before .before .before .before .before .before .before .before .before .before .before .before .before .before .before .before .before .before .before .before in
+    let pa = c .before .before .before .before .before .before .before .before .before .before .before .before .before .before .before .before .before .before .before .before .before .before .before .before in
+    let st = c .before .before .before .before .before .before .before .before .before .before in
+    let on = c .before .before .before .before .before .before .before .before .before in
+    let et = c .before .before .before .before .before .before .before in
+    let late = c .before .before .before .before .before .before .before .before .before .before .before .before .before .before .before .before .before .before .before .before .before .before .before .before .before .before .before .before .before in
+    let bad = c .before .before .before .before .before .before .before .before .before .before .before .before .before .before .before .before .before .before .before .before .before .before .before .before .before in
+    let l = c .before .before .before .before .before .before .before .before .before .before .before .before .before .before .before .before .before .before .before .before .before .before .before .before .before .before .before .before .before .before .before in
+    going-same _ _ _ _ _ _ _ _ _ _ _ _ _ _ _ _ _ _ _ _ _ _ _ (c .each-of .ensures)
+    (going-on _ _ _ _ _ _ _ _ _ _ _ _ _ _ (l .loop .inv) (fa .frame-at .result) (fa .frame-at .ensures) (late .if1 .left) (fi .frame-in .result) (fi .frame-in .ensures) (bad .if2 .left) (reached st) _ _ _ _ _ (pa .place-at .ensures) (st .step .ensures .0) (st .step .ensures .1 .0) (sym (on .onward-of .ensures) ∙ et .enum-told .given .1) _ _ (v .put-adds .kept .0) (v .put-adds .ensures))
 
 cast-put-size : tie.Need-cast-put-size Inv-loop μ-loop
 cast-put-size c = let l = c .before .before in omega (arith, going-size _ _ _ _ _ _ _ _ _ _ _ _ _ _ (l .loop .inv))
@@ -139,22 +180,22 @@ put-size-requires : tie.Need-put-size-requires Inv-loop μ-loop
 put-size-requires c κs =
     let l = c .before .before in
     let a = c .before .before .before .before .before .before .before .before .before .before .before .before .before .before .before .before in
-    going-last _ _ _ _ _ _ _ _ _ _ _ _ _ _ (l .loop .inv) (a .pre .2)
+    going-last _ _ _ _ _ _ _ _ _ _ _ _ _ _ (l .loop .inv) (a .pre .1)
 
-same-length-2 : tie.Need-same-length-2 Inv-loop μ-loop
-same-length-2 c =
+same-length-4 : tie.Need-same-length-4 Inv-loop μ-loop
+same-length-4 c =
     let v = c .before .before in
     let l = c .before .before .before .before .before in
     v .put-size .kept .0 ∙ l .loop .inv .page-length
 
-returns-2 : tie.Need-returns-2 Inv-loop μ-loop
+returns-4 : tie.Need-returns-4 Inv-loop μ-loop
 unfolding base
-returns-2 c =
+returns-4 c =
     let v = c .before .before in
     let t = c .before .before .before .before in
     let l = c .before .before .before .before .before in
     let a = c .before .before .before .before .before .before .before .before .before .before .before .before .before .before .before .before .before .before .before in
-    going-end _ _ _ _ _ _ _ _ _ _ _ _ _ _ (l .loop .inv) (t .loop-test .left) (a .pre .2) _ _ (v .put-size .ensures .0) (v .put-size .kept .0) (v .put-size .ensures .1)
+    going-end _ _ _ _ _ _ _ _ _ _ _ _ _ _ (l .loop .inv) (t .loop-test .left) (a .pre .1) _ _ (v .put-size .ensures .0) (v .put-size .kept .0) (v .put-size .ensures .1)
 
 pub steps-behind-spec : {M : Type 1} → statement M
 steps-behind-spec =
@@ -166,21 +207,27 @@ steps-behind-spec =
     numbers-of-requires
     mul-p
     loop-holds
+    same-length
+    returns
     frame-at-requires
     frame-in-requires
+    same-length-2
+    returns-2
     place-at-requires
     step-requires
     onward-of-requires
     enum-known-m
-    same-length
-    returns
+    stopped-requires
+    same-length-3
+    returns-3
     enum-told
     slice-aggregate-put-adds
     put-adds-requires
+    each-of-requires
     add-i
     loop-less
     loop-again
     cast-put-size
     put-size-requires
-    same-length-2
-    returns-2)
+    same-length-4
+    returns-4)

@@ -4,11 +4,6 @@ use borrow.Author.Needs.{needs}
 use Rattle.translate.proofs.Titled.{over-again}
 use Rattle.translate.proofs.whole.steps_shown.Statement.{statement}
 use Rattle.translate.proofs.whole.steps_shown.Tie as tie
-use Rattle.translate.proofs.whole.steps_shown.Reads as reads
-use Rattle.translate.proofs.whole.steps_shown.Lts as lts
-use Rattle.text.proofs.whole.title_lines.Reads as title-lines-reads
-use Rattle.translate.proofs.whole.put_title.Reads as put-title-reads
-use Rattle.translate.proofs.whole.steps_behind.Reads as steps-behind-reads
 
 title-lines-requires : tie.Need-title-lines-requires
 title-lines-requires c κs = search needs
@@ -22,8 +17,7 @@ steps-behind-requires c κs =
     let t = c .before .before .before .before .before in
     let w = c .before .before .before in (
       st .pre .0,
-      st .pre .1,
-      w .put-title .kept .0 ∙ st .pre .2,
+      w .put-title .kept .0 ∙ st .pre .1,
       record { titles = t .title-lines .ensures; at = w .put-title .ensures .0; written = over-again _ _ _ (w .put-title .ensures .1) },
     )
 
