@@ -1,11 +1,12 @@
 -- Needs by their numbers in the tables: what a number says, whose handle it is, and one need set. Assumes nothing.
 use mathlib.Core.Path.{_≡_, refl, sym, ap, _∙_}
-use mathlib.Core.Bool.{Bool, true, false}
+use mathlib.Core.Bool.{Bool, true, false, _&&_}
+use mathlib.Core.Option.{none}
 use mathlib.Core.List.{List}
-use Prim.Native.Nat.{ℕ, suc, _+_, _-_, _/_, _%_, _≤_, _<_}
+use Prim.Native.Nat.{ℕ, zero, suc, _+_, _-_, _/_, _%_, _≤_, _<_}
 use native.Mathlib.Omega.{arith}
 use lib.Dec.{eqb}
-use lib.ListN.{length, set}
+use lib.ListN.{length, getD, set}
 use lib.Seq.{getD-set-same, getD-set-other}
 use borrow.Author.Tests.{ne-eqb, eq-eqb, eqb-true}
 use Rattle.rules.specs.Notation.{put, isSome, first}
@@ -135,6 +136,23 @@ module _ (needs remembers : List ℕ) (needed h : ℕ) where
   pub belongs-none : (i : ℕ) → needed ≤ i → Left i → belongsIn needs remembers needed h ≡ false
   unfolding first
   belongs-none i l w = let m : needed - i ≡ 0 = omega arith in w .1 ∙ ap (λ (n : ℕ). isSome (first test i n)) m
+
+  -- none of them remembers h
+  other : (i : ℕ) → (getD remembers i 0 ≡ h → ⊥) → test i ≡ false
+  other i n = rw (ne-eqb (getD remembers i 0) h n) (go (owns (needIn (getD needs i 0))))
+    where
+      go : (b : Bool) → (b && false) ≡ false
+      go true = refl
+      go false = refl
+
+  none-from : (n i : ℕ) → i + n ≡ needed → ((j : ℕ) → j < needed → getD remembers j 0 ≡ h → ⊥) → first test i n ≡ none
+  unfolding first
+  none-from zero i e a = refl
+  none-from (suc n) i e a = rw (other i (a i (omega (arith, e))), first) (none-from n (suc i) (omega (arith, e)) a)
+
+  pub belongs-nobody : ((j : ℕ) → j < needed → getD remembers j 0 ≡ h → ⊥) → belongsIn needs remembers needed h ≡ false
+  unfolding belongsIn
+  belongs-nobody a = ap isSome (none-from needed 0 (omega arith) a)
 
 -- ---- the need n is b now, and remembers h
 

@@ -1,7 +1,9 @@
 // The needs of a script: each in one number of a table, and in another table the handle that it remembers, as a binding does.
 ghost use mathlib.Core.Path.{_≡_};
-ghost use Prim.Native.Nat.{_<_};
-ghost use Rattle.rules.specs.Sizes.{SLOTS};
+ghost use mathlib.Core.Bool.{false};
+ghost use Prim.Native.Nat.{ℕ, _<_};
+ghost use lib.ListN.{length, getD};
+ghost use Rattle.rules.specs.Sizes.{SLOTS, NEEDS};
 ghost use Rattle.rules.specs.Needs as rule;
 ghost use Rattle.rules.specs.Frames as frame;
 ghost use Rattle.scopes.specs.View.{idOf};
@@ -95,6 +97,9 @@ pub fn need_in(b: u64) -> Need
 
 // ---- whose handle it is
 
+// So many needs are asked one by one.
+const FEW: usize = 8;
+
 // Whether h belongs to the need of number b, which remembers r.
 fn is_its(b: u64, r: u16, h: u16) -> bool
     ensures { λ x. ⌜ x ≡ frame.keeps (record { need = needIn b; handle = r }) h ⌝ }
@@ -103,6 +108,22 @@ fn is_its(b: u64, r: u16, h: u16) -> bool
         return r == h;
     }
     false
+}
+
+// Whether the table of what needs remember has h somewhere. All of it is looked at, so that its numbers are compared side by side.
+fn is_remembered(remembers: &[u16; NEEDS], h: u16) -> bool
+    requires { ⌜ length (now remembers) ≡ NEEDS ⌝ }
+    ensures { λ r. ⌜ (r ≡ false → (j : ℕ) → j < NEEDS → getD (now (remembers .entry)) j 0 ≡ h → ⊥) ⌝ }
+{
+    let mut hit = false;
+    let mut k: usize = 0;
+    while k < NEEDS {
+        if remembers[k] == h {
+            hit = true;
+        }
+        k += 1;
+    }
+    hit
 }
 
 // Whether h belongs to a need.
@@ -115,6 +136,11 @@ pub fn belongs<'a>(
     requires { ⌜ SizedNeeds (now needs) (now remembers) needed ⌝ }
     ensures { λ r. ⌜ r ≡ belongsIn (now (needs .entry)) (now (remembers .entry)) needed (h .0) ⌝ }
 {
+    if FEW < needed {
+        if !is_remembered(remembers, h.0) {
+            return false;
+        }
+    }
     let mut i: usize = 0;
     while i < needed {
         let b = needs[i];
