@@ -119,7 +119,7 @@ module _ (a : ℕ) (e : a ≡ SLOTS → ⊥) where
 
 -- on lent halves: m is min(H, L), and a the least clear slot from segment m on, or SLOTS
 module _ (hs : List ℕ) (l h : ℕ) (y : Sound (slotsOf hs l h)) (m a : ℕ) (start : m ≡ rule.startOf (slotsOf hs l h)) (e : a ≡ firstClear (occ hs) (128 * m) (SLOTS - 128 * m)) where
-  pub put-within : a < (SLOTS + 1)
+  pub put-within : a < SLOTS + 1
   unfolding base
   put-within = omega (arith, insert-within SEGMENTS (slotsOf hs l h) y m a start e)
 

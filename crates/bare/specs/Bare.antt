@@ -110,6 +110,6 @@ abbrev pub addressAt : ℕ → ℕ
 addressAt a = elim (eqb a SLOTS) [ true ↦ 0 | false ↦ a ]
 
 pub record Inserted (s : rule.Slots) (halves : List ℕ) (a : ℕ) : Type 0 where
-  pub within : a < (SLOTS + 1)
+  pub within : a < SLOTS + 1
   pub next : record { occupied = occ halves; segments = segmentsAfter (s .segments) a; head = headAfter (s .head) a } ≡ inserting s .next
   pub gives : addressAt a ≡ addressGiven (inserting s .says)

@@ -105,7 +105,7 @@ fn put_in(halves: &mut [u64; HALVES], segments: usize, head: usize) -> usize
 
 // L, H and the address that is summed, after an insert at a.
 fn segments_after(segments: usize, a: usize) -> usize
-    requires { ⌜ a < (SLOTS + 1) ⌝ }
+    requires { ⌜ a < SLOTS + 1 ⌝ }
     ensures { λ r. ⌜ r ≡ segmentsAfter segments a ⌝ }
 {
     if a == SLOTS {

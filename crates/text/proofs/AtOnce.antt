@@ -6,8 +6,9 @@ use native.Mathlib.Omega.{arith}
 use lib.ListN.{length, getD}
 use Rattle.rules.specs.Text.{value}
 use Rattle.rules.proofs.Tables.{by-eqb}
-use Rattle.text.specs.Lines.{weight, numberOf, Packed, FourDigits, DigitsFrom, Joined}
+use Rattle.text.specs.Lines.{numberOf, Packed, FourDigits, DigitsFrom, Joined}
 use Rattle.text.specs.declared.lines.Digits.{Digits}
+use Rattle.text.proofs.Numbers.{code, number-two, number-six, number-ten}
 
 -- ---- words
 
@@ -55,29 +56,6 @@ module _ (s : List ℕ) (p : ℕ) where
   one-more : (n : ℕ) → Hex n → at n < 16 → Hex (n + 1)
   one-more n h d k l m = by-eqb k (p + n) (λ e. subst (λ (x : ℕ). value (getD s x 0) < 16) (sym e) d) (λ e. h k l (omega (arith, m, e)))
 
-  -- ---- the number of two, six and ten digits
-
-  abbrev opcode : ℕ
-  opcode = at 0 * 16 + at 1
-
-  abbrev first : ℕ
-  first = at 2 * 4096 + at 3 * 256 + at 4 * 16 + at 5
-
-  abbrev second : ℕ
-  second = at 6 * 4096 + at 7 * 256 + at 8 * 16 + at 9
-
-  number-two : numberOf s p 2 ≡ opcode * 0x100000000
-  unfolding numberOf weight
-  number-two = omega arith
-
-  number-six : numberOf s p 6 ≡ opcode * 0x100000000 + first * 0x10000
-  unfolding numberOf weight
-  number-six = omega arith
-
-  number-ten : numberOf s p 10 ≡ opcode * 0x100000000 + first * 0x10000 + second
-  unfolding numberOf weight
-  number-ten = omega arith
-
   -- ---- the line
 
   lf-stops : (c : ℕ) → c ≡ 10 → 16 ≤ value c
@@ -105,7 +83,7 @@ module _ (s : List ℕ) (p : ℕ) where
       op : FourDigits 48 48 (getD s p 0) (getD s (p + 1) 0) o
       op = ho 48 48 (getD s p 0) (getD s (p + 1) 0) (opcode-word _ _ _ _ front pf) small
 
-      coded : o ≡ opcode
+      coded : o ≡ code s p
       unfolding value
       coded = omega (arith, op .number, ap value here)
 
@@ -113,7 +91,7 @@ module _ (s : List ℕ) (p : ℕ) where
       two = one-more 1 (one-more 0 none (subst (λ (x : ℕ). value x < 16) (sym here) (op .third))) (op .fourth)
 
     pub two-digits : Joined (p + 2) o 0 0 d → front / 0x10000 % 0x100 ≡ 10 → DigitsFrom s p d
-    two-digits j lf = whole 2 d (j .ends) (omega arith) (two (j .opcode-is)) (third-byte _ _ _ _ front pf lf) (j .makes ∙ omega (arith, coded (j .opcode-is), number-two)) below
+    two-digits j lf = whole 2 d (j .ends) (omega arith) (two (j .opcode-is)) (third-byte _ _ _ _ front pf lf) (j .makes ∙ omega (arith, coded (j .opcode-is), number-two s p)) below
 
     module _ (back : ℕ) (pb : Packed (getD s (p + 4) 0) (getD s (p + 5) 0) (getD s (p + 6) 0) (getD s (p + 7) 0) back) (a : ℕ) (ha : Reads (between front back) a) where
       module _ (small : o < 0x10000) (fits : a < 0x10000) where
@@ -126,7 +104,7 @@ module _ (s : List ℕ) (p : ℕ) where
       pub six-digits : Joined (p + 6) o a 0 d → back / 0x10000 % 0x100 ≡ 10 → DigitsFrom s p d
       six-digits j lf =
           let f = fa (j .opcode-is) (j .first-is) in
-          whole 6 d (j .ends) (omega arith) (six (j .opcode-is) (j .first-is)) (third-byte _ _ _ _ back pb lf) (j .makes ∙ omega (arith, coded (j .opcode-is), f .number, number-six)) below
+          whole 6 d (j .ends) (omega arith) (six (j .opcode-is) (j .first-is)) (third-byte _ _ _ _ back pb lf) (j .makes ∙ omega (arith, coded (j .opcode-is), f .number, number-six s p)) below
 
       module _ (last : ℕ) (pl : Packed (getD s (p + 8) 0) (getD s (p + 9) 0) (getD s (p + 10) 0) 0 last) (b : ℕ) (hb : Reads (between back last) b) where
         pub ten-digits : Joined (p + 10) o a b d → last / 0x10000 ≡ 10 → DigitsFrom s p d
@@ -136,4 +114,4 @@ module _ (s : List ℕ) (p : ℕ) where
             let h = six (j .opcode-is) (j .first-is) in
             let ten = one-more 9 (one-more 8 (one-more 7 (one-more 6 h (g .first)) (g .second)) (g .third)) (g .fourth) in
             let e : getD s (p + 10) 0 ≡ 10 = omega (arith, pl .makes, pl .byte-1, pl .byte-2) in
-            whole 10 d (j .ends) (omega arith) ten e (j .makes ∙ omega (arith, coded (j .opcode-is), f .number, g .number, number-ten)) below
+            whole 10 d (j .ends) (omega arith) ten e (j .makes ∙ omega (arith, coded (j .opcode-is), f .number, g .number, number-ten s p)) below

@@ -117,20 +117,34 @@ number-rest s p e f h l full =
 
 -- ---- all digits of a line
 
-abbrev ofParts : ℕ → ℕ → ℕ → ℕ
+abbrev pub ofParts : ℕ → ℕ → ℕ → ℕ
 ofParts o a b = o * 0x100000000 + a * 0x10000 + b
 
-number-two : (t : List ℕ) → numberOf t 0 2 ≡ ofParts (codeAt t) 0 0
-unfolding numberOf weight
-number-two t = omega arith
+-- from p on: an opcode, and two operands
+module _ (s : List ℕ) (p : ℕ) where
+  abbrev at-place : ℕ → ℕ
+  at-place k = value (getD s (p + k) 0)
 
-number-six : (t : List ℕ) → numberOf t 0 6 ≡ ofParts (codeAt t) (wordAt t 2) 0
-unfolding numberOf weight
-number-six t = omega arith
+  abbrev pub code : ℕ
+  code = at-place 0 * 16 + at-place 1
 
-number-ten : (t : List ℕ) → numberOf t 0 10 ≡ ofParts (codeAt t) (wordAt t 2) (wordAt t 6)
-unfolding numberOf weight
-number-ten t = omega arith
+  abbrev pub first : ℕ
+  first = at-place 2 * 4096 + at-place 3 * 256 + at-place 4 * 16 + at-place 5
+
+  abbrev pub second : ℕ
+  second = at-place 6 * 4096 + at-place 7 * 256 + at-place 8 * 16 + at-place 9
+
+  pub number-two : numberOf s p 2 ≡ ofParts code 0 0
+  unfolding numberOf weight
+  number-two = omega arith
+
+  pub number-six : numberOf s p 6 ≡ ofParts code first 0
+  unfolding numberOf weight
+  number-six = omega arith
+
+  pub number-ten : numberOf s p 10 ≡ ofParts code first second
+  unfolding numberOf weight
+  number-ten = omega arith
 
 word-below : (t : List ℕ) → allHex t ≡ true → (j : ℕ) → j + 4 ≤ length t → wordAt t j < 65536
 word-below t h j b =
@@ -145,13 +159,13 @@ parts-two : (t : List ℕ) → length t ≡ 2 → Parts t (numberOf t 0 (length 
 parts-two t q =
     let a = operand-none t 0 (omega arith) (omega arith) in
     let b = operand-none t 1 (omega arith) (omega arith) in
-    record { sum = rw (q, a, b) (number-two t); first = omega (arith, a); second = omega (arith, b) }
+    record { sum = rw (q, a, b) (number-two t 0); first = omega (arith, a); second = omega (arith, b) }
 
 parts-six : (t : List ℕ) → allHex t ≡ true → length t ≡ 6 → Parts t (numberOf t 0 (length t))
 parts-six t h q =
     let a = operand-first t (omega arith) in
     let b = operand-none t 1 (omega arith) (omega arith) in
-    record { sum = rw (q, a, b) (number-six t); first = omega (arith, a, word-below t h 2 (omega arith)); second = omega (arith, b) }
+    record { sum = rw (q, a, b) (number-six t 0); first = omega (arith, a, word-below t h 2 (omega arith)); second = omega (arith, b) }
 
 parts-more : (t : List ℕ) → allHex t ≡ true → 10 ≤ length t → Parts t (numberOf t 0 (length t))
 parts-more t h q =
@@ -159,7 +173,7 @@ parts-more t h q =
     let b = operand-second t q in
     let n : length t ≡ 10 + (length t - 10) = omega arith in
     record {
-      sum = ap (numberOf t 0) n ∙ number-more t 0 (length t - 10) ∙ rw (a, b) (number-ten t);
+      sum = ap (numberOf t 0) n ∙ number-more t 0 (length t - 10) ∙ rw (a, b) (number-ten t 0);
       first = omega (arith, a, word-below t h 2 (omega arith));
       second = omega (arith, b, word-below t h 6 (omega arith));
     }

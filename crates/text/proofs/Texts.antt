@@ -1,7 +1,7 @@
 -- A whole text, one line at a time: what remains gives the same answer. Assumes nothing.
 use mathlib.Core.Path.{_≡_, refl, ap, _∙_, sym}
 use mathlib.Core.Bool.{Bool, true, false, true≢false}
-use mathlib.Core.List.{List, [], _∷_, map}
+use mathlib.Core.List.{List, [], _∷_}
 use mathlib.Core.Option.{Option, none, some}
 use Prim.Native.Nat.{ℕ, suc, _+_, _/_, _%_, _≤_, _<_}
 use native.Mathlib.Omega.{arith}
@@ -15,7 +15,7 @@ use Rattle.rules.specs.Frames as rules
 use Rattle.rules.specs.Frames.{Line}
 use Rattle.rules.specs.Text.{Split, split, lineOf, frameTable, lineTable, sizeTable, Script, frames, unread, frameBefore, scriptFrom, Listed, listed, unlisted, lineBefore, sizeAt, sizeOr, listFrom}
 use Rattle.text.specs.Shapes.{pick}
-use Rattle.text.specs.Lines.{codeOf, framed, frameReading, lined, sizedOr, lineReading, decoded, takenOf, Took}
+use Rattle.text.specs.Lines.{framed, frameReading, lined, sizedOr, lineReading, decoded, takenOf, Took}
 use Rattle.text.specs.Whole.{ofScript, scriptLeft, ofListed, sizeListing, lineThen}
 use Rattle.text.specs.declared.lines.Frame.{Frame}
 use Rattle.text.specs.declared.lines.Reading.{Reading}
@@ -167,29 +167,3 @@ sized-at room n i a b true e = go (leb n (room .size)) e
     go : (x : Bool) → pick x (Read n i) (Unread 1 i) ≡ Read a b → i ≡ b
     go true e = cc
     go false e = absurd (let z : _≡_ {A = ℕ} 0 1 = cc in omega arith)
-
--- ---- what goes on after the check: the lines of a script that is read are its frames
-
-not-read : {P : Type 0} {n j : ℕ} {fs : List rules.Frame} → unread n j ≡ frames fs → P
-not-read e = absurd (let z : _≡_ {A = ℕ} 0 1 = cc in omega arith)
-
-abbrev readings : List rules.Frame → List Reading
-readings fs = map (λ f. One (codeOf f)) fs
-
-frames-on : (i : ℕ) (o : Option rules.Frame) (r : Script) (es : List Reading) (fs : List rules.Frame) → ((gs : List rules.Frame) → r ≡ frames gs → es ≡ readings gs)
-    → frameBefore i o r ≡ frames fs → framed o ∷ es ≡ readings fs
-frames-on i none r es fs ih e = not-read e
-frames-on i (some f) (unread n j) es fs ih e = not-read e
-frames-on i (some f) (frames gs) es fs ih e =
-    let q : f ∷ gs ≡ fs = cc in
-    ap (λ (l : List Reading). One (codeOf f) ∷ l) (ih gs refl) ∙ ap readings q
-
-pub frames-are : (room : Room) (ls : List Split) (i : ℕ) (fs : List rules.Frame) → scriptFrom room i ls ≡ frames fs → map frameReading ls ≡ readings fs
-unfolding scriptFrom frameReading
-frames-are room [] i fs e = let q : [] ≡ fs = cc in ap readings q
-frames-are room (l ∷ ls) i fs e = go (eqb i (room .lines)) refl (λ gs x. frames-are room ls (suc i) gs x)
-  where
-    go : (b : Bool) → eqb i (room .lines) ≡ b → ((gs : List rules.Frame) → scriptFrom room (suc i) ls ≡ frames gs → map frameReading ls ≡ readings gs)
-        → map frameReading (l ∷ ls) ≡ readings fs
-    go true q ih = not-read (rw (q, scriptFrom) at e)
-    go false q ih = frames-on i (lineOf frameTable l) (scriptFrom room (suc i) ls) (map frameReading ls) fs ih (rw (q, scriptFrom) at e)

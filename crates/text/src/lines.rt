@@ -155,7 +155,7 @@ pub fn digits_one_by_one(s: &[u8], p: usize) -> Digits
     }
 }
 
-// The digits from p on: at once, if they are a whole line's and no other text's end is near; else one by one.
+// The digits from p on: at once where a whole line lies there and the text's end isn't near, else one by one.
 fn digits_from(s: &[u8], p: usize) -> Digits
     requires { ⌜ p ≤ length (now s) ⌝ }
     ensures { λ r. ⌜ DigitsFrom (now (s .entry)) p r ⌝ }
