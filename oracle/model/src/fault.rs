@@ -24,6 +24,8 @@ pub enum Fault {
     ListOrder,
     TornLineNext,
     UpperCase,
+    /// a step's refusal comes before that of a line behind it that can't be read
+    StepFirst,
     /// 0c, 0d and 0e take a need's handle
     NeedHandleFreed,
     /// 22 is given before 4 and 13
@@ -122,7 +124,7 @@ pub enum Fault {
 pub type Plant = Option<Fault>;
 
 /// All faults by the name that `--plant` takes.
-pub const FAULTS: [(&str, Fault); 64] = [
+pub const FAULTS: [(&str, Fault); 65] = [
     ("search-from-zero", Fault::SearchFromZero),
     ("run-in-gap", Fault::RunInGap),
     ("low-half", Fault::LowHalf),
@@ -141,6 +143,7 @@ pub const FAULTS: [(&str, Fault); 64] = [
     ("list-order", Fault::ListOrder),
     ("torn-line-next", Fault::TornLineNext),
     ("upper-case", Fault::UpperCase),
+    ("step-first", Fault::StepFirst),
     ("need-handle-freed", Fault::NeedHandleFreed),
     ("need-room-first", Fault::NeedRoomFirst),
     ("freed-need-makes-room", Fault::FreedNeedMakesRoom),

@@ -336,9 +336,21 @@ pub fn play_script(script: &Script, plant: Plant) -> (Session, Result<Vec<Line>,
     (session, lines)
 }
 
+/// "Text: the first line with 1 or 2, before any step"; by a planted fault behind the steps of the lines before it.
+fn read_first(text: &[u8], plant: Plant) -> Result<Script, Refusal> {
+    let read = read_script(text, plant);
+    if let (Err(refusal), Some(Fault::StepFirst)) = (&read, plant) {
+        let lines = text.split_inclusive(|b| *b == b'\n');
+        let before: Vec<&[u8]> = lines.take(refusal.line).collect();
+        let (_, steps) = play_script(&read_script(&before.concat(), plant)?, plant);
+        steps?;
+    }
+    read
+}
+
 /// The list of a script. `room` is the length of the lent memory: "17 comes last".
 pub fn translate_with(script: &[u8], room: usize, plant: Plant) -> Result<Vec<u8>, Refusal> {
-    let (session, lines) = play_script(&read_script(script, plant)?, plant);
+    let (session, lines) = play_script(&read_first(script, plant)?, plant);
     let list = write_list(&lines?, session.scopes.size());
     match list.len() > room {
         true => refused(17, 0),

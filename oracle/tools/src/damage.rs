@@ -1,4 +1,5 @@
-//! Damaged texts: a good script with a few bytes changed, titles that are none, and texts about the limits of lines and bytes.
+//! Damaged texts: a good script with a few bytes changed, titles that are none, and texts about the limits of lines and bytes; and every short text
+//! of some lines, most of which are refused or can't be read.
 
 use crate::random;
 use crate::rng::Rng;
@@ -16,6 +17,31 @@ const TITLES: [&[u8]; 8] = [
     b"f0\n",
     b"f000020000\n",
     b"f00002",
+];
+
+/// Frames that no script has a scope, a handle, a name or a need for.
+const REFUSED: [&[u8]; 5] = [
+    b"02ffff\n",
+    b"0cffff\n",
+    b"10ffff00ff\n",
+    b"12ffff\n",
+    b"25ffff\n",
+];
+
+/// Lines that are taken or refused, and lines that can't be read: which of two comes first?
+const LINES: [&[u8]; 12] = [
+    b"06\n",
+    b"0c0000\n",
+    b"1000000007\n",
+    b"05\n",
+    b"200000\n",
+    b"f00002\n",
+    b"0C0000\n",
+    b"0c000\n",
+    b"0c00000000\n",
+    b"zz\n",
+    b"\n",
+    b"06",
 ];
 
 fn place(rng: &mut Rng, text: &[u8]) -> usize {
@@ -42,6 +68,28 @@ pub fn damage_once(rng: &mut Rng, text: &mut Vec<u8>) {
         _ => {
             let line = text[at..].to_vec();
             text.extend_from_slice(&line[..line.len().min(9)]);
+        }
+    }
+}
+
+/// A frame that is refused, before one of the lines or behind the last.
+fn refuse_one(rng: &mut Rng, text: &mut Vec<u8>) {
+    let lines: Vec<&[u8]> = text.split_inclusive(|b| *b == b'\n').collect();
+    let at = lines[..rng.below(lines.len() + 1)].concat().len();
+    let frame = REFUSED[rng.below(REFUSED.len())];
+    text.splice(at..at, frame.iter().copied());
+}
+
+/// Every text of up to so many of `LINES`, as long as they are wanted.
+pub fn every(longest: usize, offer: &mut dyn FnMut(Vec<u8>) -> bool) {
+    let mut texts = vec![Vec::new()];
+    for _ in 0..longest {
+        let longer = |text: &Vec<u8>| LINES.map(|line| [text, line].concat());
+        texts = texts.iter().flat_map(longer).collect();
+        for text in &texts {
+            if !offer(text.clone()) {
+                return;
+            }
         }
     }
 }
@@ -84,6 +132,9 @@ pub fn text(rng: &mut Rng) -> Vec<u8> {
     };
     if rng.once_in(8) {
         entitle(rng, &mut text);
+    }
+    if rng.once_in(4) {
+        refuse_one(rng, &mut text);
     }
     for _ in 0..rng.below(4) {
         damage_once(rng, &mut text);

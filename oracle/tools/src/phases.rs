@@ -100,6 +100,13 @@ pub fn sessions_of_samples(comparison: &mut Comparison) {
     comparison.settle();
 }
 
+/// Every text of up to so many lines: by the model only, likewise.
+pub fn every_text(comparison: &mut Comparison, longest: usize) {
+    by_model(comparison, |comparison| {
+        damage::every(longest, &mut |text| comparison.offer(text));
+    });
+}
+
 /// Damaged texts: by the model only, since the original reads none.
 pub fn damaged_texts(comparison: &mut Comparison, count: u64, seed: u64) {
     let mut rng = Rng::new(seed);

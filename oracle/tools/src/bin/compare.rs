@@ -29,6 +29,7 @@ struct Plan {
     random_needs: u64,
     random_samples: u64,
     random_editions: u64,
+    texts: usize,
     damaged: u64,
     bare: u64,
     bare_every: usize,
@@ -79,6 +80,7 @@ fn plan(args: &Args) -> Plan {
         random_needs: args.number("--random-needs", random / 3),
         random_samples: args.number("--random-samples", random / 3),
         random_editions: args.number("--random-editions", random / 3),
+        texts: args.number("--texts", every - 1) as usize,
         damaged: args.number("--damaged", few),
         bare: args.number("--bare", 20_000),
         bare_every: args.number("--bare-every", 2) as usize,
@@ -233,6 +235,12 @@ fn scripts(plan: &Plan) -> usize {
     }
     second_edition(&mut comparison, plan);
     if plan.linked || plan.program.is_some() || plan.plant.is_some() {
+        phases::every_text(&mut comparison, plan.texts);
+        println!(
+            "every text of up to {} lines, most of them refused or malformed, by the model only",
+            plan.texts
+        );
+        print_tally(&mut comparison);
         phases::damaged_texts(&mut comparison, plan.damaged, plan.seed);
         println!("damaged texts, by the model only");
         println!("{}", comparison.tally);

@@ -39,7 +39,8 @@ fn found(fault: Option<Fault>, against: Against) -> Option<String> {
             phase(&mut comparison);
         }
     }
-    let by_model: [fn(&mut Comparison); 5] = [
+    let by_model: [fn(&mut Comparison); 6] = [
+        |c| phases::every_text(c, 3),
         |c| phases::every_tight_script(c, &alphabet(), 3),
         |c| phases::every_tight_script(c, &wide_alphabet(), 3),
         phases::sessions_of_edition_2,
