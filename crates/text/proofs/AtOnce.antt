@@ -6,15 +6,11 @@ use native.Mathlib.Omega.{arith}
 use lib.ListN.{length, getD}
 use Rattle.rules.specs.Text.{value}
 use Rattle.rules.proofs.Tables.{by-eqb}
-use Rattle.text.specs.Lines.{numberOf, Packed, FourDigits, DigitsFrom, Joined}
+use Rattle.text.specs.Lines.{numberOf, Packed, FourDigits, WordMakes, DigitsFrom, Joined}
 use Rattle.text.specs.declared.lines.Digits.{Digits}
-use Rattle.text.proofs.Numbers.{code, number-two, number-six, number-ten}
+use Rattle.text.proofs.Numbers.{valueAt, code, number-two, number-six, number-ten}
 
 -- ---- words
-
--- v is what the bytes of a word make as digits, where it is small
-abbrev Reads : ℕ → ℕ → Type 0
-Reads w v = (a b c d : ℕ) → Packed a b c d w → v < 0x10000 → FourDigits a b c d v
 
 -- the first two bytes, with two digits 0 before them; the last two bytes of one word, and the first two of the next
 abbrev opcodeIn : ℕ → ℕ
@@ -40,10 +36,6 @@ word-between a b c d e f g h w v p q = record {
 }
 
 module _ (s : List ℕ) (p : ℕ) where
-  -- the value of the byte that is k further on
-  abbrev at : ℕ → ℕ
-  at k = value (getD s (p + k) 0)
-
   -- ---- digit by digit
 
   -- the first n bytes are digits
@@ -53,7 +45,7 @@ module _ (s : List ℕ) (p : ℕ) where
   none : Hex 0
   none k l m = absurd (omega (arith, l, m))
 
-  one-more : (n : ℕ) → Hex n → at n < 16 → Hex (n + 1)
+  one-more : (n : ℕ) → Hex n → valueAt s p n < 16 → Hex (n + 1)
   one-more n h d k l m = by-eqb k (p + n) (λ e. subst (λ (x : ℕ). value (getD s x 0) < 16) (sym e) d) (λ e. h k l (omega (arith, m, e)))
 
   -- ---- the line
@@ -78,7 +70,7 @@ module _ (s : List ℕ) (p : ℕ) where
 
   -- the words of the first eleven bytes, and what the digits in them make
   module _ (room : p + 11 ≤ length s) (d : Digits) (below : d .number < 0x10000000000)
-      (front : ℕ) (pf : Packed (getD s p 0) (getD s (p + 1) 0) (getD s (p + 2) 0) (getD s (p + 3) 0) front) (o : ℕ) (ho : Reads (opcodeIn front) o) where
+      (front : ℕ) (pf : Packed (getD s p 0) (getD s (p + 1) 0) (getD s (p + 2) 0) (getD s (p + 3) 0) front) (o : ℕ) (ho : WordMakes (opcodeIn front) o) where
     module _ (small : o < 0x10000) where
       op : FourDigits 48 48 (getD s p 0) (getD s (p + 1) 0) o
       op = ho 48 48 (getD s p 0) (getD s (p + 1) 0) (opcode-word _ _ _ _ front pf) small
@@ -93,7 +85,7 @@ module _ (s : List ℕ) (p : ℕ) where
     pub two-digits : Joined (p + 2) o 0 0 d → front / 0x10000 % 0x100 ≡ 10 → DigitsFrom s p d
     two-digits j lf = whole 2 d (j .ends) (omega arith) (two (j .opcode-is)) (third-byte _ _ _ _ front pf lf) (j .makes ∙ omega (arith, coded (j .opcode-is), number-two s p)) below
 
-    module _ (back : ℕ) (pb : Packed (getD s (p + 4) 0) (getD s (p + 5) 0) (getD s (p + 6) 0) (getD s (p + 7) 0) back) (a : ℕ) (ha : Reads (between front back) a) where
+    module _ (back : ℕ) (pb : Packed (getD s (p + 4) 0) (getD s (p + 5) 0) (getD s (p + 6) 0) (getD s (p + 7) 0) back) (a : ℕ) (ha : WordMakes (between front back) a) where
       module _ (small : o < 0x10000) (fits : a < 0x10000) where
         fa : FourDigits (getD s (p + 2) 0) (getD s (p + 3) 0) (getD s (p + 4) 0) (getD s (p + 5) 0) a
         fa = ha _ _ _ _ (word-between _ _ _ _ _ _ _ _ front back pf pb) fits
@@ -106,7 +98,7 @@ module _ (s : List ℕ) (p : ℕ) where
           let f = fa (j .opcode-is) (j .first-is) in
           whole 6 d (j .ends) (omega arith) (six (j .opcode-is) (j .first-is)) (third-byte _ _ _ _ back pb lf) (j .makes ∙ omega (arith, coded (j .opcode-is), f .number, number-six s p)) below
 
-      module _ (last : ℕ) (pl : Packed (getD s (p + 8) 0) (getD s (p + 9) 0) (getD s (p + 10) 0) 0 last) (b : ℕ) (hb : Reads (between back last) b) where
+      module _ (last : ℕ) (pl : Packed (getD s (p + 8) 0) (getD s (p + 9) 0) (getD s (p + 10) 0) 0 last) (b : ℕ) (hb : WordMakes (between back last) b) where
         pub ten-digits : Joined (p + 10) o a b d → last / 0x10000 ≡ 10 → DigitsFrom s p d
         ten-digits j lf =
             let f = fa (j .opcode-is) (j .first-is) in

@@ -122,17 +122,17 @@ ofParts o a b = o * 0x100000000 + a * 0x10000 + b
 
 -- from p on: an opcode, and two operands
 module _ (s : List ℕ) (p : ℕ) where
-  abbrev at-place : ℕ → ℕ
-  at-place k = value (getD s (p + k) 0)
+  abbrev pub valueAt : ℕ → ℕ
+  valueAt k = value (getD s (p + k) 0)
 
   abbrev pub code : ℕ
-  code = at-place 0 * 16 + at-place 1
+  code = valueAt 0 * 16 + valueAt 1
 
   abbrev pub first : ℕ
-  first = at-place 2 * 4096 + at-place 3 * 256 + at-place 4 * 16 + at-place 5
+  first = valueAt 2 * 4096 + valueAt 3 * 256 + valueAt 4 * 16 + valueAt 5
 
   abbrev pub second : ℕ
-  second = at-place 6 * 4096 + at-place 7 * 256 + at-place 8 * 16 + at-place 9
+  second = valueAt 6 * 4096 + valueAt 7 * 256 + valueAt 8 * 16 + valueAt 9
 
   pub number-two : numberOf s p 2 ≡ ofParts code 0 0
   unfolding numberOf weight

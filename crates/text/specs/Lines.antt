@@ -54,6 +54,10 @@ pub record FourDigits (a b c d v : ℕ) : Type 0 where
   pub fourth : value d < 16
   pub number : v ≡ value a * 4096 + value b * 256 + value c * 16 + value d
 
+-- v is the number that the bytes of the word w make as digits, if it is one of four digits
+abbrev pub WordMakes : ℕ → ℕ → Type 0
+WordMakes w v = (a b c d : ℕ) → Packed a b c d w → v < 0x10000 → FourDigits a b c d v
+
 -- what digit k of ten counts for; 0 past them
 unfoldable pub weight : ℕ → ℕ
 weight zero = 0x1000000000

@@ -1,10 +1,10 @@
 // Digits of "lowercase hex": one, and four at once.
 ghost use mathlib.Core.Path.{_≡_};
 ghost use mathlib.Core.Bool.{_&&_};
-ghost use Prim.Native.Nat.{ℕ, _<_};
+ghost use Prim.Native.Nat.{_<_};
 ghost use lib.Dec.{ltb, leb};
 ghost use Rattle.rules.specs.Text.{value, digit};
-ghost use Rattle.text.specs.Lines.{Packed, FourDigits};
+ghost use Rattle.text.specs.Lines.{Packed, FourDigits, WordMakes};
 
 // Above the digits 0 to 9 and below the letters.
 fn is_between(c: u8) -> bool
@@ -74,7 +74,7 @@ pub fn word_of(a: u8, b: u8, c: u8, d: u8) -> u64
 // digit, another comes out.
 pub fn four_digits(bytes: u64) -> u64
     requires { ⌜ bytes < 0x100000000 ⌝ }
-    ensures { λ v. ⌜ ((a b c d : ℕ) → Packed a b c d bytes → v < 0x10000 → FourDigits a b c d v) ⌝ }
+    ensures { λ v. ⌜ WordMakes bytes v ⌝ }
 {
     let values = (bytes + ((bytes >> 6) & 0x0101_0101) * 9) & 0x0f0f_0f0f;
     let letters = ((values + 0x0606_0606) >> 4) & 0x0101_0101;
