@@ -23,7 +23,7 @@ pub record Room : Type 0 where
 -- The sizes by name. Each is a constant of the same name in the code, src/lib.rt: a size is changed in these two places.
 -- "1,024 slots, addresses 0..1023, in 8 segments of 128."
 abbrev pub SEGMENTS : ℕ
-SEGMENTS = 8
+SEGMENTS = 32
 
 abbrev pub SLOTS : ℕ
 SLOTS = 128 * SEGMENTS
@@ -64,7 +64,7 @@ abbrev pub LINES : ℕ
 LINES = 2048
 
 abbrev pub HANDLES : ℕ
-HANDLES = 2048
+HANDLES = 8192
 
 -- "Names and values are 16 bits.": each is below this, for an operand has four digits (Text)
 abbrev pub WORD : ℕ
@@ -76,7 +76,7 @@ NEEDS = 64
 
 -- "Text buffers: 32,768 bytes; a program refuses longer input by 17, whatever it holds."
 abbrev pub TEXT : ℕ
-TEXT = 32768
+TEXT = 57344
 
 -- the page that a list is written on before it is handed out
 abbrev pub PAGE : ℕ
