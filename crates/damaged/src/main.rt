@@ -14,10 +14,14 @@ use scopes::names::ADDRESS_PART;
 use scopes::names::NAME_PART;
 use scopes::names::SCOPE_PART;
 
-// The ends of lists: root's, that of scope 2, the dangling one. Cells of `prev` are CELLS behind those of `next`.
+// The ends of lists: root's, those of scopes 1, 2 and 9, the dangling one. Cells of `prev` are CELLS behind those of `next`.
 const ROOT: usize = SLOTS;
 
+const FIRST: usize = SLOTS + 1;
+
 const SECOND: usize = SLOTS + 2;
+
+const NINTH: usize = SLOTS + 9;
 
 const LOOSE: usize = SLOTS + DANGLING;
 
@@ -25,7 +29,11 @@ const TO_ROOT: u16 = ROOT as u16;
 
 const TO_SECOND: u16 = SECOND as u16;
 
+const TO_NINTH: u16 = NINTH as u16;
+
 const TO_LOOSE: u16 = LOOSE as u16;
+
+const TO_NO_CELL: u16 = CELLS as u16;
 
 fn say(case: &[u8], s: Scopes) {
     io::write_all(1, case);
@@ -338,19 +346,19 @@ fn chain(case: &[u8], first: u8) {
 // ---- 01's sentence, part by part
 
 fn slots() {
-    segments(b"L 8", 8);
-    segments(b"L 9", 9);
+    segments(b"L 32", 32);
+    segments(b"L 33", 33);
     segments(b"L 0, slot 0 is occupied", 0);
     segments(b"L 18446744073709551615", 18446744073709551615);
-    head(b"H 7", 7);
-    head(b"H 8", 8);
+    head(b"H 31", 31);
+    head(b"H 32", 32);
     past_segment(b"slot 128 is occupied, L 2", 2, 129);
     past_segment(b"slot 128 is occupied, L 1", 1, 129);
     past_segment(b"slot 128 is occupied, size 128", 2, 128);
     half(b"slot 4 is occupied and on no list", 0, 23);
     half(
-        b"slot 1023 is occupied and on no list",
-        15,
+        b"slot 4095 is occupied and on no list",
+        63,
         9223372036854775808,
     );
     half(b"slot 2 is on a list and clear", 0, 3);
@@ -358,22 +366,22 @@ fn slots() {
 }
 
 fn lists() {
-    next(b"next of 0 is no cell", 0, 1089);
+    next(b"next of 0 is no cell", 0, TO_NO_CELL);
     next(b"next of 0 is 65535", 0, 65535);
-    next(b"next of 0 is an end of another list", 0, 1026);
+    next(b"next of 0 is an end of another list", 0, TO_SECOND);
     next(b"next of 0 is on another list", 0, 1);
-    next(b"next of 1 passes over 2", 1, 1026);
+    next(b"next of 1 passes over 2", 1, TO_SECOND);
     next(b"next of 2 is 1 again", 2, 1);
     next(b"next of 2 is itself", 2, 2);
-    prev(b"prev of 2 is no cell", 2, 1089);
+    prev(b"prev of 2 is no cell", 2, TO_NO_CELL);
     prev(b"prev of 2 is itself", 2, 2);
-    prev(b"prev of 0 is an end of another list", 0, 1026);
-    prev(b"last of scope 2 is 1", 1026, 1);
-    next(b"first of scope 2 is 2", 1026, 2);
-    next(b"first of scope 1 is 0", 1025, 0);
-    next(b"first of scope 1 is the end of scope 9", 1025, 1033);
-    prev(b"last of scope 9 is 9", 1033, 9);
-    next(b"first of the dangling list is 0", 1088, 0);
+    prev(b"prev of 0 is an end of another list", 0, TO_SECOND);
+    prev(b"last of scope 2 is 1", SECOND, 1);
+    next(b"first of scope 2 is 2", SECOND, 2);
+    next(b"first of scope 1 is 0", FIRST, 0);
+    next(b"first of scope 1 is the end of scope 9", FIRST, TO_NINTH);
+    prev(b"last of scope 9 is 9", NINTH, 9);
+    next(b"first of the dangling list is 0", LOOSE, 0);
     next(b"slot 9 is on no list and has a next", 9, 10);
     prev(b"slot 9 is on no list and has a prev", 9, 0);
     apart(b"slots 8 and 9 lead to each other alone");
@@ -446,8 +454,8 @@ fn names() {
 fn sizes() {
     size(b"size 3, below the dangling slot 3", 3);
     size(b"size 2, slot 2 is occupied", 2);
-    size(b"size 1024", 1024);
-    size(b"size 1025", 1025);
+    size(b"size 4096", 4096);
+    size(b"size 4097", 4097);
     counter(b"counter 4294967295", 4294967295);
 }
 

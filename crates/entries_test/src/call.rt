@@ -10,6 +10,7 @@ use needs::Address;
 use needs::AddressKind;
 use needs::Need;
 use needs::Run;
+use rules::SEGMENTS;
 use scopes::Outcome;
 use scopes::ScopeId;
 use scopes::Scopes;
@@ -17,7 +18,7 @@ use slots::SlotAddress;
 
 // The state's L stands at the end of a line where it isn't what a sound state has.
 pub fn state(s: Scopes) -> Scopes {
-    if 8 < s.segments {
+    if SEGMENTS < s.segments {
         show::number(b", L ", s.segments as u64);
     }
     show::text(b"\n");

@@ -94,11 +94,11 @@ fn by_turns(s: Scopes) {
     t = alloc(t, Place::Lowest);
 }
 
-// Slots 0 and 1,023 are clear. Past slot 0 the head finds none; the lowest clear slot is missing only where all are held.
+// Slots 0 and 4,095 are clear. Past slot 0 the head finds none; the lowest clear slot is missing only where all are held.
 fn full() {
-    let mut t = call::linear(scopes::fresh(), 1024);
+    let mut t = call::linear(scopes::fresh(), 4096);
     t = call::free(t, 0, AddressKind::Dangling, false);
-    t = call::free(t, 1023, AddressKind::Dangling, false);
+    t = call::free(t, 4095, AddressKind::Dangling, false);
     t = alloc(t, Place::ByHead);
     t = alloc(t, Place::ByHead);
     t = alloc(t, Place::Lowest);
@@ -106,11 +106,11 @@ fn full() {
     t = alloc_in(t, call::id(1, 1), Place::Lowest);
 }
 
-// Slot 2 is held, and so is 131, the second of a run from 130 on; there is no slot 1,024.
+// Slot 2 is held, and so is 131, the second of a run from 130 on; there is no slot 4,096.
 fn no_room(s: Scopes) {
     let mut t = alloc(s, Place::ExactlyAt(SlotAddress(2)));
     t = linear(s, 2, Place::ExactlyAt(SlotAddress(130)));
-    t = alloc(s, Place::ExactlyAt(SlotAddress(1024)));
+    t = alloc(s, Place::ExactlyAt(SlotAddress(4096)));
 }
 
 pub fn all() {

@@ -16,7 +16,7 @@ fn placed(s: Scopes) -> Scopes {
     t = call::alloc_in(t, call::id(0, 0));
     t = call::linear(t, 3);
     t = call::linear(t, 0);
-    call::linear(t, 1025)
+    call::linear(t, 4097)
 }
 
 fn named(s: Scopes) -> Scopes {
@@ -74,10 +74,10 @@ fn closed(s: Scopes) -> Scopes {
     call::drain_four(t)
 }
 
-// L is 9, which no sound state has.
+// L is 33, which no sound state has.
 fn unsound() -> Scopes {
     let mut s = scopes::fresh();
-    s.segments = 9;
+    s.segments = 33;
     s
 }
 

@@ -86,8 +86,8 @@ pub fn with_state(s: Scopes) {
     t = call::free_need(t, Need::Address(at(0, AddressKind::Local)));
     t = call::free_need(t, Need::Address(at(0, AddressKind::Assigned)));
     t = call::free_need(t, Need::Defer(root));
-    t = call::linear(t, 1024);
+    t = call::linear(t, 4096);
     t = call::alloc(t);
-    t = call::free_run(t, 0, 1024, AddressKind::Dangling, true);
+    t = call::free_run(t, 0, 4096, AddressKind::Dangling, true);
     t = call::drain_four(t);
 }

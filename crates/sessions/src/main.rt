@@ -8,7 +8,7 @@ use rules::SLOTS;
 use rules::TEXT;
 ghost use Prim.Native.Nat.{_≤_};
 ghost use lib.ListN.{length};
-ghost use Rattle.rules.specs.Sizes.{SLOTS};
+ghost use Rattle.rules.specs.Sizes.{SLOTS, TEXT};
 
 // Lends the first n bytes of cells.
 fn lend(script: &[u8], cells: &mut [u8], n: usize, out: &mut [u8]) -> u64
@@ -105,8 +105,65 @@ fn runs() {
     long(b"R1   ", b"", 129, b"0c0005\n0c0080\n06\n", 129);
     long(b"R2   ", b"", 127, b"080002\n", 129);
     case(b"R3   ", b"080400\n", 1024, 1024);
-    case(b"R3,7 ", b"080400\n06\n", 1024, 1024);
-    case(b"R4   ", b"080401\n", 1024, 1024);
+    case(b"R3+  ", b"080400\n06\n", 1024, 1025);
+    case(b"R4   ", b"080401\n", 1024, 1025);
+}
+
+// W-206: every slot, and one more; every handle, and one more. Of a run that is too long for both, 16 comes first.
+fn room() {
+    case(b"W1   ", b"081000\n100fff00aa\n110fff\n", 1024, SLOTS);
+    case(b"W1+  ", b"081000\n06\n", 1024, SLOTS);
+    case(b"W2   ", b"081001\n", 1024, SLOTS);
+    case(b"W3   ", b"082000\n", 1024, SLOTS);
+    case(b"W4   ", b"082001\n", 1024, SLOTS);
+    case(
+        b"W5   ",
+        b"01\n081000\n020001\n080fff\n06\n101fff00aa\n111fff\n",
+        1024,
+        SLOTS,
+    );
+    case(
+        b"W5+  ",
+        b"01\n081000\n020001\n080fff\n06\n0c1fff\n06\n",
+        1024,
+        SLOTS,
+    );
+}
+
+// The list's first n bytes are lent.
+fn lend_list(script: &[u8], list: &mut [u8], n: usize) -> u64
+    requires { ⌜ n ≤ length (now list) ⌝ }
+{
+    translate::translate(script, &mut list[..n])
+}
+
+// The script's first `end` bytes, translated to a list of so many bytes.
+fn lent(label: &[u8], script: &[u8], end: usize, bytes: usize)
+    requires { ⌜ (end ≤ length (now script)) × (bytes ≤ TEXT) ⌝ }
+{
+    let mut list = [0u8; TEXT];
+    io::write_all(1, label);
+    let r = lend_list(&script[..end], &mut list, bytes);
+    say(r, &list, 14);
+    io::write_all(1, b"\n");
+}
+
+// All handles are drained, by two drains of every slot, and n lines show a value. With 2,041 of them the script has as many lines as it may, and
+// its list 55,267 bytes; we know of none that is longer.
+fn longest(label: &[u8], n: usize, bytes: usize)
+    requires { ⌜ bytes ≤ TEXT ⌝ }
+{
+    let mut script = [0u8; 24576];
+    let first = put(&mut script, 0, b"01\n081000\n020001\n0f\n081000\n");
+    let w = put_lines(&mut script, first, b"101fff00aa\n", n);
+    let end = put(&mut script, w, b"05\n0f\n");
+    lent(label, &script, end, bytes);
+}
+
+fn longest_lists() {
+    longest(b"W6   ", 2041, 55267);
+    longest(b"W6-  ", 2041, 55266);
+    longest(b"W6+  ", 2042, TEXT);
 }
 
 // Slots that another allocation had, or could be taken to have.
@@ -231,18 +288,18 @@ fn needs_refused() {
 
 // On 23 of a deferred need 4, 16, 7: no slot left; no handle left; and neither, in a scope that has closed.
 fn needs_full() {
-    case(b"N7   ", b"080400\n200000\n230000\n", 1024, 1024);
+    case(b"N7   ", b"081000\n200000\n230000\n", 1024, SLOTS);
     case(
         b"N16  ",
-        b"01\n080400\n020001\n01\n080400\n020002\n200000\n230000\n",
+        b"01\n081000\n020001\n01\n081000\n020002\n200000\n230000\n",
         1024,
-        1024,
+        SLOTS,
     );
     case(
         b"N4+  ",
-        b"01\n200001\n020001\n01\n080400\n020002\n080400\n230000\n",
+        b"01\n200001\n020001\n01\n081000\n020002\n081000\n230000\n",
         1024,
-        1024,
+        SLOTS,
     );
 }
 
@@ -267,18 +324,18 @@ fn needs_many() {
 fn editions() {
     long(b"E1   ", b"f00002\n", 129, b"0c0005\n0c0080\n06\n", 129);
     case(b"E2   ", b"f00002\n", 1024, 0);
-    case(b"E3   ", b"080400\n0c0005\n0c03ff\n06\n06\n", 1024, 1024);
+    case(b"E3   ", b"081000\n0c0005\n0c0fff\n06\n06\n", 1024, SLOTS);
     case(
         b"E4   ",
-        b"f00002\n080400\n0c0005\n0c03ff\n06\n06\n",
+        b"f00002\n081000\n0c0005\n0c0fff\n06\n06\n",
         1024,
-        1024,
+        SLOTS,
     );
     case(
         b"E5   ",
-        b"f00002\n080400\n0c0005\n0c03ff\n06\n06\n06\n",
+        b"f00002\n081000\n0c0005\n0c0fff\n06\n06\n06\n",
         1024,
-        1024,
+        SLOTS,
     );
     case(
         b"E6   ",
@@ -312,6 +369,8 @@ fn main() {
     a_to_f();
     g_to_k();
     runs();
+    room();
+    longest_lists();
     head_above();
     slots();
     names();

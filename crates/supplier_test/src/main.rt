@@ -31,11 +31,11 @@ fn part(label: &[u8], script: &[u8], s: usize, list: &[u8], l: usize)
 
 // What our rules refuse, sizes, and each later line's own address.
 fn readings() {
-    case(b"A94   ", b"080401\n", b"080000\n900400\n");
+    case(b"A94   ", b"081001\n", b"080000\n901000\n");
     case(
         b"room  ",
-        b"080400\n0c0000\n0c0001\n080002\n",
-        b"080000\n0c\n0c\n080000\n900400\n",
+        b"081000\n0c0000\n0c0001\n080002\n",
+        b"080000\n0c\n0c\n080000\n901000\n",
     );
     case(b"A95   ", b"06\n", b"060001\n900001\n");
     case(b"A96   ", b"06\n", b"060000\n900400\n");
@@ -139,14 +139,14 @@ fn many(label: &[u8], n: usize) {
     part(label, &script, s, &list, l);
 }
 
-// Every slot, from the last one down; the line with address `twice` shows the one before it again.
+// The last 1,024 slots, from the last one down; the line with address `twice` shows the one before it again.
 fn put_down(list: &mut [u8], twice: u16) -> usize
     requires { ⌜ 7175 ≤ length (now list) ⌝ }
     ensures { λ r. ⌜ (r ≤ length (now (list .exit))) × (length (now (list .exit)) ≡ length (now (list .entry))) ⌝ }
 {
     let mut w: usize = 0;
-    let mut a: u16 = 1024;
-    while a > 0 {
+    let mut a: u16 = 4096;
+    while a > 3072 {
         a -= 1;
         let mut shown = a;
         if a == twice {
@@ -154,7 +154,7 @@ fn put_down(list: &mut [u8], twice: u16) -> usize
         }
         w = put_line(list, w, 0x06, 1, shown, 0);
     }
-    put(list, w, b"900400\n")
+    put(list, w, b"901000\n")
 }
 
 fn down(label: &[u8], twice: u16) {
@@ -171,6 +171,6 @@ fn main() {
     others();
     many(b"2048  ", 2048);
     many(b"2049  ", 2049);
-    down(b"down  ", 1024);
-    down(b"twice ", 512);
+    down(b"down  ", 0);
+    down(b"twice ", 3584);
 }

@@ -1,16 +1,16 @@
 -- The loop over the frames: with i of them done, what was written and what remains give the whole. Assumes nothing.
 use mathlib.Core.Path.{_≡_, refl, sym, ap, subst, _∙_, fun-ext}
-use mathlib.Core.Bool.{Bool, false}
+use mathlib.Core.Bool.{Bool, true, false}
 use mathlib.Core.Option.{Option, none, some}
 use mathlib.Core.List.{List, [], _∷_, _++_, append-assoc}
 use Prim.Native.Nat.{ℕ, zero, suc, _+_, _*_, _-_, _≤_, _<_}
 use native.Mathlib.Omega.{arith}
 use native.Mathlib.Numerals.{add-one}
 use borrow.Author.Tests.{ne-eqb}
-use lib.ListN.{length, getD, take, drop, replicate, length-append, length-replicate}
+use lib.ListN.{length, getD, set, take, drop, replicate, length-append, length-replicate, length-set}
 use lib.Seq.{take-at}
 use Rattle.rules.specs.Notation.{given, refused}
-use Rattle.rules.specs.Sizes.{base, NEEDS, SLOTS, PAGE, HANDLES, LINES}
+use Rattle.rules.specs.Sizes.{base, BINDINGS, HALVES, HANDLES, LINES, LINKS, LISTS, NEEDS, PAGE, SCOPES, SLOTS}
 use Rattle.rules.specs.Slots.{Placement, Place, placing, freshSlots}
 use Rattle.rules.specs.Scopes as rule
 use Rattle.rules.specs.Frames.{State, start, Frame, Line, shows, step, Step, Outcome, accepted, refusedAt, before, onward, steps}
@@ -27,7 +27,10 @@ use Rattle.rules.proofs.Editions.{placing-fair-sound}
 use Rattle.rules.proofs.Lengths.{line-length}
 use Rattle.rules.proofs.Pages.{owing, pays, linesLength}
 use Rattle.scopes.specs.View.{view}
-use Rattle.scopes.specs.Lent.{numbersOf, made, Whole}
+use Rattle.links.specs.Links.{Held}
+use Rattle.scopes.specs.Lent.{made, Whole}
+use Rattle.scopes.specs.Sound.{Sized}
+use Rattle.scopes.proofs.Start.{freshState, fresh-view, fresh-sound}
 use Rattle.scopes.specs.declared.Numbers.{Numbers}
 use Rattle.scopes.specs.declared.Scopes.{Scopes}
 use Rattle.text.specs.Shapes.{shapeOf}
@@ -50,7 +53,7 @@ use Rattle.handles.specs.NeedTable.{rememberedAt, Needing, table, stateWith}
 use Rattle.frames.specs.Steps.{stepped, Few, Reached}
 use Rattle.frames.specs.Needing.{StandsWith, WorksWith}
 use Rattle.frames.proofs.Beside.{stands-sound, sound-stands}
-use Rattle.translate.specs.Whole.{frameIn, linesOf, linesText, onwardOf, stepsAt, walkFrom, stoppedAt, Begun, walked, Ends, listed, refused as told}
+use Rattle.translate.specs.Whole.{frameIn, linesOf, linesText, onwardOf, stepsAt, walkFrom, stoppedAt, longestOf, Begun, walked, Ends, listed, refused as told, EndsOn, ends, outgrown}
 use Rattle.frames.specs.declared.steps.Adds.{Adds}
 use Rattle.frames.specs.declared.steps.Adds.the-variants.{Nothing, Slot, NoSlot, Number, Store, Load, Drained, Refused}
 use Rattle.translate.specs.declared.whole.Onward.the-variants.{Go, Stop}
@@ -146,6 +149,7 @@ pub record Going (pl : ℕ → Place) (o : Outcome) (script page₀ : List ℕ) 
   pub at : w ≡ length (linesText done)
   pub written : page ≡ over page₀ 0 (linesText done)
   pub owed : w + 4 * owing base (view s) ≤ 11 * i + 4 * handed
+  pub room : longestOf i handed ≤ length page₀
   pub drained-length : length drained ≡ SLOTS
   pub page-length : length page ≡ length page₀
 
@@ -193,7 +197,20 @@ title-bytes zero l = let e : length (linesText []) ≡ 0 = refl in omega (arith,
 title-bytes (suc zero) l = omega (arith, lines-length (shows 0xf0 (2 ∷ []) ∷ []), line-length (shows 0xf0 (2 ∷ [])))
 title-bytes (suc (suc n)) l = absurd (omega arith)
 
-module _ (pl : ℕ → Place) (script page : List ℕ) (n w : ℕ) (b : Begun script page n w) where
+fresh-sized : (links : List ℕ) → length links ≡ LINKS → Sized (freshState links)
+fresh-sized links l =
+    record {
+      halves = length-replicate {A = ℕ} HALVES 0;
+      links = l;
+      owner = length-replicate {A = ℕ} SLOTS LISTS;
+      live = length-set (replicate SCOPES false) 0 true ∙ length-replicate SCOPES false;
+      dangled = length-replicate SCOPES false;
+      parent = length-replicate {A = ℕ} SCOPES SCOPES;
+      number = length-replicate {A = ℕ} SCOPES 0;
+      bindings = length-replicate {A = ℕ} BINDINGS 0;
+    }
+
+module _ (pl : ℕ → Place) (script page : List ℕ) (n w : ℕ) (enough : longestOf 1 0 ≤ length page) (b : Begun script page n w) where
   abbrev whole : Outcome
   whole = walked pl n script
 
@@ -215,16 +232,14 @@ module _ (pl : ℕ → Place) (script page : List ℕ) (n w : ℕ) (b : Begun sc
         at = b .at;
         written = b .written;
         owed = omega (arith, o, b .at, title-bytes n (t .most));
+        room = omega (arith, t .most, enough);
         drained-length = length-replicate {A = ℕ} SLOTS 0;
         page-length = refl;
       }
 
-  -- the same state, made of its parts
-  pub going-fresh : (s : Scopes) → view s ≡ rule.freshScopes → Whole s → (m : Numbers) → m ≡ numbersOf s
-      → Going pl whole script page (made (s .halves) (s .links) (s .owner) (s .live) (s .dangled) (s .parent) (s .number) (s .bindings) m) (replicate HANDLES 0) (replicate SLOTS 0) (replicate SLOTS 0) 0 none-yet (7 * n) n w page
-  going-fresh s v h m e =
-      subst (λ (x : Numbers). Going pl whole script page (made (s .halves) (s .links) (s .owner) (s .live) (s .dangled) (s .parent) (s .number) (s .bindings) x) (replicate HANDLES 0) (replicate SLOTS 0) (replicate SLOTS 0) 0 none-yet (7 * n) n w page)
-      (sym e) (going-start s v h)
+  pub going-fresh : (links : List ℕ) → Held SLOTS LISTS links (λ i. []) → length links ≡ LINKS
+      → Going pl whole script page (freshState links) (replicate HANDLES 0) (replicate SLOTS 0) (replicate SLOTS 0) 0 none-yet (7 * n) n w page
+  going-fresh links c l = going-start (freshState links) (fresh-view links c) (record { sound = fresh-sound links c; sized = fresh-sized links l })
 
 -- ---- frame by frame
 
@@ -341,16 +356,23 @@ module _ (pl : ℕ → Place) (o : Outcome) (script page₀ : List ℕ) (s : Sco
       unfolding base
       handed-few = sound .handles .few
 
-      pub going-room : length page₀ ≡ PAGE → w + length (linesText lines) ≤ length page
-      going-room h = omega (arith, paid, handed-few, enough, g .page-length)
+      -- what a list may take by now is bounded; where the page has so much room, the frame's lines fit; where it hasn't, it isn't a whole one
+      pub going-bounds : (i + 1 ≤ LINES) × (r .handed ≤ HANDLES)
+      going-bounds = (omega (arith, enough), handed-few)
+
+      pub going-outgrown : length page < longestOf (i + 1) (r .handed) → length page < PAGE
+      going-outgrown h = omega (arith, handed-few, enough)
+
+      pub going-room : longestOf (i + 1) (r .handed) ≤ length page → w + length (linesText lines) ≤ length page
+      going-room h = omega (arith, paid)
 
       small-on : Small (suc i) there
       small-on = small-step base (by (pl i)) (fair (pl i)) (omega (arith, base-wide .slots, base-wide .size)) i here (here-sound .scopes .slots) (g .small) (taken .frame) .at (lines, there) gives
 
-      going-suc : (w′ : ℕ) (page′ : List ℕ) → length page′ ≡ length page → Put (f .opcode) (r .adds) drained′ page w w′ page′
+      going-suc : longestOf (i + 1) (r .handed) ≤ length page → (w′ : ℕ) (page′ : List ℕ) → length page′ ≡ length page → Put (f .opcode) (r .adds) drained′ page w w′ page′
           → Going pl o script page₀ (r .state) handles′ holders′ drained′ (r .handed) nd′ (t .next) (suc i) w′ page′
       unfolding onward
-      going-suc w′ page′ l q = record {
+      going-suc fits w′ page′ l q = record {
         within = k .within;
         stands = sound-stands (r .state) handles′ holders′ (r .handed) nd′ sound (work .whole) (omega (arith, small-on .count, enough)) (work .handles-length) (work .holders-length) (work .needs-length) (work .remembers-length);
         small = small-on;
@@ -360,23 +382,23 @@ module _ (pl : ℕ → Place) (o : Outcome) (script page₀ : List ℕ) (s : Sco
         at = q .0 ∙ ap (λ (m : ℕ). m + length (linesText lines)) (g .at) ∙ sym (ap length (lines-on (g .done) lines) ∙ length-append (linesText (g .done)) (linesText lines));
         written = next page₀ page page′ 0 w (linesText (g .done)) (linesText lines) (omega arith) (omega (arith, g .at)) (g .written) (q .1) ∙ ap (over page₀ 0) (sym (lines-on (g .done) lines));
         owed = omega (arith, paid, q .0);
+        room = omega (arith, fits, g .page-length);
         drained-length = dl;
         page-length = l ∙ g .page-length;
       }
 
-      pub going-on : (w′ : ℕ) (page′ : List ℕ) → length page′ ≡ length page → Put (f .opcode) (r .adds) drained′ page w w′ page′
+      pub going-on : longestOf (i + 1) (r .handed) ≤ length page → (w′ : ℕ) (page′ : List ℕ) → length page′ ≡ length page → Put (f .opcode) (r .adds) drained′ page w w′ page′
           → Going pl o script page₀ (r .state) handles′ holders′ drained′ (r .handed) nd′ (t .next) (i + 1) w′ page′
-      going-on w′ page′ l q =
-          subst (λ (m : ℕ). Going pl o script page₀ (r .state) handles′ holders′ drained′ (r .handed) nd′ (t .next) m w′ page′) (sym (add-one i)) (going-suc w′ page′ l q)
+      going-on fits w′ page′ l q =
+          subst (λ (m : ℕ). Going pl o script page₀ (r .state) handles′ holders′ drained′ (r .handed) nd′ (t .next) m w′ page′) (sym (add-one i)) (going-suc fits w′ page′ l q)
 
   -- ---- after the last frame
 
   pub going-size : s .size < 65536
   going-size = omega (arith, here-sound .scopes .size .fits, base-wide .size)
 
-  pub going-last : length page₀ ≡ PAGE → w + 7 ≤ length page
-  unfolding base
-  going-last h = omega (arith, g .owed, here-sound .handles .few, g .early, g .page-length)
+  pub going-last : w + 7 ≤ length page
+  going-last = omega (arith, g .owed, g .room, g .page-length)
 
   module _ (over-all : length script ≤ p) where
     no-more : scriptFrom base i (split (drop p script)) ≡ frames []
@@ -386,16 +408,16 @@ module _ (pl : ℕ → Place) (o : Outcome) (script page₀ : List ℕ) (s : Sco
     comes-last : o ≡ accepted (g .done ++ []) (s .size)
     comes-last = g .comes ∙ ap (before (g .done)) (ap (walkFrom pl i here) no-more ∙ none-at pl i here)
 
-    pub going-end : length page₀ ≡ PAGE → (v : ℕ) (page′ : List ℕ) → v ≡ w + 7 → length page′ ≡ length page → page′ ≡ over page w (lineText (shows 0x90 (s .size ∷ [])))
+    pub going-end : (v : ℕ) (page′ : List ℕ) → v ≡ w + 7 → length page′ ≡ length page → page′ ≡ over page w (lineText (shows 0x90 (s .size ∷ [])))
         → Ends (o) (ended.Listed v (s .size)) page′
     unfolding over
-    going-end h v page′ ev l q =
+    going-end v page′ ev l q =
         let last : List ℕ = lineText (shows 0x90 (s .size ∷ [])) in
         let text : List ℕ = listText (g .done ++ []) (s .size) in
         let o : page′ ≡ over page₀ 0 text = next page₀ page page′ 0 w (linesText (g .done)) last (omega arith) (omega (arith, g .at)) (g .written) q ∙ ap (over page₀ 0) (sym (list-on (g .done) (s .size))) in
         let n : v ≡ length text = omega (arith, g .at, ap length (list-on (g .done) (s .size)), length-append (linesText (g .done)) last, line-length (shows 0x90 (s .size ∷ []))) in
         subst (λ (x : Outcome). Ends x (ended.Listed v (s .size)) page′) (sym comes-last)
-        (listed n (omega (arith, going-last h)) (ap (take v) o ∙ take-at text (drop (0 + length text) page₀) v (sym n)))
+        (listed n (omega (arith, going-last)) (ap (take v) o ∙ take-at text (drop (0 + length text) page₀) v (sym n)))
 
 -- ---- by the script's edition
 
@@ -413,6 +435,12 @@ walked-edition script n t =
     let q : readScript base script .place ≡ placeBy n = ap (λ (x : Titled). x .place) (t .is) in
     by-title n (t .most) (readScript base script .script) ∙ ap (λ (x : Place). outcome base x (readScript base script .script)) (sym q)
 
-pub by-edition : (script page : List ℕ) (n : ℕ) (p : Place) (r : Ended) → p ≡ placeBy n → Titles script n → Ends (walked (λ _. p) n script) r page → Ends (translated base script) r page
+pub by-edition : (script page : List ℕ) (n : ℕ) (p : Place) (r : Ended) → p ≡ placeBy n → Titles script n → EndsOn (walked (λ _. p) n script) r page → EndsOn (translated base script) r page
 by-edition script page n p r e t h =
-    subst (λ (o : Outcome). Ends o r page) (ap (λ (x : Place). walked (λ _. x) n script) e ∙ walked-edition script n t) h
+    subst (λ (o : Outcome). EndsOn o r page) (ap (λ (x : Place). walked (λ _. x) n script) e ∙ walked-edition script n t) h
+
+-- ---- a page that no list outgrows
+
+pub on-whole : {o : Outcome} {r : Ended} {page : List ℕ} → length page ≡ PAGE → EndsOn o r page → Ends o r page
+on-whole l (ends h) = h
+on-whole l (outgrown h e) = absurd (omega (arith, l))

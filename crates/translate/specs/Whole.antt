@@ -1,16 +1,16 @@
 -- What the loop over the frames writes on its page, and what `translate` leaves. Assumes nothing.
 use mathlib.Core.Path.{_≡_}
 use mathlib.Core.List.{List, [], _∷_, _++_}
-use Prim.Native.Nat.{ℕ, suc, _+_, _/_, _%_, _≤_}
+use Prim.Native.Nat.{ℕ, suc, _+_, _*_, _/_, _%_, _≤_, _<_}
 use lib.ListN.{length, getD, take}
 use lib.Dec.{ltb}
 use denote.Ref.{now}
-use Rattle.rules.specs.Sizes.{base, LINES}
+use Rattle.rules.specs.Sizes.{base, LINES, PAGE}
 use Rattle.rules.specs.Frames as rules
 use Rattle.rules.specs.Frames.{State, start, Line, stores, loads, shows, step, Outcome, accepted, refusedAt, before, onward}
 use Rattle.rules.specs.Slots.{Place, exactlyAt, placing}
 use Rattle.rules.specs.Text.{lineText, listText, Script, frames, unread, title, readScript}
-use Rattle.rules.specs.Entries.{Translation}
+use Rattle.rules.specs.Entries.{refusalAnswer, Translation}
 use Rattle.slots.specs.Spots.{placeOf}
 use Rattle.scopes.specs.Lent.{LentArray}
 use Rattle.text.specs.Shapes.{pick, frame}
@@ -36,6 +36,11 @@ use Rattle.translate.specs.declared.whole.Ended.the-variants as ended
 pub record LeavesList (l : Translation) (answer : ℕ) (list : List ℕ) : Type 0 where
   pub answered : answer ≡ l .answer
   pub list-left : list ≡ l .list
+
+-- .. or, on a page of so many bytes, 17 is answered because it is shorter than PAGE
+pub data LeavesOn (page : ℕ) (l : Translation) (answer : ℕ) (list : List ℕ) : Type 0 where
+  leaves : LeavesList l answer list → LeavesOn page l answer list
+  too-short : page < PAGE → answer ≡ refusalAnswer 17 0 → LeavesOn page l answer list
 
 -- ---- one frame
 
@@ -116,15 +121,29 @@ abbrev pub stoppedAt : ℕ → ℕ → CheckedScript → Ended
 stoppedAt n i (checked.Good m) = ended.Refused n i
 stoppedAt n i (checked.Refused m j) = ended.Refused m j
 
+-- ---- the page
+
+-- no list of so many frames and handles has more bytes: 11 for each frame, 4 for each handle, 7 for the size line
+abbrev pub longestOf : ℕ → ℕ → ℕ
+longestOf many handed = 11 * many + 4 * handed + 7
+
 -- the list stands at the start of the page, or a refusal is told
 pub data Ends : Outcome → Ended → List ℕ → Type 0 where
   listed : {ls : List Line} {size n : ℕ} {page : List ℕ} → n ≡ length (listText ls size) → n ≤ length page → take n page ≡ listText ls size → Ends (accepted ls size) (ended.Listed n size) page
   refused : {n i : ℕ} {page : List ℕ} → i ≤ LINES → Ends (refusedAt n i) (ended.Refused n i) page
 
--- the script, with n title lines, is walked by the guide
+-- .. or 17 is told, on a page that is shorter than PAGE
+pub data EndsOn (o : Outcome) (r : Ended) (page : List ℕ) : Type 0 where
+  ends : Ends o r page → EndsOn o r page
+  outgrown : length page < PAGE → r ≡ ended.Refused 17 0 → EndsOn o r page
+
+-- the script, with n title lines, as the guide walks it
+abbrev pub walkedBy : Guide → (shown script : LentArray ℕ) → ℕ → Outcome
+walkedBy by shown script n = walked (guideAt by (now (shown .entry))) n (now (script .entry))
+
 abbrev pub EndsWalk : Guide → (shown script page : LentArray ℕ) → ℕ → Ended → Type 0
-EndsWalk by shown script page n r = Ends (walked (guideAt by (now (shown .entry))) n (now (script .entry))) r (now (page .exit))
+EndsWalk by shown script page n r = EndsOn (walkedBy by shown script n) r (now (page .exit))
 
 -- .. by the lines that are shown, with the title lines that it has
 abbrev pub EndsShown : ℕ → (shown script page : LentArray ℕ) → Ended → Type 0
-EndsShown lines shown script page r = (n : ℕ) × Titles (now (script .entry)) n × EndsWalk (guide.Shown lines) shown script page n r
+EndsShown lines shown script page r = (n : ℕ) × Titles (now (script .entry)) n × Ends (walkedBy (guide.Shown lines) shown script n) r (now (page .exit))

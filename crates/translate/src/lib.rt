@@ -2,14 +2,14 @@
 use rules::PAGE;
 use text::refusal::refuse;
 use whole::Ended;
-use whole::steps as whole_steps;
+use whole::steps_on;
 ghost use mathlib.Core.Path.{_≡_};
 ghost use mathlib.Core.List.{_++_};
 ghost use Prim.Native.Nat.{_≤_};
 ghost use lib.ListN.{length, take, drop};
-ghost use Rattle.rules.specs.Sizes.{base};
-ghost use Rattle.rules.specs.Entries.{translateEntry};
-ghost use Rattle.translate.specs.Whole.{LeavesList};
+ghost use Rattle.rules.specs.Sizes.{base, PAGE};
+ghost use Rattle.rules.specs.Entries.{refusalAnswer, translateEntry};
+ghost use Rattle.translate.specs.Whole.{longestOf, LeavesList, LeavesOn};
 
 pub mod whole; // all steps of a script, and the page
 
@@ -25,21 +25,50 @@ fn copy(page: &[u8], list: &mut [u8], n: usize)
     }
 }
 
+// Translates the script on this page: its lines and their steps, and 17 last; or 17 where the page may be too short for the list.
+fn translate_on(script: &[u8], page: &mut [u8], list: &mut [u8]) -> u64
+    requires { ⌜ (longestOf 1 0 ≤ length (now page)) × (length (now page) ≤ PAGE) ⌝ }
+    ensures { λ r. ⌜ LeavesOn (length (now (page .entry))) (translateEntry base (now (script .entry)) (now (list .entry))) r (now (list .exit)) ⌝ }
+    ensures { λ r. ⌜ (r ≡ refusalAnswer 17 0 → now (list .exit) ≡ now (list .entry)) ⌝ }
+{
+    match steps_on(script, page) {
+        Ended::Refused(m, i) => refuse(m, i),
+        Ended::Listed(n, _) => {
+            if list.len() < n {
+                return refuse(17, 0);
+            }
+            copy(page, list, n);
+            n as u64
+        }
+    }
+}
+
+// The same on a page that no list outgrows.
+fn translate_whole(script: &[u8], list: &mut [u8]) -> u64
+    ensures { λ r. ⌜ LeavesList (translateEntry base (now (script .entry)) (now (list .entry))) r (now (list .exit)) ⌝ }
+{
+    let mut page = [0u8; PAGE];
+    translate_on(script, &mut page, list)
+}
+
+// A script of so many bytes at most is tried on a short page first: to clear a whole one takes longer than the steps of a short script.
+const SHORT_SCRIPT: usize = 2048;
+
+const SHORT_PAGE: usize = 8192;
+
 // Translates the script: its lines and their steps, and 17 last. The answer is how many bytes the list takes; or, on a refusal, its number and
 // its line, and then the lent memory is as it was.
 #[no_mangle]
 pub extern "C" fn translate(script: &[u8], list: &mut [u8]) -> u64
     ensures { λ r. ⌜ LeavesList (translateEntry base (now (script .entry)) (now (list .entry))) r (now (list .exit)) ⌝ }
 {
-    let mut page = [0u8; PAGE];
-    match whole_steps(script, &mut page) {
-        Ended::Refused(m, i) => refuse(m, i),
-        Ended::Listed(n, _) => {
-            if list.len() < n {
-                return refuse(17, 0);
-            }
-            copy(&page, list, n);
-            n as u64
-        }
+    if SHORT_SCRIPT < script.len() {
+        return translate_whole(script, list);
     }
+    let mut page = [0u8; SHORT_PAGE];
+    let r = translate_on(script, &mut page, list);
+    if r != refuse(17, 0) {
+        return r;
+    }
+    translate_whole(script, list)
 }

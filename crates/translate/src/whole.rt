@@ -2,7 +2,7 @@
 ghost use mathlib.Core.Path.{_≡_};
 ghost use Prim.Native.Nat.{_+_, _≤_, _<_};
 ghost use lib.ListN.{length};
-ghost use Rattle.rules.specs.Sizes.{base, SLOTS, LINES, PAGE};
+ghost use Rattle.rules.specs.Sizes.{base, HANDLES, SLOTS, LINES, PAGE};
 ghost use Rattle.rules.specs.Frames.{stores};
 ghost use Rattle.rules.specs.Text.{lineText, title};
 ghost use Rattle.rules.specs.Entries.{translated};
@@ -10,15 +10,20 @@ ghost use Rattle.slots.specs.Spots.{placeOf};
 ghost use Rattle.text.specs.Titles.{placeBy};
 ghost use Rattle.text.specs.Whole.{scriptLeft};
 ghost use Rattle.frames.specs.Steps.{Few, sourceOf};
-ghost use Rattle.translate.specs.Whole.{frameIn, linesText, addedText, Puts, onwardOf, stoppedAt, guideAt, HasLines, Begun, Ends, EndsWalk, EndsShown};
+ghost use Rattle.translate.specs.Whole.{frameIn, linesText, addedText, Puts, onwardOf, stoppedAt, longestOf, guideAt, HasLines, Begun, Ends, EndsOn, EndsWalk, EndsShown};
 use dispatch::step;
 use frames::steps::Adds;
 use frames::steps::Source;
+use rules::BINDINGS;
+use rules::HALVES;
 use rules::HANDLES;
 use rules::LINES;
 use rules::NEEDS;
+use rules::SCOPES;
 use rules::SLOTS;
+use scopes::NO_PARENT;
 use scopes::Numbers;
+use scopes::OF_NOBODY;
 use slots::Place;
 use slots::SlotAddress;
 use text::lines::Frame;
@@ -172,8 +177,17 @@ fn stopped(script: &[u8], p: usize, m: u8, i: usize) -> Ended
     }
 }
 
+// No list of so many frames and handles has more bytes.
+fn longest(frames: usize, handed: usize) -> usize
+    requires { ⌜ (frames ≤ LINES) × (handed ≤ HANDLES) ⌝ }
+    ensures { λ r. ⌜ r ≡ longestOf frames handed ⌝ }
+{
+    11 * frames + 4 * handed + 7
+}
+
 // The title stands on the page: every line behind it is read and its step done, then the size line. So a line is read once, and what the steps
-// did is lost where a later line can't be read. The state is opened once into local arrays, which are lent to the steps.
+// did is lost where a later line can't be read. A page that the list may outgrow is refused by 17. The arrays are those of the fresh state, one by
+// one, since a state that is made whole would be copied; they are lent to the steps.
 fn steps_behind(
     script: &[u8],
     shown: &[u64],
@@ -182,7 +196,7 @@ fn steps_behind(
     guide: Guide,
     begun: usize,
 ) -> Ended
-    requires { ⌜ HasLines guide (now shown) × (length (now page) ≡ PAGE) × Begun (now script) (now page) titles begun ⌝ }
+    requires { ⌜ HasLines guide (now shown) × (longestOf 1 0 ≤ length (now page)) × Begun (now script) (now page) titles begun ⌝ }
     ensures { λ r. ⌜ EndsWalk guide shown script page titles r ⌝ }
 {
     let mut handles = [0u64; HANDLES];
@@ -190,16 +204,23 @@ fn steps_behind(
     let mut drained = [0u16; SLOTS];
     let mut needs = [0u64; NEEDS];
     let mut remembers = [0u16; NEEDS];
-    let s = scopes::fresh();
-    let mut halves = s.halves;
-    let mut links = s.links;
-    let mut owner = s.owner;
-    let mut live = s.live;
-    let mut dangled = s.dangled;
-    let mut parent = s.parent;
-    let mut number = s.number;
-    let mut bindings = s.bindings;
-    let mut n = scopes::numbers_of(s);
+    let mut halves = [0u64; HALVES];
+    let mut links = links::fresh();
+    let mut owner = [OF_NOBODY; SLOTS];
+    let mut live = [false; SCOPES];
+    live[0] = true;
+    let mut dangled = [false; SCOPES];
+    let mut parent = [NO_PARENT; SCOPES];
+    let mut number = [0u32; SCOPES];
+    let mut bindings = [0u64; BINDINGS];
+    let mut n = Numbers {
+        count: 0,
+        segments: 0,
+        head: 0,
+        top: 0,
+        counter: 1,
+        size: 0,
+    };
     let mut handed: usize = 0;
     let mut needed: usize = 0;
     let mut p: usize = 7 * titles;
@@ -240,6 +261,9 @@ fn steps_behind(
         match onward_of(adds) {
             Onward::Stop(m) => return stopped(script, t.next, m, i),
             Onward::Go => {
+                if page.len() < longest(i + 1, r.handed) {
+                    return Ended::Refused(17, 0);
+                }
                 w = put_adds(page, w, f.opcode, adds, &drained);
                 let m = r.numbers;
                 n = each_of(m);
@@ -254,16 +278,24 @@ fn steps_behind(
     Ended::Listed(put_size(page, w, size as u16), size)
 }
 
-// A script's title, and what stands behind it, by its edition.
-pub fn steps(script: &[u8], page: &mut [u8]) -> Ended
-    requires { ⌜ length (now page) ≡ PAGE ⌝ }
-    ensures { λ r. ⌜ Ends (translated base (now (script .entry))) r (now (page .exit)) ⌝ }
+// A script's title, and what stands behind it, by its edition; 17 where the list may outgrow the page, which no list does that is as long as PAGE.
+pub fn steps_on(script: &[u8], page: &mut [u8]) -> Ended
+    requires { ⌜ longestOf 1 0 ≤ length (now page) ⌝ }
+    ensures { λ r. ⌜ EndsOn (translated base (now (script .entry))) r (now (page .exit)) ⌝ }
 {
     let none = [0u64; 1];
     let titles = title_lines(script);
     let begun = put_title(page, titles);
     let guide = Guide::Everywhere(place_by(titles));
     steps_behind(script, &none, page, titles, guide, begun)
+}
+
+// The same on a page that no list outgrows.
+pub fn steps(script: &[u8], page: &mut [u8]) -> Ended
+    requires { ⌜ length (now page) ≡ PAGE ⌝ }
+    ensures { λ r. ⌜ Ends (translated base (now (script .entry))) r (now (page .exit)) ⌝ }
+{
+    steps_on(script, page)
 }
 
 // The same, but that slots go where a list shows them: the table has its lines.

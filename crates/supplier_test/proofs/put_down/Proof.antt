@@ -1,4 +1,4 @@
--- Every slot from the last one down. Assumes nothing.
+-- The last 1,024 slots, from the last one down. Assumes nothing.
 use borrow.Author.Needs.{needs}
 use mathlib.Core.Path.{_≡_}
 use Prim.Native.Nat.{_+_, _*_, _≤_}
@@ -11,7 +11,7 @@ use Rattle.cases.proofs.put.Reads as put-reads
 use Rattle.text.proofs.writing.put_line.Reads as put-line-reads
 
 abbrev Inv-loop : tie.InvT-loop
-Inv-loop list₀ twice w₀ a₀ t6 list w a = (a ≤ 1024) × (w + 7 * a ≡ 7168) × (length list ≡ length list₀)
+Inv-loop list₀ twice w₀ a₀ t6 list w a = (3072 ≤ a) × (a ≤ 4096) × (w + 7 * a ≡ 28672) × (length list ≡ length list₀)
 
 abbrev μ-loop : tie.MeasureT-loop
 μ-loop list₀ twice w₀ a₀ t6 list w a = a

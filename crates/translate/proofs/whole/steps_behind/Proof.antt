@@ -1,15 +1,15 @@
 -- `steps_behind` meets its contract: `Going` holds before each frame, of the state that is made of the local arrays. Assumes nothing.
-use mathlib.Core.Path.{_≡_, sym, _∙_}
+use mathlib.Core.Path.{_≡_, refl, sym, _∙_}
 use Prim.Native.Nat.{_-_}
 use native.Mathlib.Omega.{arith}
 use lib.ListN.{length}
 use borrow.Author.Needs.{needs}
-use Rattle.rules.specs.Sizes.{base, SLOTS, BINDINGS, SCOPES}
+use Rattle.rules.specs.Sizes.{base}
 use Rattle.scopes.specs.Lent.{made}
 use Rattle.handles.specs.NeedTable.{table}
 use Rattle.frames.specs.Steps.{Reached}
-use Rattle.translate.specs.Whole.{guideAt, walked}
-use Rattle.translate.proofs.Going.{Going, going-same, going-fresh, going-late, going-bad, going-stop, going-few, going-room, going-on, going-size, going-last, going-end}
+use Rattle.translate.specs.Whole.{guideAt, walked, ends, outgrown}
+use Rattle.translate.proofs.Going.{Going, going-same, going-fresh, going-late, going-bad, going-stop, going-few, going-bounds, going-outgrown, going-room, going-on, going-size, going-last, going-end}
 use Rattle.translate.proofs.whole.steps_behind.Statement.{statement}
 use Rattle.translate.proofs.whole.steps_behind.Tie as tie
 
@@ -25,73 +25,43 @@ abbrev μ-loop : tie.MeasureT-loop
 abbrev reached : tie.After-step Inv-loop μ-loop → Reached
 reached c = record { state = made (c .step .last .0) (c .step .last .1 .0) (c .step .last .1 .1 .0) (c .step .last .1 .1 .1 .0) (c .step .last .1 .1 .1 .1 .0) (c .step .last .1 .1 .1 .1 .1 .0) (c .step .last .1 .1 .1 .1 .1 .1 .0) (c .step .last .1 .1 .1 .1 .1 .1 .1 .0) (c .step .result .numbers); handed = c .step .result .handed; adds = c .step .result .adds }
 
--- facts of the types that lie far back where the loop begins
-owner-length : (c : tie.After-owner Inv-loop μ-loop) → length (c .before .before .before .fresh .result .owner) ≡ SLOTS
-owner-length c = search needs
-
-live-length : (c : tie.After-live Inv-loop μ-loop) → length (c .before .before .before .before .fresh .result .live) ≡ SCOPES
-live-length c = search needs
-
-dangled-length : (c : tie.After-dangled Inv-loop μ-loop) → length (c .before .before .before .before .before .fresh .result .dangled) ≡ SCOPES
-dangled-length c = search needs
-
-parent-length : (c : tie.After-parent Inv-loop μ-loop) → length (c .before .before .before .before .before .before .fresh .result .parent) ≡ SCOPES
-parent-length c = search needs
-
-number-length : (c : tie.After-number Inv-loop μ-loop) → length (c .before .before .before .before .before .before .before .fresh .result .number) ≡ SCOPES
-number-length c = search needs
-
-bindings-length : (c : tie.After-bindings Inv-loop μ-loop) → length (c .before .before .before .before .before .before .before .before .fresh .result .bindings) ≡ BINDINGS
-bindings-length c = search needs
-
 fresh-requires : tie.Need-fresh-requires Inv-loop μ-loop
 fresh-requires c κs = tt
 
-numbers-of-requires : tie.Need-numbers-of-requires Inv-loop μ-loop
-numbers-of-requires c κs = tt
+array-write-live : tie.Need-array-write-live Inv-loop μ-loop
+array-write-live c = search needs
 
 mul-p : tie.Need-mul-p Inv-loop μ-loop
-mul-p c = let a = c .before .before .before .before .before .before .before .before .before .before .before .before .before in omega (arith, a .pre .2 .titles .most)
+mul-p c = omega (arith, c .before .before .before .before .pre .2 .titles .most)
 
 loop-holds : tie.Need-loop-holds Inv-loop μ-loop
 loop-holds c =
-    let f = c .before .before .before .before .before .before .before .before .before in
-    let a = c .before .before .before .before .before .before .before .before .before .before .before .before .before in
-    going-fresh (guideAt (a .args .guide) (a .args .shown .now)) (a .args .script .now) (a .args .page .now) (a .args .titles) (a .args .begun) (a .pre .2) (f .fresh .result) (f .fresh .ensures .0)
-    (record { sound = f .fresh .ensures .1; sized = record { halves = search needs; links = search needs; owner = owner-length (c .before .before .before .before .before .before); live = live-length (c .before .before .before .before .before); dangled = dangled-length (c .before .before .before .before); parent = parent-length (c .before .before .before); number = number-length (c .before .before); bindings = bindings-length (c .before) } })
-    (c .numbers-of .result) (c .numbers-of .ensures)
+    going-fresh (guideAt (c .before .before .before .before .args .guide) (c .before .before .before .before .args .shown .now)) (c .before .before .before .before .args .script .now) (c .before .before .before .before .args .page .now) (c .before .before .before .before .args .titles) (c .before .before .before .before .args .begun) (c .before .before .before .before .pre .1) (c .before .before .before .before .pre .2) (c .fresh .result) (c .fresh .ensures) (search needs)
 
 same-length : tie.Need-same-length Inv-loop μ-loop
-same-length c = let l = c .before .before in l .loop .inv .page-length
+same-length c = c .before .before .loop .inv .page-length
 
 returns : tie.Need-returns Inv-loop μ-loop
-returns c =
-    let l = c .before .before in
-    let t = c .before in
-    going-late _ _ _ _ _ _ _ _ _ _ _ _ _ _ (l .loop .inv) (t .loop-test .taken) (c .if1 .taken)
+returns c = ends (going-late _ _ _ _ _ _ _ _ _ _ _ _ _ _ (c .before .before .loop .inv) (c .before .loop-test .taken) (c .if1 .taken))
 
 frame-at-requires : tie.Need-frame-at-requires Inv-loop μ-loop
-frame-at-requires c κs = let t = c .before in t .loop-test .taken
+frame-at-requires c κs = c .before .loop-test .taken
 
 frame-in-requires : tie.Need-frame-in-requires Inv-loop μ-loop
 frame-in-requires c κs = tt
 
 same-length-2 : tie.Need-same-length-2 Inv-loop μ-loop
-same-length-2 c = let l = c .before .before .before .before .before .before in l .loop .inv .page-length
+same-length-2 c = c .before .before .before .before .before .before .loop .inv .page-length
 
 returns-2 : tie.Need-returns-2 Inv-loop μ-loop
 returns-2 c =
-    let fa = c .before .before .before in
-    let fi = c .before .before in
-    let late = c .before .before .before .before in
-    let l = c .before .before .before .before .before .before in
-    going-bad _ _ _ _ _ _ _ _ _ _ _ _ _ _ (l .loop .inv) (fa .frame-at .result) (fa .frame-at .ensures) (late .if1 .left) (fi .frame-in .result) (fi .frame-in .ensures) (c .if2 .taken)
+    ends (going-bad _ _ _ _ _ _ _ _ _ _ _ _ _ _ (c .before .before .before .before .before .before .loop .inv) (c .before .before .before .frame-at .result) (c .before .before .before .frame-at .ensures) (c .before .before .before .before .if1 .left) (c .before .before .frame-in .result) (c .before .before .frame-in .ensures) (c .if2 .taken))
 
 place-at-requires : tie.Need-place-at-requires Inv-loop μ-loop
-place-at-requires c κs = let a = c .before .before .before .before .before .before .before .before .before .before .before .before .before .before .before .before .before .before .before .before in a .pre .0
+place-at-requires c κs = c .before .before .before .before .before .before .before .before .before .before .before .pre .0
 
 step-requires : tie.Need-step-requires Inv-loop μ-loop
-step-requires c κs = let l = c .before .before .before .before .before .before .before .before .before .before .before .before .before .before .before .before .before .before .before .before in (l .loop .inv .stands, l .loop .inv .drained-length)
+step-requires c κs = (c .before .before .before .before .before .before .before .before .before .before .before .before .before .before .before .before .before .before .before .before .loop .inv .stands, c .before .before .before .before .before .before .before .before .before .before .before .before .before .before .before .before .before .before .before .before .loop .inv .drained-length)
 
 onward-of-requires : tie.Need-onward-of-requires Inv-loop μ-loop
 onward-of-requires c κs = tt
@@ -100,102 +70,74 @@ enum-known-m : tie.Need-enum-known-m Inv-loop μ-loop
 enum-known-m c = search needs
 
 stopped-requires : tie.Need-stopped-requires Inv-loop μ-loop
-stopped-requires c κs =
-    let fa = c .before .before .before .before .before .before .before .before .before .before .before .before .before .before .before .before .before .before .before .before .before .before in
-    let late = c .before .before .before .before .before .before .before .before .before .before .before .before .before .before .before .before .before .before .before .before .before .before .before in
-    let l = c .before .before .before .before .before .before .before .before .before .before .before .before .before .before .before .before .before .before .before .before .before .before .before .before .before in
-    (fa .frame-at .ensures .within, omega (arith, l .loop .inv .early, late .if1 .left))
+stopped-requires c κs = (c .before .before .before .before .before .before .before .before .before .before .before .before .before .before .before .before .before .before .before .before .before .before .frame-at .ensures .within, omega (arith, c .before .before .before .before .before .before .before .before .before .before .before .before .before .before .before .before .before .before .before .before .before .before .before .before .before .loop .inv .early, c .before .before .before .before .before .before .before .before .before .before .before .before .before .before .before .before .before .before .before .before .before .before .before .if1 .left))
 
 same-length-3 : tie.Need-same-length-3 Inv-loop μ-loop
-same-length-3 c = let l = c .before .before .before .before .before .before .before .before .before .before .before .before .before .before .before .before .before .before .before .before .before .before .before .before .before .before in l .loop .inv .page-length
+same-length-3 c = c .before .before .before .before .before .before .before .before .before .before .before .before .before .before .before .before .before .before .before .before .before .before .before .before .before .before .loop .inv .page-length
 
 returns-3 : tie.Need-returns-3 Inv-loop μ-loop
 returns-3 c =
-    let fa = c .before .before .before .before .before .before .before .before .before .before .before .before .before .before .before .before .before .before .before .before .before .before .before in
-    let fi = c .before .before .before .before .before .before .before .before .before .before .before .before .before .before .before .before .before .before .before .before .before .before in
-    let pa = c .before .before .before .before .before .before .before .before .before .before .before .before .before .before .before .before .before .before .before in
-    let st = c .before .before .before .before .before in
-    let on = c .before .before .before .before in
-    let em = c .before .before in
-    let late = c .before .before .before .before .before .before .before .before .before .before .before .before .before .before .before .before .before .before .before .before .before .before .before .before in
-    let bad = c .before .before .before .before .before .before .before .before .before .before .before .before .before .before .before .before .before .before .before .before in
-    let l = c .before .before .before .before .before .before .before .before .before .before .before .before .before .before .before .before .before .before .before .before .before .before .before .before .before .before in
-    going-stop _ _ _ _ _ _ _ _ _ _ _ _ _ _ (l .loop .inv) (fa .frame-at .result) (fa .frame-at .ensures) (late .if1 .left) (fi .frame-in .result) (fi .frame-in .ensures) (bad .if2 .left) (reached st) _ _ _ _ _ (pa .place-at .ensures) (st .step .ensures .0) _ (sym (on .onward-of .ensures) ∙ em .m .given .1) _ (c .stopped .ensures)
+    ends
+    (going-stop _ _ _ _ _ _ _ _ _ _ _ _ _ _ (c .before .before .before .before .before .before .before .before .before .before .before .before .before .before .before .before .before .before .before .before .before .before .before .before .before .before .loop .inv) (c .before .before .before .before .before .before .before .before .before .before .before .before .before .before .before .before .before .before .before .before .before .before .before .frame-at .result) (c .before .before .before .before .before .before .before .before .before .before .before .before .before .before .before .before .before .before .before .before .before .before .before .frame-at .ensures) (c .before .before .before .before .before .before .before .before .before .before .before .before .before .before .before .before .before .before .before .before .before .before .before .before .if1 .left) (c .before .before .before .before .before .before .before .before .before .before .before .before .before .before .before .before .before .before .before .before .before .before .frame-in .result) (c .before .before .before .before .before .before .before .before .before .before .before .before .before .before .before .before .before .before .before .before .before .before .frame-in .ensures) (c .before .before .before .before .before .before .before .before .before .before .before .before .before .before .before .before .before .before .before .before .if2 .left) (reached (c .before .before .before .before .before)) _ _ _ _ _ (c .before .before .before .before .before .before .before .before .before .before .before .before .before .before .before .before .before .before .before .place-at .ensures) (c .before .before .before .before .before .step .ensures .0) _ (sym (c .before .before .before .before .onward-of .ensures) ∙ c .before .before .m .given .1) _ (c .stopped .ensures))
 
 enum-told : tie.Need-enum-told Inv-loop μ-loop
 enum-told c = search needs
 
+add-longest : tie.Need-add-longest Inv-loop μ-loop
+add-longest c = omega (arith, c .before .before .before .before .before .before .before .before .before .before .before .before .before .before .before .before .before .before .before .before .before .before .before .before .loop .inv .early)
+
+longest-requires : tie.Need-longest-requires Inv-loop μ-loop
+longest-requires c κs =
+    going-bounds _ _ _ _ _ _ _ _ _ _ _ _ _ _ (c .before .before .before .before .before .before .before .before .before .before .before .before .before .before .before .before .before .before .before .before .before .before .before .before .loop .inv) (c .before .before .before .before .before .before .before .before .before .before .before .before .before .before .before .before .before .before .before .before .before .frame-at .result) (c .before .before .before .before .before .before .before .before .before .before .before .before .before .before .before .before .before .before .before .before .before .frame-at .ensures) (c .before .before .before .before .before .before .before .before .before .before .before .before .before .before .before .before .before .before .before .before .before .before .if1 .left) (c .before .before .before .before .before .before .before .before .before .before .before .before .before .before .before .before .before .before .before .before .frame-in .result) (c .before .before .before .before .before .before .before .before .before .before .before .before .before .before .before .before .before .before .before .before .frame-in .ensures) (c .before .before .before .before .before .before .before .before .before .before .before .before .before .before .before .before .before .before .if2 .left) (reached (c .before .before .before)) _ _ _ _ _ (c .before .before .before .before .before .before .before .before .before .before .before .before .before .before .before .before .before .place-at .ensures) (c .before .before .before .step .ensures .0) (c .before .before .before .step .ensures .1 .0) (sym (c .before .before .onward-of .ensures) ∙ c .enum-told .given .1)
+
+same-length-4 : tie.Need-same-length-4 Inv-loop μ-loop
+same-length-4 c = c .before .before .before .before .before .before .before .before .before .before .before .before .before .before .before .before .before .before .before .before .before .before .before .before .before .before .loop .inv .page-length
+
+returns-4 : tie.Need-returns-4 Inv-loop μ-loop
+returns-4 c =
+    outgrown
+    (going-outgrown _ _ _ _ _ _ _ _ _ _ _ _ _ _ (c .before .before .before .before .before .before .before .before .before .before .before .before .before .before .before .before .before .before .before .before .before .before .before .before .before .before .loop .inv) (c .before .before .before .before .before .before .before .before .before .before .before .before .before .before .before .before .before .before .before .before .before .before .before .frame-at .result) (c .before .before .before .before .before .before .before .before .before .before .before .before .before .before .before .before .before .before .before .before .before .before .before .frame-at .ensures) (c .before .before .before .before .before .before .before .before .before .before .before .before .before .before .before .before .before .before .before .before .before .before .before .before .if1 .left) (c .before .before .before .before .before .before .before .before .before .before .before .before .before .before .before .before .before .before .before .before .before .before .frame-in .result) (c .before .before .before .before .before .before .before .before .before .before .before .before .before .before .before .before .before .before .before .before .before .before .frame-in .ensures) (c .before .before .before .before .before .before .before .before .before .before .before .before .before .before .before .before .before .before .before .before .if2 .left) (reached (c .before .before .before .before .before)) _ _ _ _ _ (c .before .before .before .before .before .before .before .before .before .before .before .before .before .before .before .before .before .before .before .place-at .ensures) (c .before .before .before .before .before .step .ensures .0) (c .before .before .before .before .before .step .ensures .1 .0) (sym (c .before .before .before .before .onward-of .ensures) ∙ c .before .before .enum-told .given .1)
+    (omega (arith, c .if3 .taken, c .before .longest .ensures)))
+    refl
+
 slice-aggregate-put-adds : tie.Need-slice-aggregate-put-adds Inv-loop μ-loop
-slice-aggregate-put-adds c = let st = c .before .before .before .before .before in sym (st .step .ensures .1 .0)
+slice-aggregate-put-adds c = sym (c .before .before .before .before .before .before .before .step .ensures .1 .0)
 
 put-adds-requires : tie.Need-put-adds-requires Inv-loop μ-loop
-put-adds-requires c κs =
-    let fa = c .before .before .before .before .before .before .before .before .before .before .before .before .before .before .before .before .before .before .before .before .before .before .before in
-    let fi = c .before .before .before .before .before .before .before .before .before .before .before .before .before .before .before .before .before .before .before .before .before .before in
-    let pa = c .before .before .before .before .before .before .before .before .before .before .before .before .before .before .before .before .before .before .before in
-    let st = c .before .before .before .before .before in
-    let on = c .before .before .before .before in
-    let et = c .before .before in
-    let late = c .before .before .before .before .before .before .before .before .before .before .before .before .before .before .before .before .before .before .before .before .before .before .before .before in
-    let bad = c .before .before .before .before .before .before .before .before .before .before .before .before .before .before .before .before .before .before .before .before in
-    let l = c .before .before .before .before .before .before .before .before .before .before .before .before .before .before .before .before .before .before .before .before .before .before .before .before .before .before in
-    let a = c .before .before .before .before .before .before .before .before .before .before .before .before .before .before .before .before .before .before .before .before .before .before .before .before .before .before .before .before .before .before .before .before .before .before .before .before .before .before .before .before in
-    let go = sym (on .onward-of .ensures) ∙ et .enum-told .given .1 in (
-      going-few _ _ _ _ _ _ _ _ _ _ _ _ _ _ (l .loop .inv) (fa .frame-at .result) (fa .frame-at .ensures) (late .if1 .left) (fi .frame-in .result) (fi .frame-in .ensures) (bad .if2 .left) (reached st) _ _ _ _ _ (pa .place-at .ensures) (st .step .ensures .0) (st .step .ensures .1 .0) go,
-      st .step .ensures .1 .0,
-      going-room _ _ _ _ _ _ _ _ _ _ _ _ _ _ (l .loop .inv) (fa .frame-at .result) (fa .frame-at .ensures) (late .if1 .left) (fi .frame-in .result) (fi .frame-in .ensures) (bad .if2 .left) (reached st) _ _ _ _ _ (pa .place-at .ensures) (st .step .ensures .0) (st .step .ensures .1 .0) go (a .pre .1),
-    )
+put-adds-requires c κs = (
+  going-few _ _ _ _ _ _ _ _ _ _ _ _ _ _ (c .before .before .before .before .before .before .before .before .before .before .before .before .before .before .before .before .before .before .before .before .before .before .before .before .before .before .before .before .loop .inv) (c .before .before .before .before .before .before .before .before .before .before .before .before .before .before .before .before .before .before .before .before .before .before .before .before .before .frame-at .result) (c .before .before .before .before .before .before .before .before .before .before .before .before .before .before .before .before .before .before .before .before .before .before .before .before .before .frame-at .ensures) (c .before .before .before .before .before .before .before .before .before .before .before .before .before .before .before .before .before .before .before .before .before .before .before .before .before .before .if1 .left) (c .before .before .before .before .before .before .before .before .before .before .before .before .before .before .before .before .before .before .before .before .before .before .before .before .frame-in .result) (c .before .before .before .before .before .before .before .before .before .before .before .before .before .before .before .before .before .before .before .before .before .before .before .before .frame-in .ensures) (c .before .before .before .before .before .before .before .before .before .before .before .before .before .before .before .before .before .before .before .before .before .before .if2 .left) (reached (c .before .before .before .before .before .before .before)) _ _ _ _ _ (c .before .before .before .before .before .before .before .before .before .before .before .before .before .before .before .before .before .before .before .before .before .place-at .ensures) (c .before .before .before .before .before .before .before .step .ensures .0) (c .before .before .before .before .before .before .before .step .ensures .1 .0) (sym (c .before .before .before .before .before .before .onward-of .ensures) ∙ c .before .before .before .before .enum-told .given .1),
+  c .before .before .before .before .before .before .before .step .ensures .1 .0,
+  going-room _ _ _ _ _ _ _ _ _ _ _ _ _ _ (c .before .before .before .before .before .before .before .before .before .before .before .before .before .before .before .before .before .before .before .before .before .before .before .before .before .before .before .before .loop .inv) (c .before .before .before .before .before .before .before .before .before .before .before .before .before .before .before .before .before .before .before .before .before .before .before .before .before .frame-at .result) (c .before .before .before .before .before .before .before .before .before .before .before .before .before .before .before .before .before .before .before .before .before .before .before .before .before .frame-at .ensures) (c .before .before .before .before .before .before .before .before .before .before .before .before .before .before .before .before .before .before .before .before .before .before .before .before .before .before .if1 .left) (c .before .before .before .before .before .before .before .before .before .before .before .before .before .before .before .before .before .before .before .before .before .before .before .before .frame-in .result) (c .before .before .before .before .before .before .before .before .before .before .before .before .before .before .before .before .before .before .before .before .before .before .before .before .frame-in .ensures) (c .before .before .before .before .before .before .before .before .before .before .before .before .before .before .before .before .before .before .before .before .before .before .if2 .left) (reached (c .before .before .before .before .before .before .before)) _ _ _ _ _ (c .before .before .before .before .before .before .before .before .before .before .before .before .before .before .before .before .before .before .before .before .before .place-at .ensures) (c .before .before .before .before .before .before .before .step .ensures .0) (c .before .before .before .before .before .before .before .step .ensures .1 .0) (sym (c .before .before .before .before .before .before .onward-of .ensures) ∙ c .before .before .before .before .enum-told .given .1)
+      (omega (arith, c .before .before .if3 .left, c .before .before .before .longest .ensures)),
+)
 
 each-of-requires : tie.Need-each-of-requires Inv-loop μ-loop
 each-of-requires c κs = tt
 
 add-i : tie.Need-add-i Inv-loop μ-loop
-add-i c = let l = c .before .before .before .before .before .before .before .before .before .before .before .before .before .before .before .before .before .before .before .before .before .before .before .before .before .before .before .before .before .before .before in omega (arith, l .loop .inv .early)
+add-i c = omega (arith, c .before .before .before .before .before .before .before .before .before .before .before .before .before .before .before .before .before .before .before .before .before .before .before .before .before .before .before .before .before .before .before .before .before .loop .inv .early)
 
 loop-less : tie.Need-loop-less Inv-loop μ-loop
-loop-less c =
-    let fa = c .before .before .before .before .before .before .before .before .before .before .before .before .before .before .before .before .before .before .before .before .before .before .before .before .before .before .before .before in
-    let t = c .before .before .before .before .before .before .before .before .before .before .before .before .before .before .before .before .before .before .before .before .before .before .before .before .before .before .before .before .before .before in
-    omega (arith, fa .frame-at .ensures .forward, fa .frame-at .ensures .within, t .loop-test .taken)
+loop-less c = omega (arith, c .before .before .before .before .before .before .before .before .before .before .before .before .before .before .before .before .before .before .before .before .before .before .before .before .before .before .before .before .before .before .frame-at .ensures .forward, c .before .before .before .before .before .before .before .before .before .before .before .before .before .before .before .before .before .before .before .before .before .before .before .before .before .before .before .before .before .before .frame-at .ensures .within, c .before .before .before .before .before .before .before .before .before .before .before .before .before .before .before .before .before .before .before .before .before .before .before .before .before .before .before .before .before .before .before .before .loop-test .taken)
 
 loop-again : tie.Need-loop-again Inv-loop μ-loop
 loop-again c =
-    let v = c .before .before .before .before in
-    let fa = c .before .before .before .before .before .before .before .before .before .before .before .before .before .before .before .before .before .before .before .before .before .before .before .before .before .before .before .before in
-    let fi = c .before .before .before .before .before .before .before .before .before .before .before .before .before .before .before .before .before .before .before .before .before .before .before .before .before .before .before in
-    let pa = c .before .before .before .before .before .before .before .before .before .before .before .before .before .before .before .before .before .before .before .before .before .before .before .before in
-    let st = c .before .before .before .before .before .before .before .before .before .before in
-    let on = c .before .before .before .before .before .before .before .before .before in
-    let et = c .before .before .before .before .before .before .before in
-    let late = c .before .before .before .before .before .before .before .before .before .before .before .before .before .before .before .before .before .before .before .before .before .before .before .before .before .before .before .before .before in
-    let bad = c .before .before .before .before .before .before .before .before .before .before .before .before .before .before .before .before .before .before .before .before .before .before .before .before .before in
-    let l = c .before .before .before .before .before .before .before .before .before .before .before .before .before .before .before .before .before .before .before .before .before .before .before .before .before .before .before .before .before .before .before in
     going-same _ _ _ _ _ _ _ _ _ _ _ _ _ _ _ _ _ _ _ _ _ _ _ (c .each-of .ensures)
-    (going-on _ _ _ _ _ _ _ _ _ _ _ _ _ _ (l .loop .inv) (fa .frame-at .result) (fa .frame-at .ensures) (late .if1 .left) (fi .frame-in .result) (fi .frame-in .ensures) (bad .if2 .left) (reached st) _ _ _ _ _ (pa .place-at .ensures) (st .step .ensures .0) (st .step .ensures .1 .0) (sym (on .onward-of .ensures) ∙ et .enum-told .given .1) _ _ (v .put-adds .kept .0) (v .put-adds .ensures))
+    (going-on _ _ _ _ _ _ _ _ _ _ _ _ _ _ (c .before .before .before .before .before .before .before .before .before .before .before .before .before .before .before .before .before .before .before .before .before .before .before .before .before .before .before .before .before .before .before .before .before .loop .inv) (c .before .before .before .before .before .before .before .before .before .before .before .before .before .before .before .before .before .before .before .before .before .before .before .before .before .before .before .before .before .before .frame-at .result) (c .before .before .before .before .before .before .before .before .before .before .before .before .before .before .before .before .before .before .before .before .before .before .before .before .before .before .before .before .before .before .frame-at .ensures) (c .before .before .before .before .before .before .before .before .before .before .before .before .before .before .before .before .before .before .before .before .before .before .before .before .before .before .before .before .before .before .before .if1 .left) (c .before .before .before .before .before .before .before .before .before .before .before .before .before .before .before .before .before .before .before .before .before .before .before .before .before .before .before .before .before .frame-in .result) (c .before .before .before .before .before .before .before .before .before .before .before .before .before .before .before .before .before .before .before .before .before .before .before .before .before .before .before .before .before .frame-in .ensures) (c .before .before .before .before .before .before .before .before .before .before .before .before .before .before .before .before .before .before .before .before .before .before .before .before .before .before .before .if2 .left) (reached (c .before .before .before .before .before .before .before .before .before .before .before .before)) _ _ _ _ _ (c .before .before .before .before .before .before .before .before .before .before .before .before .before .before .before .before .before .before .before .before .before .before .before .before .before .before .place-at .ensures) (c .before .before .before .before .before .before .before .before .before .before .before .before .step .ensures .0) (c .before .before .before .before .before .before .before .before .before .before .before .before .step .ensures .1 .0) (sym (c .before .before .before .before .before .before .before .before .before .before .before .onward-of .ensures) ∙ c .before .before .before .before .before .before .before .before .before .enum-told .given .1)
+    (omega (arith, c .before .before .before .before .before .before .before .if3 .left, c .before .before .before .before .before .before .before .before .longest .ensures)) _ _ (c .before .before .before .before .put-adds .kept .0) (c .before .before .before .before .put-adds .ensures))
 
 cast-put-size : tie.Need-cast-put-size Inv-loop μ-loop
-cast-put-size c = let l = c .before .before in omega (arith, going-size _ _ _ _ _ _ _ _ _ _ _ _ _ _ (l .loop .inv))
+cast-put-size c = omega (arith, going-size _ _ _ _ _ _ _ _ _ _ _ _ _ _ (c .before .before .loop .inv))
 
 put-size-requires : tie.Need-put-size-requires Inv-loop μ-loop
-put-size-requires c κs =
-    let l = c .before .before in
-    let a = c .before .before .before .before .before .before .before .before .before .before .before .before .before .before .before .before in
-    going-last _ _ _ _ _ _ _ _ _ _ _ _ _ _ (l .loop .inv) (a .pre .1)
+put-size-requires c κs = going-last _ _ _ _ _ _ _ _ _ _ _ _ _ _ (c .before .before .loop .inv)
 
-same-length-4 : tie.Need-same-length-4 Inv-loop μ-loop
-same-length-4 c =
-    let v = c .before .before in
-    let l = c .before .before .before .before .before in
-    v .put-size .kept .0 ∙ l .loop .inv .page-length
+same-length-5 : tie.Need-same-length-5 Inv-loop μ-loop
+same-length-5 c = c .before .before .put-size .kept .0 ∙ c .before .before .before .before .before .loop .inv .page-length
 
-returns-4 : tie.Need-returns-4 Inv-loop μ-loop
+returns-5 : tie.Need-returns-5 Inv-loop μ-loop
 unfolding base
-returns-4 c =
-    let v = c .before .before in
-    let t = c .before .before .before .before in
-    let l = c .before .before .before .before .before in
-    let a = c .before .before .before .before .before .before .before .before .before .before .before .before .before .before .before .before .before .before .before in
-    going-end _ _ _ _ _ _ _ _ _ _ _ _ _ _ (l .loop .inv) (t .loop-test .left) (a .pre .1) _ _ (v .put-size .ensures .0) (v .put-size .kept .0) (v .put-size .ensures .1)
+returns-5 c = ends (going-end _ _ _ _ _ _ _ _ _ _ _ _ _ _ (c .before .before .before .before .before .loop .inv) (c .before .before .before .before .loop-test .left) _ _ (c .before .before .put-size .ensures .0) (c .before .before .put-size .kept .0) (c .before .before .put-size .ensures .1))
 
 pub steps-behind-spec : {M : Type 1} → statement M
 steps-behind-spec =
@@ -204,7 +146,7 @@ steps-behind-spec =
     Inv-loop
     μ-loop
     fresh-requires
-    numbers-of-requires
+    array-write-live
     mul-p
     loop-holds
     same-length
@@ -221,6 +163,10 @@ steps-behind-spec =
     same-length-3
     returns-3
     enum-told
+    add-longest
+    longest-requires
+    same-length-4
+    returns-4
     slice-aggregate-put-adds
     put-adds-requires
     each-of-requires
@@ -229,5 +175,5 @@ steps-behind-spec =
     loop-again
     cast-put-size
     put-size-requires
-    same-length-4
-    returns-4)
+    same-length-5
+    returns-5)
