@@ -11,7 +11,7 @@ use Rattle.rules.specs.Meaning.{obey, high, listTakes, lacking}
 use Rattle.rules.specs.Text.{digit, hex2, hex4, value, word, words, raw, split, rowed, lineOf, frameTable, scriptFrom, hexes, lineText, listText, lineTable, sizeTable, listFrom, titleTable, titled, readScript, readList}
 use Rattle.rules.specs.Entries.{outcome, translated, runListed, recordedOn, ranOn, loadText, loadsText, eeText, outcomeText, runText, malformedText, leftText, recordedText, unlessLonger, runnerPrints}
 use Rattle.rules.specs.Recordings.{sampleTable, recordingFrom, recording}
-use Rattle.rules.specs.Sessions.{bytes, sessions, repeated, needSessions, narrow, noHandle, oneHandle, sampleSessions, recordedSessions, editionSessions, twoSegments, oneHole, titledLists, SessionsHold, NeedSessionsHold, RecordedSessionsHold, EditionSessionsHold, longRuns, allocBehind, LastSlot, sizeLines, RoomSessionsHold}
+use Rattle.rules.specs.Sessions.{bytes, sessions, repeated, needSessions, narrow, noHandle, oneHandle, sampleSessions, recordedSessions, editionSessions, twoSegments, oneHole, titledLists, SessionsHold, NeedSessionsHold, RecordedSessionsHold, EditionSessionsHold, longRuns, allocBehind, sizeLines, RoomSessionsHold}
 
 pub sessions-hold : SessionsHold
 unfolding SessionsHold sessions bytes _>>=_ refuse_when_ refuse_unless_ if_then_else_ put first pastLast base freshSlots clearIn firstWithClear insertInto insertNew insert pastGreatest pushAt pushes pushRun removes remove removeAll edition1 placing member added without addedAll withoutAll run freshScopes topScope byId byNumber hasChild setScope openChild allocate unbound closed poppable lastPoppable dangleScope restoreScope boundIn rebound bindIn lookup getName takeName drainDangling runKind goesBack giveBack outputOf start setHandle unknown spent belongs barred grant letGo allot close handBack freeAs freeHandle setNeed addNeed lost allotNeed freeOwn step onward steps obey high digit hex2 hex4 value word words raw split rowed lineOf frameTable scriptFrom hexes lineText listText lineTable sizeTable listFrom titleTable titled readScript readList outcome translated listTakes lacking runListed recordedOn ranOn loadText loadsText eeText outcomeText runText
@@ -30,5 +30,5 @@ unfolding EditionSessionsHold editionSessions twoSegments oneHole titledLists sa
 edition-sessions-hold = (refl, refl, refl)
 
 pub room-sessions-hold : RoomSessionsHold
-unfolding RoomSessionsHold LastSlot allocBehind lowestOfAll takeAt insertLowest edition2 vacant takeRun exactly allBelow longRuns sizeLines unlessLonger runnerPrints bytes _>>=_ refuse_when_ refuse_unless_ if_then_else_ put first pastLast base freshSlots clearIn firstWithClear insertInto insertNew insert pastGreatest pushAt pushes pushRun removes remove removeAll edition1 placing member added without addedAll withoutAll run freshScopes topScope byId byNumber hasChild setScope openChild allocate unbound closed poppable lastPoppable dangleScope restoreScope boundIn rebound bindIn lookup getName takeName drainDangling runKind goesBack giveBack outputOf start setHandle unknown spent belongs barred grant letGo allot close handBack freeAs freeHandle setNeed addNeed lost allotNeed freeOwn step onward steps obey high digit hex2 hex4 value word words raw split rowed lineOf frameTable scriptFrom hexes lineText listText lineTable sizeTable listFrom titleTable titled readScript readList outcome translated listTakes lacking runListed recordedOn ranOn loadText loadsText eeText outcomeText runText
-room-sessions-hold = (refl, (refl, refl), refl)
+unfolding RoomSessionsHold allocBehind lowestOfAll takeAt insertLowest edition2 vacant takeRun exactly allBelow longRuns sizeLines unlessLonger runnerPrints bytes _>>=_ refuse_when_ refuse_unless_ if_then_else_ put first pastLast base freshSlots clearIn firstWithClear insertInto insertNew insert pastGreatest pushAt pushes pushRun removes remove removeAll edition1 placing member added without addedAll withoutAll run freshScopes topScope byId byNumber hasChild setScope openChild allocate unbound closed poppable lastPoppable dangleScope restoreScope boundIn rebound bindIn lookup getName takeName drainDangling runKind goesBack giveBack outputOf start setHandle unknown spent belongs barred grant letGo allot close handBack freeAs freeHandle setNeed addNeed lost allotNeed freeOwn step onward steps obey high digit hex2 hex4 value word words raw split rowed lineOf frameTable scriptFrom hexes lineText listText lineTable sizeTable listFrom titleTable titled readScript readList outcome translated listTakes lacking runListed recordedOn ranOn loadText loadsText eeText outcomeText runText
+room-sessions-hold = (refl, (refl, refl, refl), (refl, refl, refl), refl)

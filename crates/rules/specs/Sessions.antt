@@ -3,14 +3,14 @@
 use mathlib.Core.Path.{_≡_}
 use mathlib.Core.Option.{Option, none, some}
 use mathlib.Core.List.{List, [], _∷_, _++_, map}
-use Prim.Native.Nat.{ℕ, zero, suc}
+use Prim.Native.Nat.{ℕ, zero, suc, _-_}
 use Prim.Native.Char.{code}
 use Prim.Native.String.{String}
 use Prim.Native.String
 use lib.Dec.{ltb}
 use lib.ListN.{replicate}
 use Rattle.rules.specs.Sizes.{Room, base}
-use Rattle.rules.specs.Slots.{Slots, byHead, lowest, exactlyAt, placing}
+use Rattle.rules.specs.Slots.{Slots, Place, byHead, lowest, exactlyAt, placing}
 use Rattle.rules.specs.Frames.{Outcome, accepted, refusedAt}
 use Rattle.rules.specs.Text.{listText}
 use Rattle.rules.specs.Recordings.{recording}
@@ -249,14 +249,14 @@ longRuns =
     ∷ session "082001\n" "ee100000\n" ""
     ∷ []
 
--- "slots to 4,096": where an alloc goes when the slots below n are held, by each placement
-unfoldable pub allocBehind : ℕ → List (Option ℕ)
-allocBehind n =
-    let s : Slots = record { occupied = λ a. ltb a n; segments = base .segments; head = 0 } in
-    map (λ p. elim (placing (base .segments) p 1 s) [ none ↦ none | some x ↦ some (x .address) ]) (byHead ∷ lowest ∷ exactlyAt n ∷ [])
+-- "slots to 4,096": where an alloc goes when the slots below n are held and the head is at the last segment; by each placement
+unfoldable pub allocBehind : ℕ → Place → Option ℕ
+allocBehind n p =
+    let s : Slots = record { occupied = λ a. ltb a n; segments = base .segments; head = base .segments - 1 } in
+    elim (placing (base .segments) p 1 s) [ none ↦ none | some x ↦ some (x .address) ]
 
-unfoldable pub LastSlot : Type 0
-LastSlot = (allocBehind 4095 ≡ some 4095 ∷ some 4095 ∷ some 4095 ∷ []) × (allocBehind 4096 ≡ none ∷ none ∷ none ∷ [])
+abbrev pub GoesBehind : ℕ → Option ℕ → Type 0
+GoesBehind n o = (allocBehind n byHead ≡ o) × (allocBehind n lowest ≡ o) × (allocBehind n (exactlyAt n) ≡ o)
 
 -- a list, and what the frame machine's program prints for it
 pub record ListSession : Type 0 where
@@ -310,4 +310,4 @@ unfoldable pub EditionSessionsHold : Type 0
 EditionSessionsHold = Hold base editionSessions × Hold twoSegments oneHole × (map recordedSessionOf titledLists ≡ titledLists)
 
 unfoldable pub RoomSessionsHold : Type 0
-RoomSessionsHold = Hold base longRuns × LastSlot × (map listSessionOf sizeLines ≡ sizeLines)
+RoomSessionsHold = Hold base longRuns × GoesBehind 4095 (some 4095) × GoesBehind 4096 none × (map listSessionOf sizeLines ≡ sizeLines)
