@@ -190,7 +190,7 @@ module _ (room : Room) (wide : Wide room) where
   unfolding scriptTakes
   takes-as-many script ls size e = let h = held script ls size e in rw (h .read, scriptTakes) (h .holds .samples)
 
--- ---- in the room of 01
+-- ---- in our room
 
 pub round-trip-base : RoundTrip base
 round-trip-base = round-trip base base-wide

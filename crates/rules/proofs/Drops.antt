@@ -128,7 +128,7 @@ drops-unless-lost-bytes room wide script fs need more n r e =
     (omega (arith, read-well room (titled (split script) .rest) i all (title-short room wide p) r .few, length-append fs (dropNeed need ∷ more)))
     (behind room (placing (room .segments) p) (title p) (steps room (placing (room .segments) p) i start all) n (i + length fs) (sym (rw r) ∙ e))
 
--- in the room of 01
+-- in our room
 pub drops-base : (p : Place) → DropsUnlessLost base (placing (base .segments) p)
 unfolding base
 drops-base p = drops-unless-lost base base-wide (placing (base .segments) p) (placing-fair-sound base (base-wide .segments) p)

@@ -225,6 +225,6 @@ module _ (room : Room) (big : 128 * room .segments ≤ room .size) where
           (steps-same room big (placing (room .segments) p) (placing-fair-test room segments p) fs (length (title p)) start (start-kept room segments scopes))
       go p (unread n i) = refl
 
--- in the room of 01
+-- in our room
 pub no-list-changes-base : NoListChanges base
 no-list-changes-base = no-list-changes base (base-wide .slots) (base-wide .segments) (base-wide .scopes)

@@ -129,7 +129,7 @@ module _ (room : Room) (big : 128 * room .segments ≤ room .size) (place : Plac
   pub frames-kept : (s t : State) (fs : List Frame) → soundState room s ≡ true → Reaches room place s fs t → soundState room t ≡ true
   frames-kept s t fs h r = tells-state room t .shows (keeps-frames room big place (as-record room place fair) r (tells-state room s .holds h))
 
--- ---- in the room of 01, by any place
+-- ---- in our room, by any place
 
 module _ (p : Place) where
   pub base-fair : Fair base (placing (base .segments) p) (λ t. soundSlots (base .segments) t ≡ true)

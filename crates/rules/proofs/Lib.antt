@@ -75,3 +75,5 @@ pub mod PartsTell
 pub mod SomeBytes
 pub mod ReadExact
 pub mod OneLine
+pub mod Larger
+pub mod Rooms

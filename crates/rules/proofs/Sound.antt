@@ -23,7 +23,7 @@ pub data Every {A : Type 0} (P : A → Type 0) : List A → Type 0 where
 
 -- ---- slots: n segments at most
 
--- "L is at most 8 and H below 8; no slot from segment L on is occupied"
+-- "L is at most 8 and H below 8; no slot from segment L on is occupied": 8 is n
 pub record SlotsSound (n : ℕ) (s : Slots) : Type 0 where
   pub segments : s .segments ≤ n
   pub head : s .head < n
@@ -88,7 +88,7 @@ pub record BindingsSound (n most : ℕ) (live : ℕ → Option Scope) (bindings 
 
 -- ---- size: at most `most`
 
--- "size is above every occupied slot and at most 1,024"
+-- "size is above every occupied slot and at most 1,024", which is `most`
 pub record SizeSound (m most : ℕ) (occupied : ℕ → Bool) (size : ℕ) : Type 0 where
   pub above : (a : ℕ) → a < m → occupied a ≡ true → a < size
   pub fits : size ≤ most

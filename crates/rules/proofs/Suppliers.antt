@@ -232,7 +232,7 @@ module _ (room : Room) where
       let agree : agrees room p fs ls size ≡ true = subst (λ (l : List Line). agrees room p fs l size ≡ true) (w .whole) (ours-agree room p fs (w .rest) size (w .went)) in
       rw (h .read, h .back, judged) (ap says agree)
 
--- ---- in the room of 01
+-- ---- in our room
 
 pub base-prints : YesPrints base
 base-prints = yes-prints base

@@ -26,16 +26,16 @@ example s l v = record { script = s; list = l; answer = v }
 unfoldable pub examples : List Example
 examples =
     -- a script refused by a step, by 7 too: no
-    example "080401\n" "080000\n900400\n" (says false)
+    example "081001\n" "080000\n901000\n" (says false)
     ∷ example "020001\n" "02\n900000\n" (says false)
     -- an address that isn't below the size: no, not 20
     ∷ example "06\n" "060001\n900001\n" (says false)
     -- a size larger than needed: yes
-    ∷ example "06\n" "060000\n900400\n" (says true)
+    ∷ example "06\n" "060000\n901000\n" (says true)
     -- the room's last slot, and past it
-    ∷ example "06\n" "0603ff\n900400\n" (says true)
-    ∷ example "06\n" "060400\n900400\n" (says false)
-    ∷ example "080002\n" "0803ff\n900400\n" (says false)
+    ∷ example "06\n" "060fff\n901000\n" (says true)
+    ∷ example "06\n" "061000\n901000\n" (says false)
+    ∷ example "080002\n" "080fff\n901000\n" (says false)
     -- a name whose allocation is held no more shows that one's old address
     ∷ example "06\n0900070000\n0c0000\n0a0007\n" "060003\n09\n0c\n0a0003\n900005\n" (says true)
     ∷ example "06\n0900070000\n0c0000\n0a0007\n" "060003\n09\n0c\n0a0004\n900005\n" (says false)
@@ -85,7 +85,7 @@ examples =
     ∷ example "zz\n" "zz\n" (unreadable 1 0)
     ∷ example "06\nzz\n" "zz\n" (unreadable 1 1)
     ∷ example "06\n" "060000\n" (unreadable 1 1)
-    ∷ example "080401\n" "zz\n" (unreadable 1 0)
+    ∷ example "081001\n" "zz\n" (unreadable 1 0)
     -- edition 2: the title is a line of both or of neither
     ∷ example "f00002\n" "f00002\n900000\n" (says true)
     ∷ example "f00002\n06\n0c0000\n06\n0f\n" "f00002\n060005\n0c\n060001\n0f00010005\n900006\n" (says true)

@@ -18,3 +18,4 @@ pub mod FirstWording
 pub mod Drops
 pub mod Editions
 pub mod Suppliers
+pub mod Rooms

@@ -183,7 +183,7 @@ allocIn place s c = do
   allocate place k 1 c
 
 -- "linear n: 0 gives an empty run with no address; 1 acts as alloc; n ≥ 2 pushes n times, owner top, refused (7) exactly if g + n > 1,024. Size
--- and the dangling list follow as for alloc.": 3, 7
+-- and the dangling list follow as for alloc.": 3, 7; what 1,024 is in the room is for the placement to say
 unfoldable pub allocRun : Placement → ℕ → Scopes → Answer (Option ℕ × Scopes)
 allocRun place zero c = do
   _ ← refuse 3 unless (topScope c)

@@ -1,17 +1,20 @@
 -- Document 01, "Sessions to hold", A to K: one list, and the statement over it; and of document 02 lists of sessions for needs (W-201),
--- for recordings (W-205) and for edition 2 (W-211). Assumes nothing.
+-- for recordings (W-205), for edition 2 (W-211) and for the larger room (W-206). Assumes nothing.
 use mathlib.Core.Path.{_≡_}
+use mathlib.Core.Option.{Option, none, some}
 use mathlib.Core.List.{List, [], _∷_, _++_, map}
-use Prim.Native.Nat.{ℕ, zero, suc}
+use Prim.Native.Nat.{ℕ, zero, suc, _-_}
 use Prim.Native.Char.{code}
 use Prim.Native.String.{String}
 use Prim.Native.String
+use lib.Dec.{ltb}
 use lib.ListN.{replicate}
 use Rattle.rules.specs.Sizes.{Room, base}
+use Rattle.rules.specs.Slots.{Slots, Place, byHead, lowest, exactlyAt, placing}
 use Rattle.rules.specs.Frames.{Outcome, accepted, refusedAt}
 use Rattle.rules.specs.Text.{listText}
 use Rattle.rules.specs.Recordings.{recording}
-use Rattle.rules.specs.Entries.{translated, recordedOn, ranOn, outcomeText, runText, recordedText}
+use Rattle.rules.specs.Entries.{translated, recordedOn, ranOn, outcomeText, runText, recordedText, runnerPrints}
 
 -- a text's characters as bytes
 unfoldable pub bytes : String → List ℕ
@@ -238,6 +241,35 @@ titledLists =
     ∷ beside "f00002\nf00002\n900000\n" "" 0 "ee010001\n"
     ∷ []
 
+-- W-206: a run of more slots than there are, up to as many as there are handles and one more
+unfoldable pub longRuns : List Session
+longRuns =
+    session "081001\n" "ee070000\n" ""
+    ∷ session "082000\n" "ee070000\n" ""
+    ∷ session "082001\n" "ee100000\n" ""
+    ∷ []
+
+-- "slots to 4,096": where an alloc goes when the slots below n are held and the head is at the last segment; by each placement
+unfoldable pub allocBehind : ℕ → Place → Option ℕ
+allocBehind n p =
+    let s : Slots = record { occupied = λ a. ltb a n; segments = base .segments; head = base .segments - 1 } in
+    elim (placing (base .segments) p 1 s) [ none ↦ none | some x ↦ some (x .address) ]
+
+abbrev pub GoesBehind : ℕ → Option ℕ → Type 0
+GoesBehind n o = (allocBehind n byHead ≡ o) × (allocBehind n lowest ≡ o) × (allocBehind n (exactlyAt n) ≡ o)
+
+-- a list, and what the frame machine's program prints for it
+pub record ListSession : Type 0 where
+  pub list : List ℕ
+  pub output : List ℕ
+
+abbrev alone : String → String → ListSession
+alone l o = record { list = bytes l; output = bytes o }
+
+-- "The size line may go up to 4,096."
+unfoldable pub sizeLines : List ListSession
+sizeLines = alone "901000\n" "" ∷ alone "901001\n" "ee010000\n" ∷ []
+
 -- what an accepted script's list prints; nothing is run where it was refused
 abbrev pub listPrints : Room → Outcome → List ℕ
 listPrints room (accepted ls size) = runText (ranOn room (replicate size 0) (listText ls size))
@@ -258,6 +290,9 @@ recordedSessionOf s =
       output = recordedText (recordedOn base (replicate (s .cells) 0) (recording (s .samples)) (s .list));
     }
 
+abbrev pub listSessionOf : ListSession → ListSession
+listSessionOf s = record { list = s .list; output = runnerPrints base (s .list) }
+
 -- each session is as the rules say
 abbrev pub Hold : Room → List Session → Type 0
 Hold room l = map (λ s. sessionOf room (s .script)) l ≡ l
@@ -273,3 +308,6 @@ RecordedSessionsHold = Hold base sampleSessions × (map recordedSessionOf record
 
 unfoldable pub EditionSessionsHold : Type 0
 EditionSessionsHold = Hold base editionSessions × Hold twoSegments oneHole × (map recordedSessionOf titledLists ≡ titledLists)
+
+unfoldable pub RoomSessionsHold : Type 0
+RoomSessionsHold = Hold base longRuns × GoesBehind 4095 (some 4095) × GoesBehind 4096 none × (map listSessionOf sizeLines ≡ sizeLines)

@@ -1,4 +1,4 @@
--- Document 01, "Sizes". Assumes nothing.
+-- Document 01, "Sizes", as W-206 of document 02 raises them, and the needs of W-201. Assumes nothing.
 use Prim.Native.Nat.{ℕ, _+_, _*_}
 
 -- The room: every rule takes these numbers from here.
@@ -21,7 +21,7 @@ pub record Room : Type 0 where
   pub text : ℕ
 
 -- The sizes by name. Each is a constant of the same name in the code, src/lib.rt: a size is changed in these two places.
--- "1,024 slots, addresses 0..1023, in 8 segments of 128."
+-- "1,024 slots, addresses 0..1023, in 8 segments of 128."; W-206: "Raise slots to 4,096 in 32 segments"
 abbrev pub SEGMENTS : ℕ
 SEGMENTS = 32
 
@@ -63,6 +63,7 @@ BINDINGS = 256
 abbrev pub LINES : ℕ
 LINES = 2048
 
+-- W-206: "handles to 8,192"
 abbrev pub HANDLES : ℕ
 HANDLES = 8192
 
@@ -74,7 +75,7 @@ WORD = 65536
 abbrev pub NEEDS : ℕ
 NEEDS = 64
 
--- "Text buffers: 32,768 bytes; a program refuses longer input by 17, whatever it holds."
+-- "Text buffers: 32,768 bytes; a program refuses longer input by 17, whatever it holds."; W-206: "text buffers become 57,344 bytes"
 abbrev pub TEXT : ℕ
 TEXT = 57344
 
@@ -86,6 +87,6 @@ PAGE = TEXT
 abbrev pub LONGEST_LIST : ℕ
 LONGEST_LIST = 11 * LINES + 4 * HANDLES + 7
 
--- the room of 01
+-- our room: 01's, with the needs of W-201 and what W-206 raises; of the size: "The size line may go up to 4,096."
 unfoldable pub base : Room
 base = record { segments = SEGMENTS; scopes = SCOPES; bindings = BINDINGS; handles = HANDLES; needs = NEEDS; lines = LINES; size = SLOTS; text = TEXT }

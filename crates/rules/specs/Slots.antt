@@ -1,5 +1,6 @@
--- Document 01, "Slots"; `remove` as W-202 of document 02 amends it; edition 2 of W-211; W-203's allocations where a list shows them. `n` is the most
--- segments there may be. Assumes nothing.
+-- Document 01, "Slots"; `remove` as W-202 of document 02 amends it; edition 2 of W-211; W-203's allocations where a list shows them.
+-- W-206: "State the room rule once over the number of segments": `n`, or `m` beside a number of slots, is the most segments there may be, where 01
+-- writes 8; its 1,024 is 128 times that. Assumes nothing.
 use mathlib.Core.Bool.{Bool, true, false, not, _&&_}
 use mathlib.Core.Option.{Option, none, some}
 use mathlib.Core.List.{List, [], _∷_}
@@ -51,7 +52,7 @@ insertInto g s =
     placed (lowestClear (s .occupied) g)
     (record { occupied = put (s .occupied) (lowestClear (s .occupied) g) true; segments = s .segments; head = g })
 
--- "If there is none, the address is 128·L, H becomes L, then L grows by one; refused (7) exactly if L is 8."
+-- "If there is none, the address is 128·L, H becomes L, then L grows by one; refused (7) exactly if L is 8.": if it is n
 unfoldable pub insertNew : ℕ → Slots → Option Placed
 insertNew n s =
     elim (eqb (s .segments) n) [
@@ -72,7 +73,7 @@ pastGreatest n s = pastLast (s .occupied) (128 * n)
 unfoldable pub pushAt : ℕ → Slots → Slots
 pushAt g s = record { occupied = put (s .occupied) g true; segments = elim (eqb (g % 128) 0) [ true ↦ g / 128 + 1 | false ↦ s .segments ]; head = s .head }
 
--- "refused (7) exactly if g is 1,024"
+-- "refused (7) exactly if g is 1,024": if it is 128 * n
 unfoldable pub push : ℕ → Slots → Option Placed
 push n s =
     elim (eqb (pastGreatest n s) (128 * n)) [
@@ -110,7 +111,7 @@ unfoldable pub pushes : ℕ → ℕ → Slots → Slots
 pushes g zero s = s
 pushes g (suc n) s = pushes (suc g) n (pushAt g s)
 
--- "n ≥ 2 pushes n times, owner top, refused (7) exactly if g + n > 1,024"; whose they are is for the scopes to say
+-- "n ≥ 2 pushes n times, owner top, refused (7) exactly if g + n > 1,024", which is 128 * m; whose they are is for the scopes to say
 unfoldable pub pushRun : ℕ → Placement
 pushRun m n s =
     elim (ltb (128 * m) (pastGreatest m s + n)) [

@@ -32,7 +32,7 @@ times a (b ∷ l) = one (eqb a b) + times a l
 
 -- ---- slots
 
--- "L is at most 8 and H below 8; no slot from segment L on is occupied"
+-- "L is at most 8 and H below 8; no slot from segment L on is occupied": 8 is n
 unfoldable pub soundSlots : ℕ → Slots → Bool
 soundSlots n s =
     leb (s .segments) n
@@ -97,7 +97,7 @@ soundBindings room c =
     bindsOnce (c .bindings)
     && allOf (λ b. ltb (b .scope) (room .scopes) && isSome (c .live (b .scope))) (c .bindings)
 
--- "size is above every occupied slot and at most 1,024"
+-- "size is above every occupied slot and at most 1,024": at most the room's
 unfoldable pub soundSize : Room → Scopes → Bool
 soundSize room c =
     allBelow (λ a. implies (c .slots .occupied a) (ltb a (c .size))) (128 * room .segments)

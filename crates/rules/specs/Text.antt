@@ -282,7 +282,7 @@ lineBefore i none rest = unlisted 1 i
 lineBefore i (some l) (listed ls size) = listed (l ∷ ls) size
 lineBefore i (some l) (unlisted n j) = unlisted n j
 
--- 1: "size line missing, early or over 1,024": the size line n stands at line i, before the lines ls
+-- 1: "size line missing, early or over 1,024"; W-206: "The size line may go up to 4,096": the size line n stands at line i, before the lines ls
 abbrev pub sizeAt : Room → ℕ → ℕ → List Split → Listed
 sizeAt room i n [] = elim (leb n (room .size)) [ true ↦ listed [] n | false ↦ unlisted 1 i ]
 sizeAt room i n (l ∷ ls) = unlisted 1 i
