@@ -129,7 +129,7 @@ module _ (small : Room) (segments handles size text : ℕ) where
         record {
           list = λ ls n e. ends-accepted ls n on e;
           refusal = λ n i l e. ends-refused n i l on e;
-          bytes = λ ls n e lent. ap (λ (o : Outcome). listLeft o lent) (ends-accepted ls n on e ∙ sym e);
+          bytes = λ ls n e lent. ap (λ (o : Outcome). listLeft o lent) (e ∙ sym (ends-accepted ls n on e));
         }
 
   module _ (sizes : small .size ≤ size) where

@@ -36,7 +36,7 @@ pub record ScriptKept (small large : Room) (script : List ℕ) : Type 0 where
   -- refused by any other number, it is refused by that number still, and for the same line
   pub refusal : (n i : ℕ) → mayNowPass n ≡ false → translated small script ≡ refusedAt n i → translated large script ≡ refusedAt n i
   -- what translate answers, and what it leaves of any lent memory
-  pub bytes : (ls : List Line) (size : ℕ) → translated small script ≡ accepted ls size → (lent : List ℕ) → translateEntry large script lent ≡ translateEntry small script lent
+  pub bytes : (ls : List Line) (size : ℕ) → translated small script ≡ accepted ls size → (lent : List ℕ) → translateEntry small script lent ≡ translateEntry large script lent
 
 unfoldable pub ScriptsKept : Room → Room → Type 0
 ScriptsKept small large = (script : List ℕ) → ScriptKept small large script
