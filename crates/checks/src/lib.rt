@@ -1,6 +1,13 @@
-// Checks of a full state, for a figure: how long a check of a state handed in takes. No product links it.
+// Checks of a full state, and calls of `allocator` with a small one, for figures: how long a check of a state handed in takes, and an entry that
+// is handed one. No product links it.
 ghost use mathlib.Core.Path.{_≡_};
+ghost use Prim.Native.Nat.{_≤_};
 ghost use Rattle.scopes.specs.Sound.{Sound};
+use allocations::AddressOutcome;
+use allocator::addresses;
+use needs::Address;
+use needs::AddressAnswer;
+use needs::AddressKind;
 use rules::BINDINGS;
 use rules::SCOPES;
 use rules::SLOTS;
@@ -62,6 +69,34 @@ pub extern "C" fn full_checks(n: usize) -> usize
         if !soundness::is_sound(s) {
             return i;
         }
+        i += 1;
+    }
+    i
+}
+
+// The first slot is allocated, and freed without dangling: two calls.
+fn in_turn(s: Scopes) -> AddressOutcome {
+    let o = addresses::alloc(s);
+    let slot = SlotAddress(0);
+    let kind = AddressKind::Local;
+    addresses::free(o.state, Address { slot, kind }, false)
+}
+
+// How many of these pairs of calls are answered, up to the first that is refused.
+#[no_mangle]
+pub extern "C" fn entry_pairs(pairs: usize) -> usize
+    ensures { λ r. ⌜ r ≤ pairs ⌝ }
+{
+    let mut s = scopes::fresh();
+    let mut i: usize = 0;
+    while i < pairs {
+        let o = in_turn(s);
+        let a = o.answer;
+        match a {
+            AddressAnswer::Refused(_) => return i,
+            AddressAnswer::Got(_) => {}
+        }
+        s = o.state;
         i += 1;
     }
     i

@@ -4,6 +4,7 @@ use cases::put;
 use cases::put_lines;
 use cases::say;
 use cases::show;
+use rules::SLOTS;
 use text::writing::put_byte;
 ghost use Prim.Native.Nat.{_≤_};
 ghost use lib.ListN.{length};
@@ -92,7 +93,29 @@ fn sized() {
     case(b"A12  ", b"900001\n9", 6, 14);
     case(b"A13  ", b"900001\n900001\n", 6, 14);
     case(b"A14  ", b"", 6, 14);
-    case(b"over ", b"900401\n", 6, 14);
+    case(b"over ", b"901001\n", 6, 14);
+}
+
+// The list on a frame of every slot (W-206); of the cells the first and the last are shown.
+fn on_all_slots(label: &[u8], list: &[u8]) {
+    let mut cells = [0x55u8; 2 * SLOTS];
+    let mut out = [b'.'; 17];
+    io::write_all(1, label);
+    let r = machine::run(list, &mut cells, &mut out);
+    say(r, &out, 17);
+    io::write_all(1, b" > ");
+    show_byte(cells[0]);
+    show_byte(cells[1]);
+    io::write_all(1, b" .. ");
+    show_byte(cells[2 * SLOTS - 2]);
+    show_byte(cells[2 * SLOTS - 1]);
+    io::write_all(1, b"\n");
+}
+
+fn all_slots() {
+    on_all_slots(b"A107 ", b"901000\n");
+    on_all_slots(b"fff  ", b"100fffbeef\n110fff\n901000\n");
+    on_all_slots(b"fff- ", b"100fffbeef\n110fff\n900fff\n");
 }
 
 // Lines that the machine passes over.
@@ -182,6 +205,7 @@ fn main() {
     session();
     malformed();
     sized();
+    all_slots();
     shown();
     needs();
     sampled();

@@ -6,9 +6,9 @@ use mathlib.Core.Option.{Option, none, some}
 use mathlib.Core.List.{List, [], _∷_}
 use Prim.Native.Nat.{ℕ, zero, suc, _≤_, _<_}
 use native.Mathlib.Omega.{arith}
-use lib.ListN.{length, getD, set, replicate, getD-replicate}
+use lib.ListN.{length, getD, set, replicate, getD-replicate, length-replicate, length-set}
 use borrow.Author.Tests.{ne-eqb}
-use Rattle.rules.specs.Sizes.{BINDINGS, HALVES, LISTS, SCOPES, SLOTS}
+use Rattle.rules.specs.Sizes.{BINDINGS, HALVES, LINKS, LISTS, SCOPES, SLOTS}
 use Rattle.rules.specs.AddressSets.{member}
 use Rattle.rules.specs.Slots.{freshSlots}
 use Rattle.rules.specs.Scopes as rule
@@ -17,7 +17,7 @@ use Rattle.slots.proofs.Occupied.{none-occupied}
 use Rattle.links.specs.Links.{Held}
 use Rattle.links.proofs.Walks.{chains-lists, held-lists}
 use Rattle.scopes.specs.View.{listOf, view}
-use Rattle.scopes.specs.Sound.{Sound, LeadsToRoot, root, up}
+use Rattle.scopes.specs.Sound.{Sound, Sized, LeadsToRoot, root, up}
 use Rattle.scopes.specs.declared.Scopes.{Scopes}
 
 abbrev pub freshState : List ℕ → Scopes
@@ -37,6 +37,19 @@ freshState links =
       top = 0;
       counter = 1;
       size = 0;
+    }
+
+pub fresh-sized : (links : List ℕ) → length links ≡ LINKS → Sized (freshState links)
+fresh-sized links l =
+    record {
+      halves = length-replicate {A = ℕ} HALVES 0;
+      links = l;
+      owner = length-replicate {A = ℕ} SLOTS LISTS;
+      live = length-set (replicate SCOPES false) 0 true ∙ length-replicate SCOPES false;
+      dangled = length-replicate SCOPES false;
+      parent = length-replicate {A = ℕ} SCOPES SCOPES;
+      number = length-replicate {A = ℕ} SCOPES 0;
+      bindings = length-replicate {A = ℕ} BINDINGS 0;
     }
 
 all-same : {A : Type 0} (n i : ℕ) (d : A) → getD (replicate n d) i d ≡ d

@@ -27,7 +27,7 @@ pub record Ringed (links owner : List ℕ) : Type 0 where
   pub tells : (a i : ℕ) → a < SLOTS → i < LISTS → member a (listOf links i) ≡ eqb (getD owner a 0) i
   pub most : (a : ℕ) → a < SLOTS → getD owner a 0 ≤ LISTS
 
--- "each occupied slot is once on one live scope's list and no other slot is on any"; "size is above every occupied slot and at most 1,024"
+-- "each occupied slot is once on one live scope's list and no other slot is on any"; "size is above every occupied slot and at most 1,024", with W-206 4,096
 pub record Owned (halves owner : List ℕ) (live : List Bool) (size : ℕ) : Type 0 where
   pub taken : (a : ℕ) → a < SLOTS → occ halves a ≡ ltb (getD owner a 0) SCOPES
   pub alive : (a : ℕ) → a < SLOTS → getD owner a 0 < SCOPES → getD live (getD owner a 0) false ≡ true

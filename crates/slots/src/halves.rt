@@ -1,4 +1,4 @@
-// The sixteen halves of a state, lent: questions and changes of one slot, and the two searches. No state is copied here.
+// The halves of a state, lent: questions and changes of one slot, and the two searches. No state is copied here.
 ghost use mathlib.Core.Path.{_≡_};
 ghost use mathlib.Core.Bool.{true, false};
 ghost use Prim.Native.Nat.{ℕ, _+_, _-_, _*_, _≤_, _<_, min, max};

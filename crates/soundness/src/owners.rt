@@ -1,4 +1,4 @@
-// "each occupied slot is once on one live scope's list and no other slot is on any"; "size is above every occupied slot and at most 1,024":
+// "each occupied slot is once on one live scope's list and no other slot is on any"; "size is above every occupied slot and at most 1,024", with W-206 4,096:
 // address by address, by the owner table.
 ghost use Prim.Native.Nat.{_<_};
 ghost use Rattle.rules.specs.Sizes.{SLOTS};

@@ -1,16 +1,16 @@
 -- The loop over the frames: with i of them done, what was written and what remains give the whole. Assumes nothing.
 use mathlib.Core.Path.{_≡_, refl, sym, ap, subst, _∙_, fun-ext}
-use mathlib.Core.Bool.{Bool, true, false}
+use mathlib.Core.Bool.{Bool, false}
 use mathlib.Core.Option.{Option, none, some}
 use mathlib.Core.List.{List, [], _∷_, _++_, append-assoc}
 use Prim.Native.Nat.{ℕ, zero, suc, _+_, _*_, _-_, _≤_, _<_}
 use native.Mathlib.Omega.{arith}
 use native.Mathlib.Numerals.{add-one}
 use borrow.Author.Tests.{ne-eqb}
-use lib.ListN.{length, getD, set, take, drop, replicate, length-append, length-replicate, length-set}
+use lib.ListN.{length, getD, take, drop, replicate, length-append, length-replicate}
 use lib.Seq.{take-at}
 use Rattle.rules.specs.Notation.{given, refused}
-use Rattle.rules.specs.Sizes.{base, BINDINGS, HALVES, HANDLES, LINES, LINKS, LISTS, NEEDS, PAGE, SCOPES, SLOTS}
+use Rattle.rules.specs.Sizes.{base, HANDLES, LINES, LINKS, LISTS, NEEDS, PAGE, SLOTS}
 use Rattle.rules.specs.Slots.{Placement, Place, placing, freshSlots}
 use Rattle.rules.specs.Scopes as rule
 use Rattle.rules.specs.Frames.{State, start, Frame, Line, shows, step, Step, Outcome, accepted, refusedAt, before, onward, steps}
@@ -29,8 +29,7 @@ use Rattle.rules.proofs.Pages.{owing, pays, linesLength}
 use Rattle.scopes.specs.View.{view}
 use Rattle.links.specs.Links.{Held}
 use Rattle.scopes.specs.Lent.{made, Whole}
-use Rattle.scopes.specs.Sound.{Sized}
-use Rattle.scopes.proofs.Start.{freshState, fresh-view, fresh-sound}
+use Rattle.scopes.proofs.Start.{freshState, fresh-view, fresh-sound, fresh-sized}
 use Rattle.scopes.specs.declared.Numbers.{Numbers}
 use Rattle.scopes.specs.declared.Scopes.{Scopes}
 use Rattle.text.specs.Shapes.{shapeOf}
@@ -196,19 +195,6 @@ unfolding linesText linesLength
 title-bytes zero l = let e : length (linesText []) ≡ 0 = refl in omega (arith, e)
 title-bytes (suc zero) l = omega (arith, lines-length (shows 0xf0 (2 ∷ []) ∷ []), line-length (shows 0xf0 (2 ∷ [])))
 title-bytes (suc (suc n)) l = absurd (omega arith)
-
-fresh-sized : (links : List ℕ) → length links ≡ LINKS → Sized (freshState links)
-fresh-sized links l =
-    record {
-      halves = length-replicate {A = ℕ} HALVES 0;
-      links = l;
-      owner = length-replicate {A = ℕ} SLOTS LISTS;
-      live = length-set (replicate SCOPES false) 0 true ∙ length-replicate SCOPES false;
-      dangled = length-replicate SCOPES false;
-      parent = length-replicate {A = ℕ} SCOPES SCOPES;
-      number = length-replicate {A = ℕ} SCOPES 0;
-      bindings = length-replicate {A = ℕ} BINDINGS 0;
-    }
 
 module _ (pl : ℕ → Place) (script page : List ℕ) (n w : ℕ) (enough : longestOf 1 0 ≤ length page) (b : Begun script page n w) where
   abbrev whole : Outcome

@@ -1,4 +1,4 @@
--- What a translation comes to: a refusal has a number from 1 to 22 and the line of a frame, and a list is at most 30,727 bytes. So the two
+-- What a translation comes to: a refusal has a number from 1 to 22 and the line of a frame, and a list is at most 55,303 bytes. So the two
 -- halves of the answer can't be mistaken for each other. Assumes nothing.
 use mathlib.Core.Path.{_≡_, refl}
 use mathlib.Core.Bool.{Bool, true, false}
@@ -25,7 +25,7 @@ pub use Rattle.text.proofs.Halves.{count, number}
 use Rattle.text.proofs.Halves.{Halves as Both, by-count, by-number}
 use Rattle.translate.proofs.Going.{by, fair, owes-none}
 
--- ---- in the room of 01, by any place
+-- ---- in our room, by any place
 
 pub data Comes : Outcome → Type 0 where
   to-list : {ls : List Line} {size : ℕ} → length (listText ls size) ≤ LONGEST_LIST → Comes (accepted ls size)
