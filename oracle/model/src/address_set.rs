@@ -3,10 +3,19 @@
 use crate::slots::SLOTS;
 
 /// The addresses in order, and a bit for each that is there.
-#[derive(Clone, Default)]
+#[derive(Clone)]
 pub struct AddressSet {
     order: Vec<usize>,
     there: [u64; SLOTS / 64],
+}
+
+impl Default for AddressSet {
+    fn default() -> Self {
+        AddressSet {
+            order: Vec::new(),
+            there: [0; SLOTS / 64],
+        }
+    }
 }
 
 impl AddressSet {

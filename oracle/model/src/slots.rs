@@ -1,14 +1,15 @@
-//! Document 01, "Slots"; `remove` as W-202 of document 02 amends it, `insert` of edition 2 by W-211, and W-203's slots where a list shows them.
+//! Document 01, "Slots", with the sizes of W-206 of document 02; `remove` as W-202 amends it, `insert` of edition 2 by W-211, and W-203's slots where a
+//! list shows them.
 
 use crate::edition::Placement;
 use crate::fault::{Fault, Plant};
 
-/// "1,024 slots, addresses 0..1023, in 8 segments of 128."
-pub const SLOTS: usize = 1024;
-/// See [`SLOTS`].
-pub const SEGMENTS: usize = 8;
-/// See [`SLOTS`].
+/// "in .. segments of 128"
 pub const SEGMENT: usize = 128;
+/// W-206: "Raise slots to 4,096 in 32 segments"
+pub const SEGMENTS: usize = 32;
+/// See [`SEGMENTS`].
+pub const SLOTS: usize = SEGMENTS * SEGMENT;
 
 /// "State: the occupied slots, segment count L, head segment H."
 #[derive(Clone)]
@@ -56,6 +57,19 @@ impl Slots {
         self.placement == Placement::ByHead && self.head > self.length
     }
 
+    /// W-206: "State the room rule once over the number of segments": no slot from this segment on is given.
+    fn segments(&self) -> usize {
+        match self.plant {
+            Some(Fault::SegmentShort) => SEGMENTS - 1,
+            _ => SEGMENTS,
+        }
+    }
+
+    /// The same over slots: from this one on none is given.
+    pub fn room(&self) -> usize {
+        SEGMENT * self.segments()
+    }
+
     pub fn occupied(&self, address: usize) -> bool {
         address < SLOTS && self.occupied[address]
     }
@@ -82,7 +96,7 @@ impl Slots {
             Some(Fault::RunByFirst) => 1,
             _ => n,
         };
-        if first + n > SLOTS || (first..first + looked_at).any(|a| self.occupied[a]) {
+        if first + n > self.room() || (first..first + looked_at).any(|a| self.occupied[a]) {
             return None;
         }
         (first..first + n).for_each(|a| self.take_at(a));
@@ -109,7 +123,7 @@ impl Slots {
             Some(Fault::TightFromOne) => 1,
             _ => 0,
         };
-        let address = (first..SLOTS).find(|a| !self.occupied[*a])?;
+        let address = (first..self.room()).find(|a| !self.occupied[*a])?;
         self.take_at(address);
         Some(address)
     }
@@ -127,7 +141,7 @@ impl Slots {
                 return Some(address);
             }
         }
-        if self.length == SEGMENTS {
+        if self.length == self.segments() {
             return None;
         }
         let address = SEGMENT * self.length;
@@ -156,7 +170,7 @@ impl Slots {
     /// None is a refusal by 7.
     pub fn push(&mut self) -> Option<usize> {
         let g = self.past_greatest();
-        if g == SLOTS {
+        if g == self.room() {
             return None;
         }
         self.occupied[g] = true;
