@@ -78,7 +78,8 @@ pub fn random_tight_scripts(
 pub fn sessions_of_edition_2(comparison: &mut Comparison) {
     by_model(comparison, |comparison| {
         let long = sessions::long_edition_2();
-        for script in sessions::edition_2().into_iter().chain(long) {
+        let more = sessions::sizes_of_edition_2().into_iter().chain(long);
+        for script in sessions::edition_2().into_iter().chain(more) {
             comparison.offer(script);
         }
     });
@@ -87,6 +88,14 @@ pub fn sessions_of_edition_2(comparison: &mut Comparison) {
 /// The sessions of needs: some have 64 needs, which no short script has.
 pub fn sessions_of_needs(comparison: &mut Comparison) {
     for script in sessions::needs() {
+        comparison.offer(script);
+    }
+    comparison.settle();
+}
+
+/// The sessions at the limits of slots and handles, and the longest list: few short scripts get there.
+pub fn sessions_of_sizes(comparison: &mut Comparison) {
+    for script in sessions::sizes().into_iter().chain([sessions::longest()]) {
         comparison.offer(script);
     }
     comparison.settle();
