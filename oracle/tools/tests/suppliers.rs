@@ -121,7 +121,7 @@ fn faults_of_lists_from_elsewhere_are_found() {
         .skip_while(|(_, f)| *f != Fault::SizeUnseen)
         .take_while(|(_, f)| *f != Fault::SizeLineKept);
     for (name, fault) in of_suppliers {
-        let (_, found) = by_chance(&mut Modelled(Some(*fault)), 3000, 1);
+        let (_, found) = by_chance(&mut Modelled(Some(*fault)), 3000, 3);
         let (case, why) = found.expect(name);
         assert!(why.starts_with("the model: "), "{name}: {case}\n  {why}");
     }

@@ -166,7 +166,7 @@ fn a_sample_that_is_not_marked_written_is_found() {
 /// Each fault of recordings is found by a case by chance, and the model without one isn't blamed.
 #[test]
 fn faults_of_recordings_are_found() {
-    let (outcomes, found) = recorded::by_chance(&mut Modelled(None), 2000, 206);
+    let (outcomes, found) = recorded::by_chance(&mut Modelled(None), 2000, 2);
     assert!(found.is_none());
     for number in [1, 2, 17, 20, 23, 24, 29] {
         let label = format!("refused by {number:2}");
@@ -177,7 +177,7 @@ fn faults_of_recordings_are_found() {
         .skip_while(|(_, f)| *f != Fault::SampleHighLate)
         .take_while(|(_, f)| *f != Fault::TightFromHead);
     for (name, fault) in of_recordings {
-        let (_, found) = recorded::by_chance(&mut Modelled(Some(*fault)), 2000, 206);
+        let (_, found) = recorded::by_chance(&mut Modelled(Some(*fault)), 2000, 2);
         let (case, _) = found.expect(name);
         assert!(
             case.list.len() < 60 && case.recording.len() < 60,
@@ -251,10 +251,7 @@ fn faults_of_the_room_are_found() {
         (Fault::HandleShort, "082000\n"),
     ] {
         let mut comparison = Comparison::new(Box::new(Model(Some(fault))), BOTH);
-        for script in sessions::sizes() {
-            comparison.offer(script);
-        }
-        comparison.settle();
+        phases::sessions_of_sizes(&mut comparison);
         let found = comparison.found.iter().map(|f| f.small.as_slice());
         let small = found.min_by_key(|small| small.len());
         assert_eq!(small, Some(smallest.as_bytes()), "{fault:?}");
