@@ -1,5 +1,6 @@
 # shellcheck shell=bash disable=SC2154
-# Sourced by mboxalind: texts made by chance through the built programs. Uses here, room, build, launch and draw of mboxalind.
+# Sourced by mboxalind: texts made by chance through the built programs. Uses here, room, build, launch, draw and MOST_SLOTS of
+# mboxalind, and LARGEST of check.bash.
 
 # PROGRAM, with its words behind it, has to print what EXPECTED has for FILE.
 holds() {
@@ -67,7 +68,7 @@ failed() {
 
 # In edition 2 the lower of two slots that went back is given first, though the other one went back last.
 try_tight() { # VALUE
-    local slots=$((RANDOM % 800 + 200)) low high new
+    local slots=$((RANDOM % (MOST_SLOTS - 199) + 200)) low high new
     low=$(hex $((RANDOM % 128)))
     high=$(hex $((128 + RANDOM % (slots - 128))))
     new=$(hex $slots)
@@ -103,15 +104,15 @@ says() { # WORD LINE..
 
 # Two slots placed by chance agree; both in one, another value, the other's address and a size that is too small don't.
 try_checker() { # VALUE
-    local one two other
-    one=$(hex $((RANDOM % 500)))
-    two=$(hex $((RANDOM % 500 + 500)))
+    local one two other half=$((MOST_SLOTS / 2))
+    one=$(hex $((RANDOM % half)))
+    two=$(hex $((RANDOM % half + half)))
     other=$(hex $(((16#$1 + RANDOM + 1) % 65536)))
     printf '%s\n' 06 06 "100001$1" 110001 >"$room/script"
-    says yes "06$one" "06$two" "10$two$1" "11$two" 900400
-    says no "06$two" "06$two" "10$two$1" "11$two" 900400
-    says no "06$one" "06$two" "10$two$other" "11$two" 900400
-    says no "06$one" "06$two" "10$two$1" "11$one" 900400
+    says yes "06$one" "06$two" "10$two$1" "11$two" "90$LARGEST"
+    says no "06$two" "06$two" "10$two$1" "11$two" "90$LARGEST"
+    says no "06$one" "06$two" "10$two$other" "11$two" "90$LARGEST"
+    says no "06$one" "06$two" "10$two$1" "11$one" "90$LARGEST"
     says no "06$one" "06$two" "10$two$1" "11$two" "90$two"
 }
 
@@ -125,19 +126,19 @@ told() { # STATUS WORDS LINE..
 
 # Two slots placed by chance; both in one, of which the command names the holder; a list that can't be read.
 try_words() {
-    local one two
-    one=$(hex $((RANDOM % 500)))
-    two=$(hex $((RANDOM % 500 + 500)))
+    local one two half=$((MOST_SLOTS / 2))
+    one=$(hex $((RANDOM % half)))
+    two=$(hex $((RANDOM % half + half)))
     printf '%s\n' 06 06 >"$room/script"
-    told 0 yes "06$one" "06$two" 900400
-    told 1 "slot $((16#$two)) is held by handle 0, which line 0 gave: 06$two" "06$two" "06$two" 900400
-    told 2 "the list can't be read" "06$one" 06 900400
+    told 0 yes "06$one" "06$two" "90$LARGEST"
+    told 1 "slot $((16#$two)) is held by handle 0, which line 0 gave: 06$two" "06$two" "06$two" "90$LARGEST"
+    told 2 "the list can't be read" "06$one" 06 "90$LARGEST"
 }
 
 # Texts made by chance: a value that is written and read; samples that are taken and read in turn; scripts and lists with titles; lists that agree
 # with a script or don't; a stored answer that is spoilt.
 try() {
-    local value record taken records=452
+    local value record taken records=478
     value=$(by_chance)
     record=$((RANDOM % records + 1))
     taken=$((RANDOM % 30 + 1))

@@ -1,7 +1,8 @@
 # shellcheck shell=bash disable=SC2154,SC2034
 # Sourced by mboxalind: whether a list from elsewhere agrees with a script, and why not. The line that can't stand and the reason are found by asking the
 # proved checker about beginnings of both texts, with frames behind them; so the steps aren't here a second time. Uses here, room, wrong, build, launch,
-# kit_home, input and explain of mboxalind. Both texts lie in the room as script and list, and a list's lines count without its size line.
+# kit_home, input, explain, MOST_LINES and MOST_SLOTS of mboxalind. Both texts lie in the room as script and list, and a list's lines count without its
+# size line.
 
 # What the checker says of two files.
 verdict() { (launch checker "$1" "$2") || wrong "checker ended without an answer"; }
@@ -13,10 +14,13 @@ cut_short() { if [ ${#1} -gt 60 ]; then echo "${1:0:60}.."; else echo "$1"; fi; 
 
 as_hex() { printf '%04x' "$1"; }
 
+# The largest size.
+printf -v LARGEST '%04x' "$MOST_SLOTS"
+
 # Do the first LINES lines of both texts agree, with FRAME and its LINE behind them, and with a size of SIZE, else the largest?
 stands() { # LINES [FRAME LINE [SIZE]]
     { head -n "$1" "$room/script"; [ -z "${2:-}" ] || echo "$2"; } >"$room/frames"
-    { head -n "$1" "$room/list"; [ -z "${3:-}" ] || echo "$3"; echo "90${4:-0400}"; } >"$room/lines"
+    { head -n "$1" "$room/list"; [ -z "${3:-}" ] || echo "$3"; echo "90${4:-$LARGEST}"; } >"$room/lines"
     [ "$(verdict "$room/frames" "$room/lines")" = yes ]
 }
 
@@ -41,7 +45,7 @@ writes() { awk -v first="$1" -v count="$2" 'BEGIN { for (i = 0; i < count; i++) 
 
 # Do COUNT handles in a row hold addresses in a row after so many lines? Only a held handle can be written.
 hold() { # HANDLE ADDRESS COUNT LINES
-    [ $(($4 + $3)) -le 2048 ] && stands "$4" "$(writes "$1" "$3")" "$(writes "$2" "$3")"
+    [ $(($4 + $3)) -le "$MOST_LINES" ] && stands "$4" "$(writes "$1" "$3")" "$(writes "$2" "$3")"
 }
 
 # Who holds a slot before line AT.
@@ -63,8 +67,8 @@ tell_taken() { # AT FRAME LINE
     [ "${2:0:2}" != 08 ] || slots=$((16#${2:2:4}))
     if [ "${3:2:4}" = ffff ]; then
         echo "ffff stands for no address, and this is an allocation"
-    elif [ $((address + slots)) -gt 1024 ]; then
-        echo "it would take slots $address to $((address + slots - 1)), and the last slot is 1023"
+    elif [ $((address + slots)) -gt "$MOST_SLOTS" ]; then
+        echo "it would take slots $address to $((address + slots - 1)), and the last slot is $((MOST_SLOTS - 1))"
     else
         [ $slots = 1 ] || address=$((address + $(most 0 $((slots - 1)) run_stands "$1" "$3")))
         tell_holder "$1" "$address"
@@ -194,7 +198,7 @@ tell_size() { # LINES
     local size at
     size=$(line_of list "$1" | cut -c 3-)
     at=$(most 0 "$1" within "$size")
-    echo "no: the size is $((16#$size)), and the addresses need $(($(most $((16#$size)) 1023 too_small "$1") + 1))"
+    echo "no: the size is $((16#$size)), and the addresses need $(($(most $((16#$size)) $((MOST_SLOTS - 1)) too_small "$1") + 1))"
     echo "  line $at of the list has the first that isn't below the size: $(line_of list "$at")"
 }
 

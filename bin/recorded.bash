@@ -1,6 +1,6 @@
 # shellcheck shell=bash disable=SC2154,SC2034
 # Sourced by mboxalind: a list with a recording beside it. A recording may have gigabytes, so it is handed to the program as a path and never
-# copied. Uses here, room, wrong, launch, explain and the variable running of mboxalind.
+# copied. Uses here, room, wrong, launch, explain, MOST_LINES and the variable running of mboxalind.
 
 # The path under which a program can open RECORDING, in the variable path; - is standard input.
 open_recording() { # RECORDING
@@ -155,7 +155,7 @@ left_over() { # LIST PRINTED
 # A column for the list: each line that takes a sample has its line of the recording.
 samples_beside() { # LIST RECORDING
     echo recording
-    head -n 2048 <"$2" | awk 'part == "recording" { line[++lines] = $0; next } { print /^14/ ? line[++taken] : "" }' part=recording - part=list "$1"
+    head -n "$MOST_LINES" <"$2" | awk 'part == "recording" { line[++lines] = $0; next } { print /^14/ ? line[++taken] : "" }' part=recording - part=list "$1"
 }
 
 # The page is whole before OUT is touched, and the survey has as many samples as the program read: a recording may grow meanwhile.

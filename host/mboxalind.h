@@ -13,7 +13,10 @@ extern "C" {
  * 0, in the low 32. A refusal leaves all lent memory as it was. Each pointer may be read, and if it isn't const written, over the length
  * that follows it; what is lent must not overlap. */
 
-/* Translates a script into list. No list of a script is longer than 32,768 bytes. A script whose first line is `f00002` follows edition 2,
+/* A text buffer has so many bytes, and no list is longer; no list needs more cells, or takes more samples. */
+enum { MBOXALIND_TEXT = 57344, MBOXALIND_CELLS = 4096, MBOXALIND_SAMPLES = 2048 };
+
+/* Translates a script into list. No list of a script is longer than MBOXALIND_TEXT bytes. A script whose first line is `f00002` follows edition 2,
  * which gives the lowest clear slot of all, and its list begins with that line; run and run_recorded read both kinds of lists. */
 uint64_t translate(const uint8_t *script, size_t script_len, uint8_t *list, size_t list_len);
 
@@ -22,7 +25,7 @@ uint64_t translate(const uint8_t *script, size_t script_len, uint8_t *list, size
 uint64_t run(const uint8_t *list, size_t list_len, uint8_t *cells, size_t cells_len, uint8_t *out, size_t out_len);
 
 /* Reads a part of a recording, lines `30`, four digits, LF: the next state, from 0 at the start on. Its samples are kept in samples, two
- * bytes each, high first, as far as there is room; a list takes 2,048 at most. Where the parts are cut changes nothing. A number that is no
+ * bytes each, high first, as far as there is room; a list takes MBOXALIND_SAMPLES at most. Where the parts are cut changes nothing. A number that is no
  * reader's state gets 29 times 2^32, and the samples stay. */
 uint64_t read_recording(uint64_t state, uint8_t *samples, size_t samples_len, const uint8_t *part, size_t part_len);
 

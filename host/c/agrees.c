@@ -3,7 +3,7 @@
 
 #include "../mboxalind.h"
 
-enum { BUFFER = 32768 };
+enum { BUFFER = MBOXALIND_TEXT };
 
 static uint8_t script[BUFFER + 1], list[BUFFER + 1];
 

@@ -4,7 +4,7 @@
 
 #include "../mboxalind.h"
 
-enum { BUFFER = 32768, CELLS = 1024, SAMPLES = 2048, PART = 65536 };
+enum { BUFFER = MBOXALIND_TEXT, CELLS = MBOXALIND_CELLS, SAMPLES = MBOXALIND_SAMPLES, PART = 65536 };
 
 static uint8_t list[BUFFER + 1], samples[2 * SAMPLES], part[PART], cells[2 * CELLS], out[BUFFER], left[4];
 

@@ -1,6 +1,7 @@
 //! A list from a file and a recording from its input, read in parts: what the list's loads show, and how many samples are left over.
 //! `cargo run --example counters LIST < RECORDING`
 
+use mboxalind::{CELLS, TEXT};
 use std::io::{Read, Write};
 
 fn main() -> Result<(), Box<dyn std::error::Error>> {
@@ -14,7 +15,7 @@ fn main() -> Result<(), Box<dyn std::error::Error>> {
             bytes => recording.feed(&part[..bytes]),
         }
     }
-    let (mut cells, mut out) = (vec![0; 2048], vec![0; 32768]);
+    let (mut cells, mut out) = (vec![0; 2 * CELLS], vec![0; TEXT]);
     let ran = recording.run(&list, &mut cells, &mut out)?;
     let mut stdout = std::io::stdout().lock();
     stdout.write_all(&out[..ran.bytes])?;

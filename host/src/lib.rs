@@ -14,6 +14,11 @@ pub use words::words;
 
 use std::fmt;
 
+/// A text buffer has so many bytes, and no list is longer (W-206).
+pub const TEXT: usize = 57_344;
+/// No list needs more cells: a size goes up to the number of slots.
+pub const CELLS: usize = 4096;
+
 /// What a call came to.
 #[derive(Clone, Copy, Debug, PartialEq, Eq)]
 #[must_use]
@@ -120,7 +125,7 @@ extern "C" {
     ) -> u64;
 }
 
-/// Translates a script into `list`. No list of a script is longer than 32,768 bytes. A script whose first line is `f00002` follows edition 2,
+/// Translates a script into `list`. No list of a script is longer than [`TEXT`] bytes. A script whose first line is `f00002` follows edition 2,
 /// which gives the lowest clear slot of all, and its list begins with that line; [`run`] and [`run_recorded`] read both kinds of lists.
 #[cfg(translate)]
 pub fn translate(script: &[u8], list: &mut [u8]) -> Answer {
@@ -212,7 +217,7 @@ mod tests {
     #[test]
     fn an_answer_is_taken_apart() {
         assert_eq!(Answer::new(0), Answer::Written(0));
-        assert_eq!(Answer::new(32768), Answer::Written(32768));
+        assert_eq!(Answer::new(TEXT as u64), Answer::Written(TEXT));
         let refusal = Refusal {
             number: 20,
             line: 2047,

@@ -4,7 +4,7 @@
 mod common;
 
 use common::{stored, LIST};
-use mboxalind::{agrees, run, translate, Answer, Refusal, Text, Unread};
+use mboxalind::{agrees, run, translate, Answer, Refusal, Text, Unread, CELLS};
 
 const SCRIPT: &[u8] = include_bytes!("../../samples/whole-session.script");
 const SUPPLIER: &[u8] = include_bytes!("../../samples/supplier.script");
@@ -44,7 +44,7 @@ fn unread(script: &[u8], list: &[u8], text: Text, number: u8, line: u32) {
 
 /// What a list prints.
 fn printed(list: &[u8]) -> Vec<u8> {
-    let (mut cells, mut out) = (vec![0; 2048], vec![0; 200]);
+    let (mut cells, mut out) = (vec![0; 2 * CELLS], vec![0; 200]);
     let bytes = run(list, &mut cells, &mut out).written().expect("a run");
     out.truncate(bytes);
     out
@@ -73,7 +73,7 @@ fn each_kind_of_no() {
         ("1000050007", "1000050008"),
         ("1000050007", "1000040007"),
         ("080002", "080004"),
-        ("080002", "0803ff"),
+        ("080002", "080fff"),
         ("120005", "120002"),
         ("0f00010005", "0f0000"),
         ("0f00010005", "0f00010002"),
@@ -86,17 +86,17 @@ fn each_kind_of_no() {
     for (right, wrong) in others {
         says(false, script, &list.replacen(right, wrong, 1));
     }
-    says(true, script, &list.replace("900006", "900400"));
+    says(true, script, &list.replace("900006", "901000"));
 }
 
 /// What our own rules refuse gets a no, 7 too.
 #[test]
 fn scripts_that_our_rules_refuse() {
-    says(false, "080401", "080000 / 900400");
+    says(false, "081001", "080000 / 901000");
     says(false, "05 / 06", "05 / 060000 / 900001");
     // the list has room for its run, ours is behind the greatest slot that is held
-    let script = "080400 / 0c0000 / 0c0001 / 080002";
-    says(false, script, "080000 / 0c / 0c / 080000 / 900400");
+    let script = "081000 / 0c0000 / 0c0001 / 080002";
+    says(false, script, "080000 / 0c / 0c / 080000 / 901000");
 }
 
 #[test]
@@ -112,7 +112,7 @@ fn which_text_is_refused() {
     unread(b"06\nzz\n", b"yy\n", Text::Script, 1, 1);
     unread(b"06\n", b"060000\n", Text::List, 1, 1);
     unread(b"06\n", b"", Text::List, 1, 0);
-    unread(b"080401\n", b"zz\n", Text::List, 1, 0);
+    unread(b"081001\n", b"zz\n", Text::List, 1, 0);
     let long = b"0f\n".repeat(2049);
     unread(&long, b"yy\n", Text::Script, 2, 2048);
     let list = [&b"0f0000\n".repeat(2049)[..], b"900000\n"].concat();

@@ -3,7 +3,7 @@
 mod common;
 
 use common::{of_model, refused, stored};
-use mboxalind::{run, run_recorded, Answer, Ran, Recording, Refusal};
+use mboxalind::{run, run_recorded, Answer, Ran, Recording, Refusal, CELLS};
 
 /// What is lent, in bytes.
 #[derive(Clone, Copy)]
@@ -16,7 +16,7 @@ struct Room {
 
 const PLENTY: Room = Room {
     samples: 4096,
-    cells: 2050,
+    cells: 2 * CELLS + 2,
     out: 20_000,
     left: 6,
 };

@@ -3,7 +3,7 @@
 mod common;
 
 use common::{of_model, refused, stored, LIST};
-use mboxalind::{run, Answer};
+use mboxalind::{run, Answer, CELLS};
 
 /// The answer; cells and out have to be as they were if it is a refusal.
 fn run_over(list: &[u8], cells: usize, out: usize) -> Answer {
@@ -27,7 +27,7 @@ fn the_whole_session() {
 fn each_refusal() {
     assert_eq!(run_over(b"", 8, 8), refused(1, 0));
     assert_eq!(run_over(b"05\nzz\n900000\n", 8, 8), refused(1, 1));
-    assert_eq!(run_over(b"900401\n", 4096, 8), refused(1, 0));
+    assert_eq!(run_over(b"901001\n", 2 * CELLS + 2, 8), refused(1, 0));
     assert_eq!(run_over(&b"05\n".repeat(2049), 8, 8), refused(2, 2048));
     assert_eq!(run_over(b"110001\n900001\n", 8, 8), refused(20, 0));
     assert_eq!(run_over(b"140001\n900001\n", 8, 8), refused(20, 0));
@@ -69,7 +69,7 @@ fn the_stored_lists_and_the_model() {
                 let at = (asked * 31 + bend * 97) % list.len();
                 list[at] = b"0f9\n"[bend];
             }
-            let (mut cells, mut out) = (vec![7; 2048], vec![7; 8000]);
+            let (mut cells, mut out) = (vec![7; 2 * CELLS], vec![7; 8000]);
             let (mut their_cells, mut their_out) = (cells.clone(), out.clone());
             let theirs = of_model(model::run(&list, &mut their_cells, &mut their_out));
             assert_eq!(run(&list, &mut cells, &mut out), theirs);

@@ -4,7 +4,7 @@
 mod common;
 
 use common::{of_model, refused, stored, LIST};
-use mboxalind::{run, translate, Answer};
+use mboxalind::{run, translate, Answer, TEXT};
 
 const SCRIPT: &[u8] = include_bytes!("../../samples/whole-session.script");
 const TIGHT: &[u8] = include_bytes!("../../samples/tight-frame.script");
@@ -34,10 +34,10 @@ fn lent_memory() {
 
 /// The list, and what it prints over so many cells; both are the model's.
 fn translated_and_run(script: &[u8], cells: usize) -> (Vec<u8>, Vec<u8>) {
-    let mut list = vec![0; 32768];
+    let mut list = vec![0; TEXT];
     let bytes = translate(script, &mut list).written().expect("a list");
     list.truncate(bytes);
-    assert_eq!(Ok(&list), model::translate(script, 32768).as_ref());
+    assert_eq!(Ok(&list), model::translate(script, TEXT).as_ref());
     let (mut cells, mut out) = (vec![0x5a; 2 * cells], vec![0x5a; 100]);
     let (mut their_cells, mut their_out) = (cells.clone(), out.clone());
     let theirs = model::run(&list, &mut their_cells, &mut their_out);
@@ -81,7 +81,7 @@ fn titles_that_are_none() {
 
 /// What the program prints.
 fn printed(script: &[u8]) -> Vec<u8> {
-    let mut list = vec![0; 32768];
+    let mut list = vec![0; TEXT];
     // the limit of the program's input isn't the library's: no stored script is that long
     match translate(script, &mut list) {
         Answer::Written(bytes) => list[..bytes].to_vec(),
@@ -92,7 +92,7 @@ fn printed(script: &[u8]) -> Vec<u8> {
 #[test]
 fn the_stored_answers() {
     let records = stored();
-    assert_eq!(records.len(), 452);
+    assert_eq!(records.len(), 478);
     for (script, answer) in records {
         assert_eq!(printed(&script), answer);
     }

@@ -2,8 +2,9 @@
 
 /// Each is a mistake that a reader of 01 or 02 may make; the first four are 01's "tempting and wrong". `ClearLeavesHead` is 01's own
 /// first wording of `remove`, which W-202 amends: no script shows it, only bare slots do. From `NeedHandleFreed` on they are of needs,
-/// from `SampleUnwritten` on of samples and recordings, from `TightFromHead` on of edition 2, from `SizeUnseen` on of lists from elsewhere. That edition 1 is placed tightly is
-/// `SearchFromZero`. `TightKeepsHead` is shown by no script either: no insert of edition 2 looks at the head.
+/// from `SampleUnwritten` on of samples and recordings, from `TightFromHead` on of edition 2, from `SizeUnseen` on of lists from elsewhere, from
+/// `SizeLineKept` on of W-206's sizes. That edition 1 is placed tightly is `SearchFromZero`. `TightKeepsHead` is shown by no script either: no insert
+/// of edition 2 looks at the head.
 #[derive(Clone, Copy, Debug, PartialEq, Eq)]
 pub enum Fault {
     SearchFromZero,
@@ -118,13 +119,21 @@ pub enum Fault {
     NoneUnseen,
     /// a refusal of the list comes before one of the script
     ListFirst,
+    /// the size line still goes up to 1,024
+    SizeLineKept,
+    /// 31 segments: the room ends one before the last
+    SegmentShort,
+    /// the 8,192nd handle isn't handed out
+    HandleShort,
+    /// the text buffer still has 32,768 bytes
+    BufferKept,
 }
 
 /// At most one fault.
 pub type Plant = Option<Fault>;
 
 /// All faults by the name that `--plant` takes.
-pub const FAULTS: [(&str, Fault); 65] = [
+pub const FAULTS: [(&str, Fault); 69] = [
     ("search-from-zero", Fault::SearchFromZero),
     ("run-in-gap", Fault::RunInGap),
     ("low-half", Fault::LowHalf),
@@ -190,6 +199,10 @@ pub const FAULTS: [(&str, Fault); 65] = [
     ("read-unseen", Fault::ReadUnseen),
     ("none-unseen", Fault::NoneUnseen),
     ("list-first", Fault::ListFirst),
+    ("size-line-kept", Fault::SizeLineKept),
+    ("segment-short", Fault::SegmentShort),
+    ("handle-short", Fault::HandleShort),
+    ("buffer-kept", Fault::BufferKept),
 ];
 
 impl Fault {

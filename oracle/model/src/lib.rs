@@ -30,14 +30,14 @@ pub use slots::{Slots, SEGMENT, SEGMENTS, SLOTS};
 pub use supplier::{agrees, agrees_with, checker, verdict, verdict_with, Flaw, Verdict, Why};
 pub use text::read_script;
 
-/// "Scripts: 2,048 frames, 2,048 handles."
+/// "Scripts: 2,048 frames"
 pub const LINES: usize = 2048;
-/// See [`LINES`].
-pub const HANDLES: usize = 2048;
+/// W-206: "Raise .. handles to 8,192"
+pub const HANDLES: usize = 8192;
 /// "Needs are numbered from 0, at most 64 in a script." (W-201)
 pub const NEEDS: usize = 64;
-/// "Text buffers: 32,768 bytes; a program refuses longer input by 17."
-pub const BUFFER: usize = 32768;
+/// W-206: "text buffers become 57,344 bytes"; 01: "a program refuses longer input by 17"
+pub const BUFFER: usize = 57344;
 
 /// "A refusal is answered as a number and a line (from 0; line 0 for 17)." The line of 24 is the recording's.
 #[derive(Clone, Copy, Debug, PartialEq, Eq)]

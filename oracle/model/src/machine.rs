@@ -7,6 +7,14 @@ use crate::recording::{read_recording, Reader};
 use crate::text::{most_lines, parts, split, titles, RawLine};
 use crate::{print_refusal, refused, Line, Refusal, BUFFER, LINES, SLOTS};
 
+/// W-206: "The size line may go up to 4,096."
+fn most_size(plant: Plant) -> usize {
+    match plant {
+        Some(Fault::SizeLineKept) => 1024,
+        _ => SLOTS,
+    }
+}
+
 /// "`90`, four digits and LF"
 fn size_line(line: &RawLine<'_>) -> Option<u16> {
     match parts(line, None)? {
@@ -42,7 +50,7 @@ pub(crate) fn read_list_with(text: &[u8], plant: Plant) -> Result<(Vec<Line>, us
     for (i, line) in raw.iter().enumerate() {
         if let Some(size) = size_line(line) {
             let early = i + 1 < raw.len();
-            if early || usize::from(size) > SLOTS {
+            if early || usize::from(size) > most_size(plant) {
                 return refused(1, i);
             }
             return Ok((lines, size.into()));
@@ -205,7 +213,7 @@ pub fn run(list: &[u8], cells: &mut [u8], out: &mut [u8]) -> Result<usize, Refus
     run_recorded(list, 0, &[], Lent { cells, out, left })
 }
 
-/// What a run program prints but for its last line, and that line's number: it lends 1,024 cells and keeps 2,048 samples.
+/// What a run program prints but for its last line, and that line's number: it lends a cell for each slot and keeps a sample for each line.
 fn program(input: &[u8], recording: &[u8]) -> Result<(Vec<u8>, usize), Refusal> {
     if input.len() > BUFFER {
         return refused(17, 0);

@@ -3,7 +3,7 @@
 use crate::address_set::AddressSet;
 use crate::edition::Placement;
 use crate::fault::{Fault, Plant};
-use crate::slots::{Slots, SLOTS};
+use crate::slots::Slots;
 
 /// "64 live scopes, root included."
 const SCOPES: usize = 64;
@@ -165,9 +165,9 @@ impl Scopes {
         Ok(run)
     }
 
-    /// "n ≥ 2 pushes n times, owner top, refused (7) exactly if g + n > 1,024"
+    /// "n ≥ 2 pushes n times, owner top, refused (7) exactly if g + n >" the room, 4,096 since W-206
     fn push(&mut self, owner: Id, n: usize) -> Result<Vec<usize>, u8> {
-        if self.slots.past_greatest() + n > SLOTS {
+        if self.slots.past_greatest() + n > self.slots.room() {
             return Err(7);
         }
         let mut run = Vec::new();

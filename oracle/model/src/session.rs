@@ -132,8 +132,13 @@ impl Session {
         });
     }
 
+    /// 16: "handles would pass" 8,192
     fn room_for(&self, n: usize) -> Result<(), u8> {
-        match self.handles.len() + n > HANDLES {
+        let most = match self.plant {
+            Some(Fault::HandleShort) => HANDLES - 1,
+            _ => HANDLES,
+        };
+        match self.handles.len() + n > most {
             true => Err(16),
             false => Ok(()),
         }
@@ -365,9 +370,13 @@ pub fn translate(script: &[u8], room: usize) -> Result<Vec<u8>, Refusal> {
 
 /// The translating program: its input and what it prints.
 pub fn translator_with(input: &[u8], plant: Plant) -> Vec<u8> {
-    let translated = match input.len() > BUFFER {
+    let buffer = match plant {
+        Some(Fault::BufferKept) => 32768,
+        _ => BUFFER,
+    };
+    let translated = match input.len() > buffer {
         true => refused(17, 0),
-        false => translate_with(input, BUFFER, plant),
+        false => translate_with(input, buffer, plant),
     };
     translated.unwrap_or_else(print_refusal)
 }

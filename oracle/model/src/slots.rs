@@ -1,19 +1,22 @@
-//! Document 01, "Slots"; `remove` as W-202 of document 02 amends it, `insert` of edition 2 by W-211, and W-203's slots where a list shows them.
+//! Document 01, "Slots", with the sizes of W-206 of document 02; `remove` as W-202 amends it, `insert` of edition 2 by W-211, and W-203's slots where a
+//! list shows them.
 
 use crate::edition::Placement;
 use crate::fault::{Fault, Plant};
 
-/// "1,024 slots, addresses 0..1023, in 8 segments of 128."
-pub const SLOTS: usize = 1024;
-/// See [`SLOTS`].
-pub const SEGMENTS: usize = 8;
-/// See [`SLOTS`].
+/// "in .. segments of 128"
 pub const SEGMENT: usize = 128;
+/// W-206: "Raise slots to 4,096 in 32 segments"
+pub const SEGMENTS: usize = 32;
+/// See [`SEGMENTS`].
+pub const SLOTS: usize = SEGMENTS * SEGMENT;
 
 /// "State: the occupied slots, segment count L, head segment H."
 #[derive(Clone)]
 pub struct Slots {
     occupied: [bool; SLOTS],
+    /// how many are occupied in each segment: an empty or a full one needn't be looked through
+    held: [usize; SEGMENTS],
     length: usize,
     head: usize,
     placement: Placement,
@@ -25,6 +28,7 @@ impl Slots {
     pub fn new(placement: Placement, plant: Plant) -> Self {
         Slots {
             occupied: [false; SLOTS],
+            held: [0; SEGMENTS],
             length: 0,
             head: 0,
             placement,
@@ -56,13 +60,35 @@ impl Slots {
         self.placement == Placement::ByHead && self.head > self.length
     }
 
+    /// W-206: "State the room rule once over the number of segments": no slot from this segment on is given.
+    fn segments(&self) -> usize {
+        match self.plant {
+            Some(Fault::SegmentShort) => SEGMENTS - 1,
+            _ => SEGMENTS,
+        }
+    }
+
+    /// The same over slots: from this one on none is given.
+    pub fn room(&self) -> usize {
+        SEGMENT * self.segments()
+    }
+
     pub fn occupied(&self, address: usize) -> bool {
         address < SLOTS && self.occupied[address]
     }
 
+    /// The slot is occupied or clear from here on; was it occupied?
+    fn mark(&mut self, address: usize, occupied: bool) -> bool {
+        let before = std::mem::replace(&mut self.occupied[address], occupied);
+        let held = &mut self.held[address / SEGMENT];
+        *held = *held + usize::from(occupied) - usize::from(before);
+        before
+    }
+
     fn lowest_clear(&self, segment: usize) -> Option<usize> {
         let first = SEGMENT * segment;
-        (first..first + SEGMENT).find(|a| !self.occupied[*a])
+        let any = self.held[segment] < SEGMENT;
+        any.then(|| (first..first + SEGMENT).find(|a| !self.occupied[*a]))?
     }
 
     /// None is a refusal by 7.
@@ -82,7 +108,7 @@ impl Slots {
             Some(Fault::RunByFirst) => 1,
             _ => n,
         };
-        if first + n > SLOTS || (first..first + looked_at).any(|a| self.occupied[a]) {
+        if first + n > self.room() || (first..first + looked_at).any(|a| self.occupied[a]) {
             return None;
         }
         (first..first + n).for_each(|a| self.take_at(a));
@@ -92,7 +118,7 @@ impl Slots {
     /// "L grows to take in its segment, and H becomes it"
     fn take_at(&mut self, address: usize) {
         let segment = address / SEGMENT;
-        self.occupied[address] = true;
+        self.mark(address, true);
         if self.plant != Some(Fault::TightKeepsLength) {
             self.length = self.length.max(segment + 1);
         }
@@ -104,12 +130,14 @@ impl Slots {
     /// W-211: "insert gives the lowest clear slot of all, whatever was removed last".
     /// No later answer depends on this L and H: no insert looks at them, and a slot past L is clear, which `remove` says no to anyway.
     fn insert_lowest(&mut self) -> Option<usize> {
-        let first = match self.plant {
-            Some(Fault::TightFromHead) => SEGMENT * self.head.min(self.length),
-            Some(Fault::TightFromOne) => 1,
-            _ => 0,
+        let address = match self.plant {
+            Some(Fault::TightFromHead) => {
+                let first = SEGMENT * self.head.min(self.length);
+                (first..self.room()).find(|a| !self.occupied[*a])?
+            }
+            Some(Fault::TightFromOne) => (1..self.room()).find(|a| !self.occupied[*a])?,
+            _ => (0..self.segments()).find_map(|s| self.lowest_clear(s))?,
         };
-        let address = (first..SLOTS).find(|a| !self.occupied[*a])?;
         self.take_at(address);
         Some(address)
     }
@@ -122,16 +150,16 @@ impl Slots {
         }
         for segment in start..self.length {
             if let Some(address) = self.lowest_clear(segment) {
-                self.occupied[address] = true;
+                self.mark(address, true);
                 self.head = segment;
                 return Some(address);
             }
         }
-        if self.length == SEGMENTS {
+        if self.length == self.segments() {
             return None;
         }
         let address = SEGMENT * self.length;
-        self.occupied[address] = true;
+        self.mark(address, true);
         self.head = self.length;
         self.length += 1;
         Some(address)
@@ -145,21 +173,23 @@ impl Slots {
                 .find(|a| self.occupied[*a] && a % SEGMENT < 64)
                 .map_or(0, |a| a + 1),
             Some(Fault::RunInGap) => (0..SLOTS).find(|a| !self.occupied[*a]).unwrap_or(SLOTS),
-            // no slot from segment L on is occupied
-            _ => self.occupied[..SEGMENT * self.length]
-                .iter()
-                .rposition(|o| *o)
-                .map_or(0, |greatest| greatest + 1),
+            _ => {
+                // no slot from segment L on is occupied
+                let last = self.held[..self.length].iter().rposition(|n| *n > 0);
+                let past = last.map_or(0, |segment| SEGMENT * (segment + 1));
+                let greatest = self.occupied[..past].iter().rposition(|o| *o);
+                greatest.map_or(0, |greatest| greatest + 1)
+            }
         }
     }
 
     /// None is a refusal by 7.
     pub fn push(&mut self) -> Option<usize> {
         let g = self.past_greatest();
-        if g == SLOTS {
+        if g == self.room() {
             return None;
         }
-        self.occupied[g] = true;
+        self.mark(g, true);
         if g.is_multiple_of(SEGMENT) {
             let length = g / SEGMENT + 1;
             self.length = match self.plant {
@@ -176,8 +206,7 @@ impl Slots {
         if segment >= self.length {
             return false;
         }
-        let existed = self.occupied[address];
-        self.occupied[address] = false;
+        let existed = self.mark(address, false);
         let stays = match self.plant {
             Some(Fault::HeadStays) => true,
             Some(Fault::ClearLeavesHead) => !existed,

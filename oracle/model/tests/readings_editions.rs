@@ -2,7 +2,7 @@
 
 mod common;
 use common::*;
-use model::{runner, translate, translator};
+use model::{runner, translate, translator, Frame, Placement, Session, SLOTS};
 
 /// The script with the title before it.
 fn titled(script: &[u8]) -> Vec<u8> {
@@ -66,7 +66,7 @@ fn the_title_in_lists() {
 #[test]
 fn the_title_is_line_0() {
     refuses("f00002 / 05 / 06", 3, 2);
-    refuses("f00002 / 080401", 7, 1);
+    refuses("f00002 / 081001", 7, 1);
     refuses("f00002 / 06 / zz", 1, 2);
     assert_eq!(translator(b"f00002\n05\n06\n"), b"ee030002\n");
     list_refused(b"f00002\n110000\n900000\n", 20, 1);
@@ -86,7 +86,7 @@ fn the_title_takes_a_frames_place() {
     accepts_bytes(&titled(&times(2047, "0f")), &join(&[&lines, b"900000\n"]));
     refuses_bytes(&titled(&times(2048, "0f")), 2, 2048);
     refuses_bytes(&titled(&join(&[&times(2047, "0f"), b"0"])), 2, 2048);
-    assert_eq!(machine(&join(&[&lines, b"900400\n"])), Ok(vec![]));
+    assert_eq!(machine(&join(&[&lines, b"901000\n"])), Ok(vec![]));
     list_refused(&lines, 1, 2048);
     list_refused(&join(&[&lines, b"0f0000\n900000\n"]), 2, 2048);
     list_refused(&join(&[&lines, b"f00002\n900000\n"]), 2, 2048);
@@ -101,11 +101,11 @@ fn the_lowest_slot_whatever_was_removed_last() {
 /// The head is above the hole: edition 1 doesn't find it.
 #[test]
 fn a_hole_below_the_head_of_a_full_frame() {
-    let holes = text("080400 / 0c0005 / 0c0200 / 06");
-    editions(&holes, "060200 / 900400", "060005 / 900400");
+    let holes = text("081000 / 0c0005 / 0c0800 / 06");
+    editions(&holes, "060800 / 901000", "060005 / 901000");
     let once_more = join(&[&holes, b"06\n"]);
     refuses_bytes(&once_more, 7, 4);
-    ends(&titled(&once_more), "060005 / 060200 / 900400");
+    ends(&titled(&once_more), "060005 / 060800 / 901000");
     refuses_bytes(&titled(&join(&[&once_more, b"06\n"])), 7, 6);
 }
 
@@ -152,12 +152,17 @@ fn a_larger_frame() {
 /// "an alloc past 3 and 16 is refused by 7 exactly if every slot is held": with one hole, wherever it is, there is a slot.
 #[test]
 fn refused_by_7_exactly_if_every_slot_is_held() {
-    for hole in 0..1024 {
-        let script = format!("f00002 / 080400 / 0c{hole:04x} / 06");
-        ends(&text(&script), &format!("06{hole:04x} / 900400"));
-        refuses(&format!("{script} / 06"), 7, 4);
+    let mut session = Session::new(Placement::Lowest, None);
+    session
+        .step(Frame::Linear(SLOTS as u16))
+        .expect("all slots");
+    for hole in 0..SLOTS as u16 {
+        assert_eq!(session.step(Frame::Alloc), Err(7));
+        session.step(Frame::Free(hole)).expect("its own handle");
+        let given = session.step(Frame::Alloc).map(|line| line.operands);
+        assert_eq!(given, Ok(vec![hole]));
     }
-    let no_top = text("f00002 / 080400 / 05 / 06");
+    let no_top = text("f00002 / 081000 / 05 / 06");
     refuses_bytes(&no_top, 3, 3);
-    refuses("f00002 / 01 / 080400 / 020001 / 080400 / 06", 16, 5);
+    refuses("f00002 / 01 / 081000 / 020001 / 081000 / 06", 16, 5);
 }

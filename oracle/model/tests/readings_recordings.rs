@@ -2,7 +2,7 @@
 
 mod common;
 use common::*;
-use model::{recorded_runner, run_recorded, runner, Lent, Refusal};
+use model::{recorded_runner, run_recorded, runner, Lent, Refusal, BUFFER};
 
 #[test]
 fn a_sample_is_refused_as_a_write_is() {
@@ -157,7 +157,7 @@ fn what_the_program_prints_of_a_refusal() {
     assert_eq!(recorded_runner(b"900000\n", &far), b"ee1800012345\n");
     assert_eq!(recorded_runner(b"140000\n900001\n", b""), b"ee170000\n");
     assert_eq!(recorded_runner(b"140001\n900001\n", b"x"), b"ee140000\n");
-    assert_eq!(recorded_runner(&[b'0'; 32769], b"x"), b"ee110000\n");
+    assert_eq!(recorded_runner(&[b'0'; BUFFER + 1], b"x"), b"ee110000\n");
 }
 
 /// 29 comes before everything, and no refusal changes what is lent.

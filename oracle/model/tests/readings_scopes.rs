@@ -2,6 +2,7 @@
 
 mod common;
 use common::*;
+use model::translate;
 
 #[test]
 fn pop_of_a_scope_that_is_not_the_top() {
@@ -80,27 +81,33 @@ fn drain_after_pop_last() {
 
 #[test]
 fn gives_7_while_slots_are_clear() {
-    refuses("080400 / 0c0000 / 0c03ff / 06 / 06", 7, 4);
+    refuses("081000 / 0c0000 / 0c0fff / 06 / 06", 7, 4);
 }
 
 #[test]
 fn a_run_of_1_acts_as_alloc() {
-    accepts("080400 / 0c0000 / 080001", "080000 / 0c / 080000 / 900400");
+    accepts("081000 / 0c0000 / 080001", "080000 / 0c / 080000 / 901000");
 }
 
 #[test]
 fn the_empty_run() {
     refuses("05 / 080000", 3, 1);
-    accepts("080400 / 080000", "080000 / 08ffff / 900400");
-    let full = "01 / 080400 / 020001 / 080400 / 080000";
-    accepts(full, "010001 / 080000 / 02 / 080000 / 08ffff / 900400");
+    accepts("081000 / 080000", "080000 / 08ffff / 901000");
+    let full = "01 / 081000 / 020001 / 081000 / 080000";
+    accepts(full, "010001 / 080000 / 02 / 080000 / 08ffff / 901000");
 }
 
+/// A45, and A106: "linear 2,049 to 8,192: once 16, now 7 above 4,096 and 16 above 8,192".
 #[test]
 fn gives_16_before_7() {
-    refuses("080801", 16, 0);
-    refuses("080800", 7, 0);
-    refuses("080401", 7, 0);
+    refuses("082001", 16, 0);
+    refuses("082000", 7, 0);
+    refuses("081001", 7, 0);
+    for once in ["080801", "081000"] {
+        let first = text(once);
+        let list = translate(&first, 14).expect("accepted");
+        assert_eq!(list, [b"080000\n90", &first[2..]].concat());
+    }
 }
 
 #[test]

@@ -3,7 +3,7 @@
 mod common;
 use common::*;
 use model::{
-    agrees, checker, translate, verdict, verdict_with, Fault, Flaw, Refusal, Verdict, Why,
+    agrees, checker, translate, verdict, verdict_with, Fault, Flaw, Refusal, Verdict, Why, BUFFER,
 };
 
 #[track_caller]
@@ -60,7 +60,7 @@ fn the_session_placed_otherwise() {
 #[test]
 fn scripts_that_our_rules_refuse() {
     let refused = |number, line| Why::Refused(Refusal { number, line });
-    no("080401", "080000 / 900400", refused(7, 0));
+    no("081001", "080000 / 901000", refused(7, 0));
     no("05 / 06", "05 / 060000 / 900001", refused(3, 1));
     no(
         "f00002 / 05 / 06",
@@ -68,9 +68,9 @@ fn scripts_that_our_rules_refuse() {
         refused(3, 2),
     );
     // by the head there is no slot left, though one is clear
-    let full = "080400 / 0c0000 / 0c03ff / 06";
-    yes(full, "080000 / 0c / 0c / 060000 / 900400");
-    let list = "080000 / 0c / 0c / 0603ff / 060000 / 900400";
+    let full = "081000 / 0c0000 / 0c0fff / 06";
+    yes(full, "080000 / 0c / 0c / 060000 / 901000");
+    let list = "080000 / 0c / 0c / 060fff / 060000 / 901000";
     no(&format!("{full} / 06"), list, refused(7, 4));
     yes(
         &format!("f00002 / {full} / 06"),
@@ -94,12 +94,12 @@ fn addresses_and_the_size() {
     no("06 / 0c0000", "060005 / 0c / 900005", Why::Size(6));
 }
 
-/// A96: a size larger than needed, up to 1,024.
+/// A96: a size larger than needed, up to 4,096.
 #[test]
 fn a_size_larger_than_needed() {
-    yes("06", "060000 / 900400");
-    yes("06", "0603ff / 900400");
-    unread(b"06\n", b"060000\n900401\n", 1, 1);
+    yes("06", "060000 / 901000");
+    yes("06", "060fff / 901000");
+    unread(b"06\n", b"060000\n901001\n", 1, 1);
 }
 
 /// A97: the address of a name whose allocation isn't held any more.
@@ -168,13 +168,13 @@ fn slots_that_are_held() {
 
 #[test]
 fn slots_that_are_not_there() {
-    flawed("06", "060400 / 900400", 0, Flaw::Beyond);
-    flawed("06", "06ffff / 900400", 0, Flaw::Beyond);
-    flawed("080002", "0803ff / 900400", 0, Flaw::Beyond);
-    flawed("080002", "08ffff / 900400", 0, Flaw::Beyond);
-    yes("080002", "0803fe / 900400");
-    yes("080400", "080000 / 900400");
-    flawed("080400", "080001 / 900400", 0, Flaw::Beyond);
+    flawed("06", "061000 / 901000", 0, Flaw::Beyond);
+    flawed("06", "06ffff / 901000", 0, Flaw::Beyond);
+    flawed("080002", "080fff / 901000", 0, Flaw::Beyond);
+    flawed("080002", "08ffff / 901000", 0, Flaw::Beyond);
+    yes("080002", "080ffe / 901000");
+    yes("081000", "080000 / 901000");
+    flawed("081000", "080001 / 901000", 0, Flaw::Beyond);
     flawed(
         "200000 / 230000",
         "200000 / 23ffff / 900001",
@@ -260,7 +260,7 @@ fn refusals_of_the_texts() {
     let long = join(&[&times(2049, "0f0000"), b"900000\n"]);
     unread(&times(2048, "0f"), &long, 2, 2048);
     // what a step refuses comes after the list's text
-    unread(b"080401\n", b"yy\n", 1, 0);
+    unread(b"081001\n", b"yy\n", 1, 0);
     let first = verdict_with(b"06\nzz\n", b"yy\n", Some(Fault::ListFirst));
     assert_eq!(first, Err(Refusal { number: 1, line: 0 }));
 }
@@ -268,7 +268,7 @@ fn refusals_of_the_texts() {
 /// 17 is the program's: either text is longer than its buffer.
 #[test]
 fn texts_longer_than_the_buffer() {
-    let long = vec![b'0'; 32769];
+    let long = vec![b'0'; BUFFER + 1];
     for (script, list) in [(&long[..], &b"900000\n"[..]), (b"zz\n", &long)] {
         assert_eq!(checker(script, list), b"ee110000\n");
     }

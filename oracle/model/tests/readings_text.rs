@@ -2,7 +2,7 @@
 
 mod common;
 use common::*;
-use model::{run, runner, translate, translator, Refusal};
+use model::{run, runner, translate, translator, Refusal, BUFFER};
 
 #[test]
 fn last_lf_missing() {
@@ -47,15 +47,15 @@ fn wide_operands_are_well_formed() {
 
 #[test]
 fn the_library_takes_any_length() {
-    refuses_bytes(&[b'0'; 32769], 1, 0);
+    refuses_bytes(&[b'0'; BUFFER + 1], 1, 0);
 }
 
 #[test]
 fn programs_refuse_longer_input_first() {
-    assert_eq!(translator(&[b'0'; 32769]), b"ee110000\n");
-    assert_eq!(translator(&[b'0'; 32768]), b"ee010000\n");
-    assert_eq!(runner(&[b'0'; 32769]), b"ee110000\n");
-    assert_eq!(runner(&[b'0'; 32768]), b"ee010000\n");
+    assert_eq!(translator(&[b'0'; BUFFER + 1]), b"ee110000\n");
+    assert_eq!(translator(&[b'0'; BUFFER]), b"ee010000\n");
+    assert_eq!(runner(&[b'0'; BUFFER + 1]), b"ee110000\n");
+    assert_eq!(runner(&[b'0'; BUFFER]), b"ee010000\n");
 }
 
 #[test]
@@ -85,7 +85,18 @@ fn to_a18_line_2048_of_a_list() {
     list_refused(&join(&[&full, b"90000A\n"]), 2, 2048);
     list_refused(&join(&[&full, b"900001"]), 2, 2048);
     list_refused(&join(&[&full, b"0f0000\n900000\n"]), 2, 2048);
-    assert_eq!(machine(&join(&[&full, b"900400\n"])), Ok(vec![]));
+    assert_eq!(machine(&join(&[&full, b"901000\n"])), Ok(vec![]));
+}
+
+/// A107: "size lines 1,025 to 4,096: once 1, now read".
+#[test]
+fn sizes_up_to_4096() {
+    for size in ["900400", "900401", "901000"] {
+        assert_eq!(machine(&text(size)), Ok(vec![]));
+        assert_eq!(runner(&text(size)), b"");
+    }
+    list_refused(b"901001\n", 1, 0);
+    assert_eq!(runner(b"901001\n"), b"ee010000\n");
 }
 
 #[test]
@@ -102,7 +113,7 @@ fn only_10_11_12_are_held_against_the_size() {
 
 #[test]
 fn drain_lines_of_any_length() {
-    let drained = join(&[b"0f0401", &b"0000".repeat(1025), b"\n900000\n"]);
+    let drained = join(&[b"0f1001", &b"0000".repeat(4097), b"\n900000\n"]);
     assert_eq!(machine(&drained), Ok(vec![]));
     list_refused(b"0f0001\n900000\n", 1, 0);
     list_refused(b"0f00000000\n900000\n", 1, 0);
@@ -157,8 +168,8 @@ fn bytes_beyond_the_answer_stay() {
 }
 
 #[test]
-fn the_run_program_lends_1024_cells() {
-    assert_eq!(runner(b"1003ff0007\n1103ff\n900400\n"), b"a00007\n");
+fn the_run_program_lends_4096_cells() {
+    assert_eq!(runner(b"100fff0007\n110fff\n901000\n"), b"a00007\n");
 }
 
 #[test]

@@ -58,9 +58,10 @@ fn sessions_to_run() {
     ends(&first, "0c / 0c / 060080 / 900081");
     let second = join(&[&allocs(127), &text("080002")]);
     ends(&second, "08007f / 900081");
-    refuses("080400 / 06", 7, 1);
-    accepts("080400", "080000 / 900400");
-    refuses("080401", 7, 0);
+    // with the sizes of W-206: 01 says 1024 and 1025 here
+    refuses("081000 / 06", 7, 1);
+    accepts("081000", "080000 / 901000");
+    refuses("081001", 7, 0);
     let last = join(&[
         &allocs(128),
         &text("01"),
@@ -73,7 +74,7 @@ fn sessions_to_run() {
 #[test]
 fn room_limits() {
     refuses_bytes(&times(64, "01"), 8, 63);
-    let handles = text("01 / 080400 / 020001 / 080400 / 06");
+    let handles = text("01 / 081000 / 020001 / 081000 / 06");
     refuses_bytes(&handles, 16, 4);
     let scopes = join(&[&times(63, "01"), &text("02003f / 01")]);
     ends(&scopes, "01003f / 02 / 010040 / 900000");

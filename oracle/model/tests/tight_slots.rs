@@ -133,10 +133,10 @@ fn push_shrinks_what_insert_has_grown() {
 fn by_chance() {
     let mut chance = Chance(211);
     let mut refused = 0;
-    for _ in 0..300 {
+    for _ in 0..100 {
         let mut both = Both::new();
         for _ in 0..1 + chance.below(30) {
-            let burst = [1, 3, 130, 400][chance.below(4)];
+            let burst = [1, 3, 130, SLOTS / 2][chance.below(4)];
             let kind = chance.below(3);
             for _ in 0..chance.below(burst) {
                 match kind {

@@ -8,7 +8,8 @@ use model::{Placement, Slots, SEGMENT, SLOTS};
 /// False once the taker wants no more.
 pub fn every(count: usize, take: &mut dyn FnMut(&[Call]) -> bool) -> bool {
     let mut alphabet = vec![Call::Insert, Call::Push];
-    alphabet.extend([0, 5, 127, 128, 129, 255, 256, 400, 1023, 1024].map(Call::Remove));
+    let removed = [0, 5, 127, 128, 129, 255, 256, 400, SLOTS - 1, SLOTS];
+    alphabet.extend(removed.map(Call::Remove));
     beginnings()
         .iter_mut()
         .all(|calls| extend(calls, &alphabet, count, take))
@@ -16,7 +17,7 @@ pub fn every(count: usize, take: &mut dyn FnMut(&[Call]) -> bool) -> bool {
 
 /// Pushes up to about the limit of a segment; and H 2 above L 1, where what was pushed went back upward and two pushes made L shrink.
 fn beginnings() -> Vec<Vec<Call>> {
-    let pushes = [0, 1, 128, 129, 257, 513, 1024];
+    let pushes = [0, 1, 128, 129, 257, 513, SLOTS - SEGMENT, SLOTS];
     let mut all: Vec<Vec<Call>> = pushes.map(|n| vec![Call::Push; n]).into();
     let mut above = vec![Call::Push; 257];
     above.extend((0..257).map(Call::Remove));
@@ -55,7 +56,7 @@ pub fn by_chance(rng: &mut Rng) -> Vec<Call> {
             0 => rng.below(4),
             1 => 126 + rng.below(5),
             2 => rng.below(40),
-            _ => rng.below(500),
+            _ => rng.below(SLOTS / 2),
         };
         match rng.below(8) {
             0 | 1 => maker.inserts(burst),
@@ -114,7 +115,7 @@ impl Maker {
 
     /// H may end up above L.
     fn rise(&mut self, rng: &mut Rng) {
-        self.pushes(rng.below(500));
+        self.pushes(rng.below(SLOTS / 2));
         self.upward(rng);
         self.pushes(rng.below(130));
         self.inserts(rng.below(4));

@@ -108,11 +108,11 @@ pub fn entitle(rng: &mut Rng, text: &mut Vec<u8>) {
 
 /// Lines and bytes about the limits.
 fn at_the_limits(rng: &mut Rng) -> Vec<u8> {
-    let lines = 2046 + rng.below(4);
+    let lines = model::LINES - 2 + rng.below(4);
     let mut text = match rng.below(3) {
         0 => b"0f\n".repeat(lines),
         1 => b"080000\n".repeat(lines),
-        _ => b"0".repeat(32766 + rng.below(4)),
+        _ => b"0".repeat(model::BUFFER - 2 + rng.below(4)),
     };
     if rng.once_in(2) {
         text.splice(..0, TITLES[0].iter().copied());

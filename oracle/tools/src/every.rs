@@ -1,7 +1,7 @@
 //! Every script of up to so many frames over a small alphabet. A script that goes on after a refused frame says nothing
 //! new (its answer is fixed by then, and after a refusal nothing is compared), so it isn't made.
 
-use model::{Frame, NeedNumber, Placement, Session, Source};
+use model::{Frame, NeedNumber, Placement, Session, Source, SEGMENT, SLOTS};
 
 /// All eighteen frames of 01, 37 of them: two scopes besides root, two names, three handles, runs of 0 to 2.
 pub fn alphabet() -> Vec<Frame> {
@@ -25,10 +25,13 @@ pub fn alphabet() -> Vec<Frame> {
     all
 }
 
-/// Runs about the limits of segments, and what moves the head.
+/// All segments but the last.
+const ALL_BUT_LAST: u16 = (SLOTS - SEGMENT) as u16;
+
+/// Runs about the limits of segments and of the room, and what moves the head.
 pub fn wide_alphabet() -> Vec<Frame> {
     let mut all = vec![Frame::Child, Frame::Alloc, Frame::AllocIn(0)];
-    all.extend([2, 127, 128, 129, 257, 640].map(Frame::Linear));
+    all.extend([2, 127, 128, 129, 257, ALL_BUT_LAST].map(Frame::Linear));
     all.extend([Frame::Pop(1), Frame::Pop(2), Frame::Dangle(1)]);
     all.extend([0, 1, 126, 127, 128, 256].map(Frame::Free));
     all.extend([Frame::Drain, Frame::PopLast]);

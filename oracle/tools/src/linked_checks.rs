@@ -5,7 +5,7 @@ extern "C" {
     fn full_checks(n: usize) -> usize;
 }
 
-/// A full state is made (64 scopes, 1,024 slots, 256 names) and checked n times; how many checks say yes.
+/// A full state is made (64 scopes, all slots, 256 names) and checked n times; how many checks say yes.
 pub fn checks(n: usize) -> usize {
     // SAFETY: numbers only.
     unsafe { full_checks(n) }

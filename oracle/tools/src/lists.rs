@@ -4,6 +4,7 @@
 use crate::damage::{damage_once, entitle};
 use crate::random;
 use crate::rng::Rng;
+use model::{LINES, SLOTS};
 
 /// What lines by chance are like.
 struct Lines {
@@ -34,11 +35,11 @@ fn line(rng: &mut Rng, size: usize, lines: &Lines) -> String {
 
 fn by_chance(rng: &mut Rng, kind: &Lines) -> Vec<u8> {
     let size = match rng.below(8) {
-        0 => 1023 + rng.below(4),
+        0 => SLOTS - 1 + rng.below(4),
         _ => 1 + rng.below(20),
     };
     let lines = match rng.below(20) {
-        0 => 2046 + rng.below(4),
+        0 => LINES - 2 + rng.below(4),
         _ => rng.below(40),
     };
     let titled = rng.once_in(4);

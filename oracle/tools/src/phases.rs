@@ -77,10 +77,9 @@ pub fn random_tight_scripts(
 /// The sessions of edition 2: by the model only.
 pub fn sessions_of_edition_2(comparison: &mut Comparison) {
     by_model(comparison, |comparison| {
-        let long = sessions::long_edition_2();
-        for script in sessions::edition_2().into_iter().chain(long) {
-            comparison.offer(script);
-        }
+        let mut short = sessions::edition_2();
+        short.extend(sessions::sizes_of_edition_2());
+        short_and_long(comparison, short, &sessions::long_edition_2());
     });
 }
 
@@ -90,6 +89,25 @@ pub fn sessions_of_needs(comparison: &mut Comparison) {
         comparison.offer(script);
     }
     comparison.settle();
+}
+
+/// The sessions at the limits of slots and handles, and the longest list: few short scripts get there.
+pub fn sessions_of_sizes(comparison: &mut Comparison) {
+    short_and_long(comparison, sessions::sizes(), &[sessions::longest()]);
+}
+
+/// A long script isn't made small quickly: it has its turn where no short one shows a difference.
+fn short_and_long(comparison: &mut Comparison, short: Vec<Vec<u8>>, long: &[Vec<u8>]) {
+    for script in short {
+        comparison.offer(script);
+    }
+    comparison.settle();
+    if comparison.found.is_empty() {
+        for script in long {
+            comparison.offer(script.clone());
+        }
+        comparison.settle();
+    }
 }
 
 /// The sessions of samples.

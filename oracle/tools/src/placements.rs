@@ -10,8 +10,10 @@ pub type Choose = fn(&mut Rng, &Slots, usize) -> Option<usize>;
 pub const PLACEMENTS: [(&str, Choose); 7] = [
     ("anywhere", anywhere),
     ("nearby", nearby),
-    ("first fit", |_, slots, n| firsts(slots, n).first().copied()),
-    ("highest", |_, slots, n| firsts(slots, n).last().copied()),
+    ("first fit", |_, slots, n| firsts(slots, n).next()),
+    ("highest", |_, slots, n| {
+        fitting(slots, n).last().map(|f| f.0 + f.1 - n)
+    }),
     ("best fit", |_, slots, n| {
         fitting(slots, n).min_by_key(|f| f.1).map(|f| f.0)
     }),
@@ -40,31 +42,31 @@ fn fitting(slots: &Slots, n: usize) -> impl Iterator<Item = (usize, usize)> {
 }
 
 /// Every slot from which n are clear.
-fn firsts(slots: &Slots, n: usize) -> Vec<usize> {
-    let of = |(first, length): (usize, usize)| first..=first + length - n;
-    fitting(slots, n).flat_map(of).collect()
+fn firsts(slots: &Slots, n: usize) -> impl Iterator<Item = usize> + Clone {
+    let of = move |(first, length): (usize, usize)| first..=first + length - n;
+    let long: Vec<(usize, usize)> = fitting(slots, n).collect();
+    long.into_iter().flat_map(of)
 }
 
-fn one_of(rng: &mut Rng, firsts: &[usize]) -> Option<usize> {
-    firsts.get(rng.below(firsts.len())).copied()
+fn one_of(rng: &mut Rng, mut firsts: impl Iterator<Item = usize> + Clone) -> Option<usize> {
+    let count = firsts.clone().count();
+    firsts.nth(rng.below(count))
 }
 
 fn anywhere(rng: &mut Rng, slots: &Slots, n: usize) -> Option<usize> {
-    one_of(rng, &firsts(slots, n))
+    one_of(rng, firsts(slots, n))
 }
 
 /// One of the lowest few, so that slots are given again soon.
 fn nearby(rng: &mut Rng, slots: &Slots, n: usize) -> Option<usize> {
-    let mut firsts = firsts(slots, n);
-    firsts.truncate(4);
-    one_of(rng, &firsts)
+    one_of(rng, firsts(slots, n).take(4))
 }
 
 /// Even slots while there are any.
 fn every_other(_: &mut Rng, slots: &Slots, n: usize) -> Option<usize> {
-    let firsts = firsts(slots, n);
-    let even = firsts.iter().find(|first| *first % 2 == 0);
-    even.or(firsts.first()).copied()
+    let mut firsts = firsts(slots, n);
+    let lowest = firsts.clone().next();
+    firsts.find(|first| first % 2 == 0).or(lowest)
 }
 
 /// How many slots a frame asks for, where it does.

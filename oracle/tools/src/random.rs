@@ -2,7 +2,7 @@
 
 use crate::profile::{length, opcode, Profile, PROFILES, WITH_NEEDS, WITH_SAMPLES};
 use crate::rng::Rng;
-use model::{Frame, NeedNumber, Placement, Script, Session, LINES};
+use model::{Frame, NeedNumber, Placement, Script, Session, LINES, SLOTS};
 
 pub struct Made {
     pub profile: &'static str,
@@ -149,7 +149,7 @@ impl Maker<'_> {
 
     /// A scope over several segments is popped, which leaves the head high; a run from below then shrinks L.
     fn plan_rise(&mut self) {
-        let long = 129 + self.rng.below(400) as u16;
+        let long = 129 + self.rng.below(SLOTS / 4) as u16;
         let short = 2 + self.rng.below(130) as u16;
         self.planned = vec![
             Frame::Alloc,
@@ -243,7 +243,7 @@ impl Maker<'_> {
 
     fn run(&mut self) -> u16 {
         let n = match self.rng.below(40) {
-            0 => self.rng.below(1100),
+            0 => self.rng.below(SLOTS + 80),
             1 => self.rng.below(66000),
             2..20 => self.rng.below(4),
             _ => self.rng.below(self.profile.run + 1),

@@ -1,4 +1,4 @@
-//! 01's sessions, those of needs, of samples and of edition 2 and the boundaries, as scripts.
+//! 01's sessions, those of needs, of samples, of edition 2 and of W-206's sizes and the boundaries, as scripts.
 
 fn text(lines: &str) -> Vec<u8> {
     let mut out = Vec::new();
@@ -28,7 +28,7 @@ const MARKED: [&str; 11] = [
     "01 070000 0c0000 06",
 ];
 
-/// 01, "Run:", and other limits.
+/// 01, "Run:", and other limits. Those of 1,024 slots and 2,048 handles are none any more: W-206 raises them.
 const RUN: [&str; 24] = [
     "129*06 0c0005 0c0080 06",
     "127*06 080002",
@@ -199,6 +199,48 @@ const EDITION_2: [&str; 21] = [
     "f000020000 06",
 ];
 
+/// W-206: the last slot, the last handle, and one more; the segments past the eighth; A106.
+const SIZES: [&str; 22] = [
+    "081000",
+    "081000 06",
+    "081001",
+    "082000",
+    "082001",
+    "080fff 06 06",
+    "080ffe 080002",
+    "080fff 080002",
+    "080f80 06",
+    "080f81 0c0005 0c0f80 06",
+    "081000 0c0000 0c0fff 06 06",
+    "081000 0c0000 080001",
+    "081000 0c0000 080002",
+    "081000 100fff00ff 110fff 0c0fff 0f",
+    "01 081000 020001 081000 06",
+    "01 081000 020001 081000 080000",
+    "01 081000 020001 080fff 06 101fff0007 111fff",
+    "080400 01 080c00 020001 06 080002 101001000a",
+    "01 080401 020001 080002 06",
+    "081000 200000 230000",
+    "01 081000 020001 081000 200000 230000",
+    "01 200001 081000 020001 081000 230000",
+];
+
+/// The same in edition 2.
+const SIZES_2: [&str; 6] = [
+    "f00002 081001",
+    "f00002 080f80 06",
+    "f00002 081000 0c0005 0c0800 06 06",
+    "f00002 081000 0c0005 0c0800 06 06 06",
+    "f00002 01 081000 020001 081000 06",
+    "f00002 01 080c00 020001 06 080c00",
+];
+
+/// The longest lists: all slots are closed and drained, twice, and all other frames write.
+const LONGEST: [&str; 2] = [
+    "01 081000 2041*1000000007 020001 0f 081000 05 0f",
+    "f00002 01 081000 2040*1000000007 020001 0f 081000 05 0f",
+];
+
 /// 256 bindings, one taken, then one that is too many, or one in its place.
 fn bindings() -> Vec<Vec<u8>> {
     let mut full = text("06");
@@ -223,9 +265,22 @@ pub fn edition_2() -> Vec<Vec<u8>> {
     all
 }
 
-/// As many frames as stand behind a title, and one more: too long to be stored.
-pub fn long_edition_2() -> [Vec<u8>; 2] {
-    [text("f00002 2047*0f"), text("f00002 2048*0f")]
+/// As many frames as stand behind a title, one more, and the longest list: too long to be stored.
+pub fn long_edition_2() -> [Vec<u8>; 3] {
+    ["f00002 2047*0f", "f00002 2048*0f", LONGEST[1]].map(text)
+}
+
+pub fn sizes() -> Vec<Vec<u8>> {
+    SIZES.iter().map(|s| text(s)).collect()
+}
+
+pub fn sizes_of_edition_2() -> Vec<Vec<u8>> {
+    SIZES_2.iter().map(|s| text(s)).collect()
+}
+
+/// The longest list there is: too long to be stored.
+pub fn longest() -> Vec<u8> {
+    text(LONGEST[0])
 }
 
 pub fn sessions() -> Vec<Vec<u8>> {

@@ -6,6 +6,7 @@ use std::collections::{BTreeMap, BTreeSet};
 
 struct Sets {
     occupied: BTreeSet<usize>,
+    /// those below the size: from there on all are clear
     clear: BTreeSet<usize>,
     /// by handle
     held: BTreeMap<usize, usize>,
@@ -16,7 +17,7 @@ impl Sets {
     fn new() -> Sets {
         Sets {
             occupied: BTreeSet::new(),
-            clear: (0..SLOTS).collect(),
+            clear: BTreeSet::new(),
             held: BTreeMap::new(),
             size: 0,
         }
@@ -29,7 +30,10 @@ impl Sets {
                 let first = self.occupied.last().map_or(0, |greatest| greatest + 1);
                 (first + usize::from(n) <= SLOTS).then_some(first)
             }
-            _ => self.clear.first().copied(),
+            _ => {
+                let past = (self.size < SLOTS).then_some(self.size);
+                self.clear.first().copied().or(past)
+            }
         }
     }
 
@@ -51,6 +55,15 @@ impl Sets {
             self.clear.insert(slot);
         }
     }
+}
+
+/// May a slot go back?
+fn lets_go(frame: Frame) -> bool {
+    use Frame::{Free, FreeNeed, FreeQuietly, Pop, PopLast};
+    matches!(
+        frame,
+        Pop(_) | PopLast | Free(_) | FreeQuietly(_) | FreeNeed(_)
+    )
 }
 
 /// The number after the opcode.
@@ -85,7 +98,9 @@ pub fn wrong(script: &Script, printed: &[u8]) -> Option<String> {
             let run = (handed..session.handed()).zip(place?..);
             run.for_each(|(handle, slot)| sets.take(handle, slot));
         }
-        sets.let_go(&session);
+        if lets_go(*frame) {
+            sets.let_go(&session);
+        }
     }
     let right = !accepted || lines.last().and_then(|l| operand(l)) == Some(sets.size);
     (!right).then(|| format!("size: by the sets {}", sets.size))

@@ -1,6 +1,6 @@
 //! Bare slots: ours by 01 and by W-202, against the original's; with the feature `linked` the proved functions too.
 
-use model::{Fault, Placement};
+use model::{Fault, Placement, SEGMENTS, SLOTS};
 use oracle::bare::{model_rows, Call, End, Row};
 use oracle::comparison::Comparison;
 use oracle::every::{alphabet, wide_alphabet};
@@ -57,8 +57,9 @@ fn a_clear_slot_moves_the_head() {
 #[test]
 fn at_segment_l_or_above_nothing_changes() {
     assert_eq!(last(129, &[256]), (row(0, 2, 0), row(0, 2, 0)));
-    assert_eq!(last(129, &[1023]), (row(0, 2, 0), row(0, 2, 0)));
-    assert_eq!(last(1024, &[1024]), (row(0, 8, 0), row(0, 8, 0)));
+    assert_eq!(last(129, &[SLOTS - 1]), (row(0, 2, 0), row(0, 2, 0)));
+    let full = row(0, SEGMENTS, 0);
+    assert_eq!(last(SLOTS, &[SLOTS]), (full, full));
 }
 
 /// The next insert tells the two wordings apart: by the first one it gives slot 5.

@@ -92,7 +92,7 @@ fn the_known_fault_is_named() {
 #[test]
 fn after_a_refusal_nothing_is_compared() {
     // ours alone: no slot; then what the old allocator would go on with
-    let alone = beside("080400 / 06 / 0f");
+    let alone = beside("081000 / 06 / 0f");
     assert!(!alone.differs());
     assert_eq!(marks(&alone), [Mark::Equal, Mark::Apart, Mark::Apart]);
     assert_eq!(alone.rows[1].ours, "refused 7");
@@ -150,13 +150,13 @@ fn edition_2_is_shown_beside_edition_1() {
 /// The old allocator goes on where ours refuses, or has no more slots than ours has; lines count the title.
 #[test]
 fn edition_2_refused() {
-    let full = beside("f00002 / 080400 / 0c0005 / 0c0200 / 06 / 06 / 06 / 0f");
+    let full = beside("f00002 / 081000 / 0c0005 / 0c0800 / 06 / 06 / 06 / 0f");
     assert!(!full.differs());
     let said = "edition 2, refused at line 6 as by the model (7: no slot); the old allocator knows edition 1 only";
     assert_eq!(sentence(&full), said);
     assert_eq!(full.rows[5].ours, "refused 7");
-    let there = beside("f00002 / 080400 / 0c0005 / 0c0200 / 06 / 06");
-    assert!(sentence(&there).ends_with(": 1025 slots there, 1024 here, 1 fewer"));
+    let there = beside("f00002 / 081000 / 0c0005 / 0c0800 / 06 / 06");
+    assert!(sentence(&there).ends_with(": 4097 slots there, 4096 here, 1 fewer"));
     let late = beside("f00002 / 070000 / 05 / 0c0000");
     assert!(sentence(&late).ends_with("knows edition 1 only: it doesn't take these frames"));
     assert!(!late.differs());
@@ -207,15 +207,15 @@ fn every_script_can_be_drawn() {
     let mut all: Vec<Beside> = [
         "05",
         "0f",
-        "080400",
+        "081000",
         "080000",
         "01 / 080101 / 020001 / 080002 / 06 / 0c0103",
         "22 / 230000",
         "200000 / 230000 / 05 / 250000",
         "01 / 080101 / 020001 / 080002 / 200000 / 230000 / 250000",
         "f00002",
-        "f00002 / 080400 / 0c0005 / 0c0200 / 06 / 06",
-        "f00002 / 080401",
+        "f00002 / 081000 / 0c0005 / 0c0800 / 06 / 06",
+        "f00002 / 081001",
     ]
     .into_iter()
     .map(beside)

@@ -162,10 +162,12 @@ fn d7_slots_that_are_not_held() {
 
 #[test]
 fn d8_room() {
-    taken("080401", 7, "080000");
-    taken("080400 / 06", 7, "060400");
-    taken("080400 / 0c0000 / 0c03ff / 06 / 06", 7, "060400");
-    taken("080801", 16, "080000");
+    taken("081001", 7, "080000");
+    taken("082000", 7, "080000");
+    taken("081000 / 06", 7, "061000");
+    taken("081000 / 0c0000 / 0c0fff / 06 / 06", 7, "061000");
+    taken("082001", 16, "080000");
+    taken("01 / 081000 / 020001 / 081000 / 06", 16, "061000");
     let children = vec!["01"; 64].join(" / ");
     taken(&children, 8, "010040");
     let names: Vec<String> = (0..257).map(|n| format!("09{n:04x}0000")).collect();
@@ -228,9 +230,9 @@ fn d15_a_need_deferred_to_a_closed_scope() {
 #[test]
 fn d16_room_for_needs() {
     taken(&vec!["22"; 65].join(" / "), 22, "220040");
-    taken("080400 / 200000 / 230000", 7, "230400");
-    let handles = "01 / 080400 / 020001 / 080400 / 200000 / 230000";
-    taken(handles, 16, "230400");
+    taken("081000 / 200000 / 230000", 7, "231000");
+    let handles = "01 / 081000 / 020001 / 081000 / 200000 / 230000";
+    taken(handles, 16, "231000");
 }
 
 /// No difference: a deferred need has no output on either side.

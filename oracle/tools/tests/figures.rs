@@ -43,7 +43,7 @@ fn scripts_by_chance() {
 fn the_lists() {
     for lines in LISTS {
         let list = work::list(lines);
-        let (mut cells, mut out) = (vec![7; 2048], vec![7; 8000]);
+        let (mut cells, mut out) = (vec![7; 2 * model::SLOTS], vec![7; 8000]);
         let (mut theirs, mut other) = (cells.clone(), out.clone());
         let written = Machine::default().run(&list, &mut cells, &mut out);
         assert_eq!(written, model::run(&list, &mut theirs, &mut other).ok());

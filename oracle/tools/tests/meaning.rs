@@ -2,6 +2,8 @@
 //! those samples in order, each used once", if each allocation had a box of its own. W-211: so it does in either edition.
 
 use model::Script;
+#[cfg(feature = "linked")]
+use model::{BUFFER, SLOTS};
 use oracle::meaning::meaning;
 use oracle::random;
 use oracle::rng::Rng;
@@ -14,7 +16,7 @@ fn printed(script: &[u8], recording: &[u8]) -> Vec<u8> {
 /// The same by the linked functions, the recording in parts.
 #[cfg(feature = "linked")]
 fn printed_linked(script: &[u8], recording: &[u8]) -> Vec<u8> {
-    let (mut list, mut cells, mut out) = (vec![0; 32768], vec![0; 2048], vec![0; 32768]);
+    let (mut list, mut cells, mut out) = (vec![0; BUFFER], vec![0; 2 * SLOTS], vec![0; BUFFER]);
     let bytes = mboxalind::translate(script, &mut list).written();
     let bytes = bytes.expect("an accepted script");
     let mut fed = mboxalind::Recording::default();

@@ -2,6 +2,7 @@
 //! the first.
 
 use oracle::records;
+use oracle::sessions::{sizes, sizes_of_edition_2};
 use std::fs;
 use std::path::Path;
 
@@ -25,6 +26,10 @@ fn stored_answers() {
     let bytes = data("answers.txt");
     let records = records::read(&bytes).expect("records");
     assert!(records.len() >= 300);
+    let new = sizes().into_iter().chain(sizes_of_edition_2());
+    for script in new {
+        assert!(records.iter().any(|(_, stored, _)| *stored == script));
+    }
     let (mut sampled, mut titled) = (0, 0);
     for (mark, script, printed) in records {
         assert_eq!(model::translator(script), printed);

@@ -1,6 +1,7 @@
 //! The tools themselves: records, shrinking, and that a planted fault is found and an honest answer isn't blamed.
 
 use model::{Fault, Lent, Placement, FAULTS};
+use oracle::agreement;
 use oracle::bare::{model_rows, Call};
 use oracle::comparison::Comparison;
 use oracle::editions;
@@ -51,6 +52,7 @@ fn the_model_has_no_difference() {
     phases::every_script(&mut comparison, &samples_alphabet(), 3);
     phases::sessions_of_needs(&mut comparison);
     phases::sessions_of_samples(&mut comparison);
+    phases::sessions_of_sizes(&mut comparison);
     phases::random_scripts(&mut comparison, random::script, 300, 7);
     phases::random_scripts(&mut comparison, random::with_needs, 300, 7);
     phases::random_scripts(&mut comparison, random::with_samples, 300, 7);
@@ -164,7 +166,7 @@ fn a_sample_that_is_not_marked_written_is_found() {
 /// Each fault of recordings is found by a case by chance, and the model without one isn't blamed.
 #[test]
 fn faults_of_recordings_are_found() {
-    let (outcomes, found) = recorded::by_chance(&mut Modelled(None), 2000, 205);
+    let (outcomes, found) = recorded::by_chance(&mut Modelled(None), 2000, 2);
     assert!(found.is_none());
     for number in [1, 2, 17, 20, 23, 24, 29] {
         let label = format!("refused by {number:2}");
@@ -175,7 +177,7 @@ fn faults_of_recordings_are_found() {
         .skip_while(|(_, f)| *f != Fault::SampleHighLate)
         .take_while(|(_, f)| *f != Fault::TightFromHead);
     for (name, fault) in of_recordings {
-        let (_, found) = recorded::by_chance(&mut Modelled(Some(*fault)), 2000, 205);
+        let (_, found) = recorded::by_chance(&mut Modelled(Some(*fault)), 2000, 2);
         let (case, _) = found.expect(name);
         assert!(
             case.list.len() < 60 && case.recording.len() < 60,
@@ -217,7 +219,7 @@ fn faults_of_edition_2_are_found() {
         let mut rows = |c: &[Call]| model_rows(c, Placement::Lowest, Some(*fault));
         let (_, by_bare) = phases::bare_by_model(100, 211, Placement::Lowest, &mut rows);
         assert_eq!(by_bare.is_some(), IN_SLOTS.contains(fault), "{name}");
-        let (_, by_list) = recorded::by_chance(&mut Modelled(Some(*fault)), 300, 211);
+        let (_, by_list) = recorded::by_chance(&mut Modelled(Some(*fault)), 300, 206);
         assert_eq!(by_list.is_some(), IN_LISTS.contains(fault), "{name}");
     }
 }
@@ -225,7 +227,7 @@ fn faults_of_edition_2_are_found() {
 #[test]
 fn a_title_beside_the_limit_is_found() {
     let fault = Some(Fault::TitleBesideLimit);
-    let [full, over] = sessions::long_edition_2();
+    let [full, over, _] = sessions::long_edition_2();
     assert_eq!(
         model::translator(&full),
         model::translator_with(&full, fault)
@@ -239,6 +241,40 @@ fn a_title_beside_the_limit_is_found() {
     };
     assert_eq!(run(fault), Ok(0));
     assert_eq!(run(None).map_err(|r| (r.number, r.line)), Err((2, 2048)));
+}
+
+/// The faults of W-206's sizes that scripts show, by the model alone: the original limits neither slots nor handles.
+#[test]
+fn faults_of_the_room_are_found() {
+    for (fault, smallest) in [
+        (Fault::SegmentShort, "080f81\n"),
+        (Fault::HandleShort, "082000\n"),
+    ] {
+        let mut comparison = Comparison::new(Box::new(Model(Some(fault))), BOTH);
+        phases::sessions_of_sizes(&mut comparison);
+        let found = comparison.found.iter().map(|f| f.small.as_slice());
+        let small = found.min_by_key(|small| small.len());
+        assert_eq!(small, Some(smallest.as_bytes()), "{fault:?}");
+    }
+}
+
+/// That of the size line shows in lists that are run and in lists from elsewhere, that of the buffer in texts and in the longest list.
+#[test]
+fn faults_of_lists_and_texts_are_found() {
+    let fault = Some(Fault::SizeLineKept);
+    let (_, found) = recorded::by_chance(&mut Modelled(fault), 300, 206);
+    let (case, _) = found.expect("a list");
+    assert!(case.list.starts_with(b"90"), "{case}");
+    let mut checker = agreement::Modelled(fault);
+    assert!(agreement::by_chance(&mut checker, 300, 206).1.is_some());
+    let fault = Some(Fault::BufferKept);
+    let longest = sessions::longest();
+    let kept = model::translator_with(&longest, fault);
+    assert_eq!(kept, b"ee110000\n");
+    assert!(model::translator(&longest).starts_with(b"010001\n"));
+    let mut comparison = Comparison::new(Box::new(Model(fault)), BOTH);
+    phases::damaged_texts(&mut comparison, 300, 206);
+    assert!(!comparison.found.is_empty());
 }
 
 /// The head of edition 2 is looked at by no insert: scripts don't show it.

@@ -1,7 +1,7 @@
 //! How the tests write scripts and lists: frames with ` / ` between them, as in the readings.
 #![allow(dead_code)]
 
-use model::{read_list, read_recording, run, run_recorded, translate, Lent, Refusal};
+use model::{read_list, read_recording, run, run_recorded, translate, Lent, Refusal, SLOTS};
 
 /// Lines with ` / ` between them, each ended by LF.
 pub fn text(lines: &str) -> Vec<u8> {
@@ -61,7 +61,7 @@ pub fn refuses(script: &str, number: u8, line: usize) {
 
 /// What the machine writes, with cells and room in plenty.
 pub fn machine(list: &[u8]) -> Result<Vec<u8>, Refusal> {
-    let mut cells = [0xee; 2048];
+    let mut cells = [0xee; 2 * SLOTS];
     let mut out = vec![0; 65536];
     let written = run(list, &mut cells, &mut out)?;
     out.truncate(written);
@@ -86,7 +86,7 @@ pub fn fed(recording: &[u8], bytes: usize) -> (u64, Vec<u8>) {
 /// What the machine writes beside a recording, and how many samples are left over; with room in plenty.
 pub fn recorded(list: &[u8], recording: &[u8]) -> Result<(Vec<u8>, u32), Refusal> {
     let (state, samples) = fed(recording, 4096);
-    let (mut cells, mut out, mut left) = ([0xee; 2048], vec![0; 65536], [0; 4]);
+    let (mut cells, mut out, mut left) = ([0xee; 2 * SLOTS], vec![0; 65536], [0; 4]);
     let lent = Lent {
         cells: &mut cells,
         out: &mut out,

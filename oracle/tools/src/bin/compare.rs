@@ -155,6 +155,9 @@ fn second_edition(comparison: &mut Comparison, plan: &Plan) {
     for short in shorts {
         every_script(comparison, phases::every_tight_script, short);
     }
+    phases::sessions_of_edition_2(comparison);
+    println!("sessions, at the limits of slots and handles too, and the longest list");
+    print_tally(comparison);
     let begun = Instant::now();
     let profiles = phases::random_tight_scripts(comparison, plan.random_editions, plan.seed);
     println!("by chance, {} s, {profiles:?}", begun.elapsed().as_secs());
@@ -225,6 +228,9 @@ fn scripts(plan: &Plan) -> usize {
     for short in shorts {
         every_script(&mut comparison, phases::every_script, short);
     }
+    phases::sessions_of_sizes(&mut comparison);
+    println!("at the limits of slots and handles, and the longest list");
+    print_tally(&mut comparison);
     let sources: [(random::Source, u64); 3] = [
         (random::script, plan.random),
         (random::with_needs, plan.random_needs),

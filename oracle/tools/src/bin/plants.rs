@@ -26,11 +26,12 @@ fn shown(text: &[u8]) -> String {
 /// The first difference, made small.
 fn found(fault: Option<Fault>, against: Against) -> Option<String> {
     let mut comparison = Comparison::new(Box::new(Model(fault)), against);
-    let phases: [fn(&mut Comparison); 6] = [
+    let phases: [fn(&mut Comparison); 7] = [
         |c| phases::every_script(c, &alphabet(), 4),
         |c| phases::every_script(c, &needs_alphabet(), 4),
         |c| phases::every_script(c, &samples_alphabet(), 3),
         phases::sessions_of_needs,
+        phases::sessions_of_sizes,
         |c| drop(phases::random_scripts(c, random::script, 4000, SEED)),
         |c| drop(phases::random_scripts(c, random::with_needs, 4000, SEED)),
     ];

@@ -1,5 +1,6 @@
 //! Writes stored answers (see `records`) to standard output: 01's sessions and limits first, then scripts by chance; then the same with needs, with samples, and
-//! in edition 2.
+//! in edition 2; and the sessions of W-206's sizes.
+//! With --again FILE, the scripts of that file are answered again, and the sessions of sizes that it lacks are put behind them.
 //! With --wrong, the short sessions with their answer as it is and spoilt in each of four ways; with --broken, one record and another that is
 //! cut off.
 
@@ -9,7 +10,7 @@ use oracle::judge::{judge, Against, Verdict};
 use oracle::random::{self, Source};
 use oracle::records::{self, Mark};
 use oracle::rng::Rng;
-use oracle::sessions::{edition_2, needs, samples, sessions};
+use oracle::sessions::{edition_2, needs, samples, sessions, sizes, sizes_of_edition_2};
 use std::io::Write;
 
 const AGAINST: Against = Against {
@@ -114,6 +115,73 @@ fn broken() -> Vec<u8> {
     out
 }
 
+/// `replay` has room for so many bytes.
+const ROOM: usize = 262_143;
+
+/// A record, and what was stored for its script before, where that was something else.
+struct Again {
+    number: usize,
+    record: Vec<u8>,
+    before: Option<Vec<u8>>,
+}
+
+fn shown(text: &[u8]) -> String {
+    let lines = text.iter().filter(|b| **b == b'\n').count();
+    let text = String::from_utf8_lossy(text);
+    match lines > 12 {
+        true => format!("{} .. ({lines} lines)", text.lines().next().unwrap_or("")),
+        false => text.trim_end().replace('\n', " / "),
+    }
+}
+
+/// Another answer than before has a script only that was refused by 7 or 16: W-206, "a script once refused by 7 or 16 may now be accepted".
+fn answered_again(number: usize, script: &[u8], before: Option<&[u8]>) -> Again {
+    let mut record = Vec::new();
+    store(script, &mut record);
+    let printed = model::translator(script);
+    let before = before.filter(|before| *before != printed);
+    if let Some(before) = before {
+        let told = format!("{number}: {}: {}", shown(script), shown(before));
+        let once = before.starts_with(b"ee07") || before.starts_with(b"ee10");
+        assert!(once, "{told}, which has to stay");
+        eprintln!("{told}, now {}", shown(&printed));
+    }
+    Again {
+        number,
+        record,
+        before: before.map(<[u8]>::to_vec),
+    }
+}
+
+/// Where the file gets too long, the longest of the records that aren't what they were are left out.
+fn fitted(mut all: Vec<Again>) -> Vec<Again> {
+    while all.iter().map(|a| a.record.len()).sum::<usize>() > ROOM {
+        let changed = (0..all.len()).filter(|i| all[*i].before.is_some());
+        let longest = changed.max_by_key(|i| all[*i].record.len());
+        let gone = all.remove(longest.expect("a record that may be left out"));
+        eprintln!("left out: {}, of {} bytes", gone.number, gone.record.len());
+    }
+    all
+}
+
+fn again(path: &str) -> Vec<u8> {
+    let bytes = std::fs::read(path).expect("the stored answers");
+    let old = records::read(&bytes).expect("records");
+    let new = sizes().into_iter().chain(sizes_of_edition_2());
+    let lacking: Vec<Vec<u8>> = new
+        .filter(|script| old.iter().all(|(_, stored, _)| stored != script))
+        .collect();
+    let stored = old
+        .iter()
+        .map(|(_, script, printed)| (*script, Some(*printed)));
+    let more = lacking.iter().map(|script| (script.as_slice(), None));
+    let all = (1..).zip(stored.chain(more));
+    let all = all.map(|(number, (script, before))| answered_again(number, script, before));
+    let all = fitted(all.collect());
+    eprintln!("{} records, {} of them new", all.len(), lacking.len());
+    all.into_iter().flat_map(|a| a.record).collect()
+}
+
 fn answers(args: &Args) -> Vec<u8> {
     let count = args.number("--count", 240);
     let few = args.number("--needs", 24);
@@ -133,6 +201,8 @@ fn answers(args: &Args) -> Vec<u8> {
     scripts.extend(edition_2());
     let mut rng = Rng::new(seed);
     scripts.extend((0..fewest).map(|_| tight_by_chance(&mut rng)));
+    scripts.extend(sizes());
+    scripts.extend(sizes_of_edition_2());
     let mut out = Vec::new();
     let marks: Vec<Mark> = scripts.iter().map(|s| store(s, &mut out)).collect();
     let of = |mark: Mark| marks.iter().filter(|m| **m == mark).count();
@@ -151,7 +221,10 @@ fn main() {
     let out = match (args.flag("--wrong"), args.flag("--broken")) {
         (true, _) => wrong(),
         (_, true) => broken(),
-        _ => answers(&args),
+        _ => match args.value("--again") {
+            Some(path) => again(path),
+            None => answers(&args),
+        },
     };
     std::io::stdout().write_all(&out).expect("the records");
 }

@@ -71,7 +71,7 @@ impl Machine {
         let size = self.read(list)?;
         let loads = self.lines.iter().filter(|l| l.0 != 0x10).count();
         let low = self.lines.iter().all(|l| usize::from(l.1) < size);
-        if !low || size > 1024 || cells.len() / 2 < size || out.len() < 7 * loads {
+        if !low || size > model::SLOTS || cells.len() / 2 < size || out.len() < 7 * loads {
             return None;
         }
         cells[..2 * size].fill(0);

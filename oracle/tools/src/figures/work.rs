@@ -16,7 +16,7 @@ pub const KINDS: [Kind; 10] = [
     ("a need: defer, allocate, output, .., free", needs),
     ("allocate, output, write, read, over needs", asked),
     ("alloc and free, in turn, beside needs", beside),
-    ("alloc and free, in turn, above 1,000 slots", above),
+    ("alloc and free, in turn, above 4,000 slots", above),
 ];
 
 /// By how much the slot of the next pair is further on, and which slots that gives.
@@ -174,9 +174,9 @@ fn beside(n: usize) -> Vec<Frame> {
     made.chain((0..n - 2 * needs).map(frame)).collect()
 }
 
-/// A run of 1,000 slots stays: the lowest clear slot is in the last segment.
+/// A run of 4,000 slots stays: the lowest clear slot is in the last segment.
 fn above(n: usize) -> Vec<Frame> {
-    let run = 1000;
+    let run = 4000;
     let frame = |i: usize| match i % 2 {
         0 => Alloc,
         _ => Free(run + (i / 2) as u16),

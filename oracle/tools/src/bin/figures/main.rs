@@ -100,7 +100,7 @@ fn check() {
     let times = |n| checks(black_box(n)) as u64;
     let best = clock::best(&mut [&mut || times(0), &mut || times(CHECKS)]);
     println!("\n## The check of a state handed in\n");
-    println!("Of a state that crate `checks` fills: 64 scopes in one line, 1,024 slots on one list, 256 names in one scope. Proved is that it is sound; that it is full is read off the code.");
+    println!("Of a state that crate `checks` fills: 64 scopes in one line, 4,096 slots on one list, 256 names in one scope. Proved is that it is sound; that it is full is read off the code.");
     println!("`soundness::is_sound` takes it by value.\n");
     println!("| ours, ns a check |\n|---|");
     println!("| {} |", ns((best[1] - best[0]) / CHECKS as f64));
@@ -113,7 +113,7 @@ Printed by `bin/figures`. Ours are the proved functions, linked into the same pr
 to 25 rounds (of 5 at least) in each of which every side has its turn. Before a figure is taken, both sides' results are compared: sums, list bytes, cells.
 
 The original is driven by `oracle/rune/src/v1/lean.rs`: its own `Scopes`, `Address`, `Linear` and `Any` and nothing beside them, with a plain reader of
-the same text and a plain writer of the same list. Buffers (its frames and list, our lent list of 32,768 bytes, cells and output) are
+the same text and a plain writer of the same list. Buffers (its frames and list, our lent list of 57,344 bytes, cells and output) are
 made and written once before and used again; scopes and handles are made anew for each script on both sides. The original's
 collections are the standard library's, with a cheap hash for names.
 

@@ -7,7 +7,7 @@ use std::hint::black_box;
 
 /// Nanoseconds of a run: plain Rust's and ours. Cells and output have to be equal.
 fn ran(list: &[u8]) -> [f64; 2] {
-    let (mut cells, mut out) = (vec![0; 2048], vec![0; model::BUFFER]);
+    let (mut cells, mut out) = (vec![0; 2 * model::SLOTS], vec![0; model::BUFFER]);
     let (mut theirs, mut other) = (cells.clone(), out.clone());
     let mut machine = Machine::default();
     let plain = machine.run(list, &mut theirs, &mut other);
@@ -27,7 +27,7 @@ fn ran(list: &[u8]) -> [f64; 2] {
 
 /// Nanoseconds of our run beside samples. Cells and output have to be the model's.
 fn ran_recorded(list: &[u8], samples: &[u8]) -> f64 {
-    let (mut cells, mut out) = (vec![0; 2048], vec![0; model::BUFFER]);
+    let (mut cells, mut out) = (vec![0; 2 * model::SLOTS], vec![0; model::BUFFER]);
     let (mut theirs, mut other) = (cells.clone(), out.clone());
     let state = samples.len() as u64 / 2;
     let lent = model::Lent {
