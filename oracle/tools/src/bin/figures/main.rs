@@ -10,7 +10,7 @@ use model::Frame;
 use oracle::args::Args;
 use oracle::figures::work::{KINDS, LENGTHS, STRIDES};
 use oracle::figures::{clock, setting};
-use oracle::linked_checks::checks;
+use oracle::linked_checks::{checks, pairs_of_entries};
 use oracle::linked_slots::{pairs_by_value, pairs_lent};
 use rune::{Bare, Lean};
 use shown::{bytes, ns, ratio};
@@ -101,9 +101,20 @@ fn check() {
     let best = clock::best(&mut [&mut || times(0), &mut || times(CHECKS)]);
     println!("\n## The check of a state handed in\n");
     println!("Of a state that crate `checks` fills: 64 scopes in one line, 4,096 slots on one list, 256 names in one scope. Proved is that it is sound; that it is full is read off the code.");
-    println!("`soundness::is_sound` takes it by value.\n");
-    println!("| ours, ns a check |\n|---|");
-    println!("| {} |", ns((best[1] - best[0]) / CHECKS as f64));
+    println!("`soundness::is_sound` takes it by value.");
+    println!("An entry of `allocator` takes a state by value, checks it and hands one on: a slot of the fresh state is allocated and freed, two calls.\n");
+    println!("| ours | ns |\n|---|---|");
+    println!(
+        "| a check of the full state | {} |",
+        ns((best[1] - best[0]) / CHECKS as f64)
+    );
+    assert_eq!(pairs_of_entries(CHECKS), CHECKS, "no call is refused");
+    let times = |n| pairs_of_entries(black_box(n)) as u64;
+    let best = clock::best(&mut [&mut || times(0), &mut || times(CHECKS)]);
+    println!(
+        "| `addresses::alloc` and `addresses::free` | {} |",
+        ns((best[1] - best[0]) / CHECKS as f64)
+    );
 }
 
 const HEAD: &str = "\
