@@ -89,7 +89,7 @@ fn the_largest_size() {
     assert_eq!(run(b"901001\n", &mut cells, &mut out), refused(1, 0));
 }
 
-/// All slots are closed and drained, twice, and all other frames write: no list is longer, and it fits a text buffer.
+/// All slots are closed and drained, twice, and all other frames write: the longest list that we know of. It fits a text buffer.
 #[test]
 fn the_longest_list() {
     let writes = b"1000000007\n".repeat(model::LINES - 7);

@@ -16,7 +16,7 @@ use Rattle.rules.proofs.Kept.{base-fair}
 use Rattle.slots.specs.Halves.{occ, slotsOf, firstClear}
 use Rattle.slots.specs.Promises.{SeenSlots, placedOr7, removal, checked}
 use Rattle.slots.proofs.Steps.{checked-yes, insert-within, insert-none, insert-some}
-use Rattle.bare.specs.Bare.{Called, numbered, placeNumber, removeNumber, inserting, insertingLowest, pushing, called, callRow, rows, addressGiven, inserts, halfFull, summed, segmentsAfter, headAfter, addressAt, Inserted}
+use Rattle.bare.specs.Bare.{HALF, Called, numbered, placeNumber, removeNumber, inserting, insertingLowest, pushing, called, callRow, rows, addressGiven, inserts, halfFull, summed, segmentsAfter, headAfter, addressAt, Inserted}
 
 -- ---- soundness
 
@@ -43,21 +43,21 @@ unchecked s x y h e = e ∙ sym (checked-yes (base .segments) s y h)
 
 -- ---- half full
 
-pub inserts-turn : (i : ℕ) (s t : rule.Slots) → i < 512 → t ≡ inserting s .next → inserts (512 - i) s ≡ halfFull → inserts (512 - (i + 1)) t ≡ halfFull
+pub inserts-turn : (i : ℕ) (s t : rule.Slots) → i < HALF → t ≡ inserting s .next → inserts (HALF - i) s ≡ halfFull → inserts (HALF - (i + 1)) t ≡ halfFull
 unfolding inserts
 inserts-turn i s t l e h =
-    let k : 512 - i ≡ suc (512 - (i + 1)) = omega arith in
-    ap (inserts (512 - (i + 1))) e ∙ rw k at h
+    let k : HALF - i ≡ suc (HALF - (i + 1)) = omega arith in
+    ap (inserts (HALF - (i + 1))) e ∙ rw k at h
 
-pub inserts-end : (i : ℕ) (s : rule.Slots) → 512 ≤ i → inserts (512 - i) s ≡ halfFull → s ≡ halfFull
+pub inserts-end : (i : ℕ) (s : rule.Slots) → HALF ≤ i → inserts (HALF - i) s ≡ halfFull → s ≡ halfFull
 unfolding inserts
-inserts-end i s l h = let k : 512 - i ≡ 0 = omega arith in rw k at h
+inserts-end i s l h = let k : HALF - i ≡ 0 = omega arith in rw k at h
 
 -- ---- pairs
 
 module _ (stride n : ℕ) where
   pub summed-turn : {r : ℕ} (i a : ℕ) (s t : rule.Slots) (sum b g : ℕ) → i < n → t ≡ inserting (rule.remove a s) .next
-      → b ≡ (a + stride) % 512 → g ≡ (sum + addressGiven (inserting (rule.remove a s) .says)) % 2 ^ 64
+      → b ≡ (a + stride) % HALF → g ≡ (sum + addressGiven (inserting (rule.remove a s) .says)) % 2 ^ 64
       → summed stride (n - i) a s sum ≡ r → summed stride (n - (i + 1)) b t g ≡ r
   unfolding summed
   summed-turn i a s t sum b g l e p q h =

@@ -86,14 +86,18 @@ unfoldable pub inserts : ℕ → rule.Slots → rule.Slots
 inserts zero s = s
 inserts (suc n) s = inserts n (inserting s .next)
 
-unfoldable pub halfFull : rule.Slots
-halfFull = inserts 512 rule.freshSlots
+-- half of the slots
+abbrev pub HALF : ℕ
+HALF = SLOTS / 2
 
--- the sum of the addresses given by k pairs: slot a is removed and one inserted, then slot (a + stride) mod 512, and so on
+unfoldable pub halfFull : rule.Slots
+halfFull = inserts HALF rule.freshSlots
+
+-- the sum of the addresses given by k pairs: slot a is removed and one inserted, then slot (a + stride) mod HALF, and so on
 unfoldable pub summed : ℕ → ℕ → ℕ → rule.Slots → ℕ → ℕ
 summed stride zero a s sum = sum
 summed stride (suc k) a s sum =
-    summed stride k ((a + stride) % 512) (inserting (rule.remove a s) .next) ((sum + addressGiven (inserting (rule.remove a s) .says)) % 2 ^ 64)
+    summed stride k ((a + stride) % HALF) (inserting (rule.remove a s) .next) ((sum + addressGiven (inserting (rule.remove a s) .says)) % 2 ^ 64)
 
 unfoldable pub pairsSum : ℕ → ℕ → ℕ
 pairsSum stride n = summed stride n 0 halfFull 0

@@ -8,7 +8,7 @@ ghost use Rattle.rules.specs.Sound.{soundSlots};
 ghost use Rattle.rules.specs.Slots as rule;
 ghost use Rattle.slots.specs.Halves.{slotsOf};
 ghost use Rattle.slots.specs.Promises.{view, placeSays};
-ghost use Rattle.bare.specs.Bare.{addressGiven, addressAt, halfFull, pairsSum, summed, Inserted, segmentsAfter, headAfter};
+ghost use Rattle.bare.specs.Bare.{HALF, addressGiven, addressAt, halfFull, pairsSum, summed, Inserted, segmentsAfter, headAfter};
 use rules::HALVES;
 use rules::SLOTS;
 use slots::PlaceAnswer;
@@ -19,14 +19,19 @@ use slots::halves;
 use slots::insert;
 use slots::remove;
 
-// 512 inserts from fresh slots.
+// Half of the slots.
+const HALF: usize = SLOTS / 2;
+
+const WIDE_HALF: u32 = HALF as u32;
+
+// As many inserts from fresh slots.
 fn half_full() -> Slots
     ensures filled { λ r. ⌜ view r ≡ halfFull ⌝ }
     ensures sound { λ r. ⌜ soundSlots (base .segments) (view r) ≡ true ⌝ }
 {
     let mut s = fresh();
     let mut i: usize = 0;
-    while i < 512 {
+    while i < HALF {
         let p = insert(s);
         s = p.state;
         i += 1;
@@ -36,9 +41,9 @@ fn half_full() -> Slots
 
 // The slot that the next pair removes.
 fn next(a: u16, stride: u16) -> u16
-    ensures { λ r. ⌜ r ≡ (a + stride) % 512 ⌝ }
+    ensures { λ r. ⌜ r ≡ (a + stride) % HALF ⌝ }
 {
-    (((a as u32) + (stride as u32)) % 512) as u16
+    (((a as u32) + (stride as u32)) % WIDE_HALF) as u16
 }
 
 fn address_of(x: PlaceAnswer) -> u64

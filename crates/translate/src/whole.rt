@@ -278,7 +278,7 @@ fn steps_behind(
     Ended::Listed(put_size(page, w, size as u16), size)
 }
 
-// A script's title, and what stands behind it, by its edition; 17 where the list may outgrow the page, which no list does that is as long as PAGE.
+// A script's title, and what stands behind it, by its edition; 17 where the list may outgrow the page. No list outgrows one of PAGE bytes.
 pub fn steps_on(script: &[u8], page: &mut [u8]) -> Ended
     requires { ⌜ longestOf 1 0 ≤ length (now page) ⌝ }
     ensures { λ r. ⌜ EndsOn (translated base (now (script .entry))) r (now (page .exit)) ⌝ }

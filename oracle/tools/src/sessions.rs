@@ -278,7 +278,7 @@ pub fn sizes_of_edition_2() -> Vec<Vec<u8>> {
     SIZES_2.iter().map(|s| text(s)).collect()
 }
 
-/// The longest list there is: too long to be stored.
+/// The longest list that we know of: too long to be stored.
 pub fn longest() -> Vec<u8> {
     text(LONGEST[0])
 }

@@ -2,6 +2,9 @@
 
 use super::Slots;
 
+/// Half of the slots that our rules have; the original has no limit.
+const HALF: usize = 2048;
+
 pub struct Bare(Slots);
 
 impl Default for Bare {
@@ -36,17 +39,17 @@ impl Bare {
     }
 
     /// The sum of the addresses that n pairs give over a half-full frame: slot a is removed and one inserted, then slot
-    /// (a + stride) mod 512, and so on from slot 0. It stands here so that the compiler may inline the calls.
+    /// (a + stride) mod 2,048, and so on from slot 0. It stands here so that the compiler may inline the calls.
     pub fn pairs(n: usize, stride: u16) -> u64 {
         let mut slots = Bare::default();
-        for _ in 0..512 {
+        for _ in 0..HALF {
             slots.insert();
         }
         let (mut a, mut sum) = (0, 0u64);
         for _ in 0..n {
             slots.remove(a);
             sum = sum.wrapping_add(slots.insert() as u64);
-            a = (a + usize::from(stride)) % 512;
+            a = (a + usize::from(stride)) % HALF;
         }
         sum
     }

@@ -22,9 +22,9 @@ pub const KINDS: [Kind; 10] = [
 /// By how much the slot of the next pair is further on, and which slots that gives.
 pub const STRIDES: [(u16, &str); 4] = [
     (0, "slot 0"),
-    (1, "0, 1, 2 .. 511"),
-    (37, "0, 37, 74 .. modulo 512"),
-    (128, "0, 128, 256, 384"),
+    (1, "0, 1, 2 .. 2047"),
+    (37, "0, 37, 74 .. modulo 2048"),
+    (128, "0, 128, 256 .. 1920"),
 ];
 
 /// 64, 128 .. 2,048.

@@ -2,24 +2,24 @@ use mathlib.Core.Path.{_≡_, sym, ap, subst}
 use native.Mathlib.Omega.{arith}
 use Prim.Native.Nat.{ℕ, _-_, _≤_}
 use Rattle.slots.specs.Promises.{view, SeenSlots}
-use Rattle.bare.specs.Bare.{inserts, halfFull}
+use Rattle.bare.specs.Bare.{HALF, inserts, halfFull}
 use Rattle.bare.proofs.Runs.{Sound, fresh-sound, inserted-sound, unchecked, inserts-turn, inserts-end}
 use borrow.Author.Needs.{needs}
 use Rattle.bare.proofs.pairs.half_full.Statement.{statement}
 use Rattle.bare.proofs.pairs.half_full.Tie as tie
 
 abbrev Inv-loop : tie.InvT-loop
-Inv-loop s₀ i₀ s i = (i ≤ 512) × Sound (view s) × (inserts (512 - i) (view s) ≡ halfFull)
+Inv-loop s₀ i₀ s i = (i ≤ HALF) × Sound (view s) × (inserts (HALF - i) (view s) ≡ halfFull)
 
 abbrev μ-loop : tie.MeasureT-loop
-μ-loop s₀ i₀ s i = 512 - i
+μ-loop s₀ i₀ s i = HALF - i
 
 fresh-requires : tie.Need-fresh-requires Inv-loop μ-loop
 fresh-requires c κs = search needs
 
 loop-holds : tie.Need-loop-holds Inv-loop μ-loop
 unfolding halfFull
-loop-holds c = (search needs, subst Sound (sym (c .fresh .ensures .shows)) fresh-sound, ap (inserts 512) (c .fresh .ensures .shows))
+loop-holds c = (search needs, subst Sound (sym (c .fresh .ensures .shows)) fresh-sound, ap (inserts HALF) (c .fresh .ensures .shows))
 
 insert-requires : tie.Need-insert-requires Inv-loop μ-loop
 insert-requires c κs = search needs

@@ -4,7 +4,7 @@ use Prim.Native.Nat.{ℕ, _+_, _-_, _%_, _^_, _<_}
 use lib.ListN.{length}
 use Rattle.rules.specs.Sizes.{HALVES}
 use Rattle.slots.specs.Promises.{view}
-use Rattle.bare.specs.Bare.{summed}
+use Rattle.bare.specs.Bare.{HALF, summed}
 use Rattle.bare.proofs.Runs.{Sound, removed-sound, inserted-sound, summed-start, summed-turn, summed-end, pair-next, pair-gives}
 use borrow.Author.Needs.{needs}
 use Rattle.bare.proofs.pairs.run_lent.Statement.{statement}
@@ -12,7 +12,7 @@ use Rattle.bare.proofs.pairs.run_lent.Tie as tie
 
 abbrev Inv-loop : tie.InvT-loop
 Inv-loop n stride t₀ a₀ sum₀ i₀ t a sum i =
-    (a < 512) × (length (t .halves) ≡ HALVES) × Sound (view t) × (summed stride (n - i) a (view t) sum ≡ summed stride n 0 (view t₀) 0)
+    (a < HALF) × (length (t .halves) ≡ HALVES) × Sound (view t) × (summed stride (n - i) a (view t) sum ≡ summed stride n 0 (view t₀) 0)
 
 abbrev μ-loop : tie.MeasureT-loop
 μ-loop n stride t₀ a₀ sum₀ i₀ t a sum i = n - i
