@@ -51,7 +51,8 @@ fn translate_whole(script: &[u8], list: &mut [u8]) -> u64
     translate_on(script, &mut page, list)
 }
 
-// A script of so many bytes at most is tried on a short page first: to clear a whole one takes longer than the steps of a short script.
+// A script of so many bytes at most is tried on a short page first: a whole one takes as long to clear as twenty frames take. Where 11 bytes for
+// each frame and 4 for each handle are more than the short one has, the script is walked again.
 const SHORT_SCRIPT: usize = 2048;
 
 const SHORT_PAGE: usize = 8192;
