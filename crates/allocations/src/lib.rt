@@ -1,5 +1,7 @@
 // Addresses, runs and needs over a state: allocated and freed. The operations take the state by value and hand the next one back.
 // `addresses` allocates and frees one address, `linear` a run of them, `any` a need; what takes no state is crate needs'.
+#![tactic(auto)]
+
 pub mod addresses;
 pub mod any;
 pub mod linear;

@@ -2,6 +2,8 @@
 // handed a state checks it first: one that isn't sound is refused by 29, and a refusal leaves the state, the records and lent memory as
 // they were. `scope` opens and closes scopes and binds names, `addresses` is one address, `linear` a run, `any` a need, `drain` the dangling list.
 // Calls with `_by` take a place: an edition, or exactly at an address; those without are edition 1.
+#![tactic(auto)]
+
 pub mod addresses;
 pub mod any;
 pub mod drain;

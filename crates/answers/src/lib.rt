@@ -1,4 +1,6 @@
 // What each of the programs prints for its input, left at the start of a text buffer; the bytes past it stay.
+#![tactic(auto)]
+
 ghost use Rattle.std.specs.Prelude.{◌+◌, ◌/◌, ◌%◌, ◌≤◌, length};
 ghost use Rattle.rules.specs.Sizes.{base, TEXT};
 ghost use Rattle.rules.specs.Entries.{ee_text, translator_prints, runner_prints, recorded_prints, REFUSAL};

@@ -1,4 +1,6 @@
 // Bare slots for the comparison with the original and for its figures: runs of calls on `Slots` alone. No product links this crate.
+#![tactic(auto)]
+
 pub mod calls; // one call, by number
 pub mod pairs; // insert and remove pairs, in two ways of calling
 pub mod rows; // a run of calls, and what each showed

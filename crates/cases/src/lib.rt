@@ -1,4 +1,6 @@
 // What test programs share: a long text put together, and an answer shown on a line.
+#![tactic(auto)]
+
 ghost use Rattle.std.specs.Prelude.{◌≡◌, ◌≤◌, length};
 
 use text::refusal::REFUSAL;

@@ -1,5 +1,7 @@
 // Checks of a full state, and calls of `allocator` with a small one, for figures: how long a check of a state handed in takes, and an entry that
 // is handed one. No product links it.
+#![tactic(auto)]
+
 ghost use Rattle.std.specs.Prelude.{◌≡◌, ◌-◌};
 ghost use Rattle.rules.specs.Notation.{given};
 ghost use Rattle.rules.specs.Needs as rule;

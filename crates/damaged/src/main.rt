@@ -1,5 +1,7 @@
 // Damages a sound state, in one place or in few, and prints for each damage whether a state handed in so is sound or refused by 29.
 // The file `stdout` is what document 01 asks for, case by case.
+#![tactic(auto)]
+
 use rules::{BINDINGS, CELLS, DANGLING, HALVES, SCOPES, SLOTS};
 use scopes::names::{ADDRESS_PART, NAME_PART, SCOPE_PART};
 use scopes::{NO_PARENT, OF_DANGLING, OF_NOBODY, Scopes};

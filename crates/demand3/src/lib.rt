@@ -1,4 +1,6 @@
 // A script translated and its list run, in one call on lent memory.
+#![tactic(auto)]
+
 ghost use Rattle.machine.specs.Machine.{LeavesFrame};
 ghost use Rattle.demand3.specs.Together.{together};
 

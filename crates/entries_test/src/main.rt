@@ -1,5 +1,7 @@
 // A session through every entry of crate allocator, and an unsound state handed to each: one line a call, with what it answered. The file
 // `stdout` is what documents 01 and 02 say.
+#![tactic(auto)]
+
 mod call;
 mod editions;
 mod needing;

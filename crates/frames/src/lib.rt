@@ -1,4 +1,6 @@
 // One step for each frame of a script, over the lent arrays of the state and the handles.
+#![tactic(auto)]
+
 pub mod steps; // what a step is
 pub mod scoped; // 01 to 05
 pub mod allots; // 06 to 08

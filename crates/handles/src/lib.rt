@@ -1,4 +1,6 @@
 // The handles of a script: each in one number of a table, and for each slot the handle that took it last. `remembered` are its needs.
+#![tactic(auto)]
+
 pub mod remembered;
 
 ghost use Rattle.std.specs.Prelude.{◌≡◌, ℕ, ◌+◌, ◌≤◌, ◌<◌, eqb, length};

@@ -1,4 +1,6 @@
 // What a program reads: standard input, or a file that an argument names.
+#![tactic(auto)]
+
 ghost use Rattle.std.specs.Prelude.{◌≡◌, ℕ, ◌≤◌, length};
 ghost use Rattle.input.specs.Within.{Within};
 

@@ -1,5 +1,7 @@
 // Address sets (`Dangling` in the original's scopes.rs) through link cells: LISTS lists over SLOTS addresses, in one array that is lent.
 // Cell k of `next` is at k, cell k of `prev` at CELLS + k; cells SLOTS + i are the ends of list i; NOWHERE marks an address on no list.
+#![tactic(auto)]
+
 ghost use Rattle.std.specs.Prelude.{◌≡◌, List, [], ◌∷◌, ℕ, ◌+◌, ◌<◌, length};
 ghost use Rattle.rules.specs.Sizes.{LINKS, LISTS, SLOTS};
 ghost use Rattle.links.specs.Links.{Held, On, Off, leaves, gains, next_in};

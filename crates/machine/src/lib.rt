@@ -1,4 +1,6 @@
 // The frame machine: it runs a list over lent cells, and writes what its loads show.
+#![tactic(auto)]
+
 ghost use Rattle.rules.specs.Sizes.{base};
 ghost use Rattle.rules.specs.Entries.{run_entry};
 ghost use Rattle.machine.specs.Machine.{LeavesFrame};

@@ -1,5 +1,7 @@
 // Runs lists on lent memory and prints, for each, the reading that it shows, what came of it, and behind > the lent memory afterwards, LF as /:
 // docs/parts/text.md says why each line is what it is.
+#![tactic(auto)]
+
 ghost use Rattle.std.specs.Prelude.{◌≤◌, length};
 
 use cases::{put, put_lines, say, show};

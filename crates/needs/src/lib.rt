@@ -1,5 +1,7 @@
 // Address records and their kinds, runs of addresses, and needs: what the original has in needs.rs and linear.rs, as far as it asks no
 // state. `addresses` is one address, `linear` a run of them, `any` what a need answers. An address is a plain record beside the state.
+#![tactic(auto)]
+
 pub mod addresses;
 pub mod any;
 pub mod linear;

@@ -1,4 +1,6 @@
 // The programs, but for their `main`: each reads a text, or two, asks `answers` what to print, and writes it.
+#![tactic(auto)]
+
 ghost use Rattle.answers.specs.Prints.{Prints};
 ghost use Rattle.io.specs.Counts.{IsPrefixLen};
 ghost use Rattle.programs.specs.Printed.{printed_by, ReadInto, Answers};

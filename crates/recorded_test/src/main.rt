@@ -1,4 +1,6 @@
 // Reads recordings and runs lists beside them; the oracle's model makes the same lines, and docs/parts/recordings.md says why they are what they are.
+#![tactic(auto)]
+
 use chance::long_recordings;
 use columns::every_column;
 use cuts::every_cut;

@@ -1,5 +1,7 @@
 // Recordings, read in parts of any length: what is known between two parts is one number, and the samples are kept in lent memory, as
 // far as there is room.
+#![tactic(auto)]
+
 ghost use Rattle.rules.specs.Entries.{read_entry};
 ghost use Rattle.recordings.specs.Reading.{LeavesSamples};
 

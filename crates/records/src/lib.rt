@@ -1,5 +1,7 @@
 // Stored answers, read where they lie: a row of records, each a head of 18 bytes (a mark, two lengths of eight digits, LF), a script and
 // what is printed for it.
+#![tactic(auto)]
+
 ghost use Rattle.std.specs.Prelude.{◌≡◌, ℕ, ◌+◌, ◌≤◌, length};
 ghost use Rattle.std.proofs.Math.Seq.{slice};
 ghost use Rattle.text.specs.Lines.{word_at};

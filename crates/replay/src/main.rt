@@ -1,5 +1,7 @@
 // Replays the stored answers of each file that an argument names through what the translating program prints, and says how many there are and
 // how many differ.
+#![tactic(auto)]
+
 use input::{Input, read_argument};
 use records::tally::{Tally, replayed};
 

@@ -1,7 +1,7 @@
 -- The library calls over addresses and needs keep soundness, for every fair placement in a room whose size holds its slots; and a fresh
 -- state is sound. Assumes nothing.
 use mathlib.Core.Path.{◌≡◌, refl}
-use mathlib.Core.Bool.{Bool, true}
+use mathlib.Core.Bool.{Bool, true, false}
 use mathlib.Core.Option.{none}
 use mathlib.Core.List.{List, [], ◌∷◌, reverse}
 use Prim.Native.Nat.{ℕ, zero, suc, ◌*◌, ◌≤◌, ◌<◌}
@@ -14,8 +14,8 @@ use Rattle.rules.specs.Scopes.{Id, Scopes, new_scope, fresh_scopes, by_id}
 use Rattle.rules.specs.Needs.{Address, alloc_address, alloc_address_in, alloc_addresses, free_address, free_each, free_run, Need, defer, at, ignore, freed_need, allocate_need, free_need}
 use Rattle.rules.specs.Demand3.{Fair}
 use Rattle.rules.proofs.Chains.{All, all-given, all_then, all-when, all-if}
-use Rattle.rules.proofs.Sets.{once-nil, within-nil}
-use Rattle.rules.proofs.Sound.{every-nil, SlotsSound, LeadsToRoot, root, binds-nil, Sound}
+use Rattle.rules.proofs.Sets.{Once, once-nil, within-nil}
+use Rattle.rules.proofs.Sound.{every-nil, lists_of, SlotsSound, LeadsToRoot, root, binds-nil, Sound}
 use Rattle.rules.proofs.Tells.{clash}
 use Rattle.rules.proofs.Naming.{id-here}
 use Rattle.rules.proofs.Parents.{top-some}
@@ -82,10 +82,10 @@ fresh-sound room segments scopes =
       top = top-some (scopes, refl);
       rooted = λ i l e. go i e;
       owned = record {
-        once = λ i l. elim i [ zero ↦ once-nil | suc j ↦ once-nil ];
-        within = λ i l a p. clash p (elim i [ zero ↦ refl | suc j ↦ refl ]);
-        taken = λ i a l p. clash p (elim i [ zero ↦ refl | suc j ↦ refl ]);
-        apart = λ i j a l k p q. clash p (elim i [ zero ↦ refl | suc j ↦ refl ]);
+        once = λ i l. once-none i;
+        within = λ i l a p. clash p (member-none i a);
+        taken = λ i a l p. clash p (member-none i a);
+        apart = λ i j a l k p q. clash p (member-none i a);
         owner = λ a l t. clash t refl;
       };
       dangling = record { once = once-nil; within = within-nil (128 * room.segments); clear = λ a q. clash q refl };
@@ -96,3 +96,11 @@ fresh-sound room segments scopes =
     go : (i : ℕ) → is_some (fresh_scopes.live i) ≡ true → LeadsToRoot room.scopes fresh_scopes.live i
     go zero e = root (new_scope 0 none) refl refl refl refl
     go (suc i) e = clash e refl
+
+    once-none : (i : ℕ) → Once (lists_of fresh_scopes.live i)
+    once-none zero = once-nil
+    once-none (suc j) = once-nil
+
+    member-none : (i a : ℕ) → member a (lists_of fresh_scopes.live i) ≡ false
+    member-none zero a = refl
+    member-none (suc j) a = refl

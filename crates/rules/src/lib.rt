@@ -1,6 +1,8 @@
 // The rules of document 01 are definitions: they stand in specs/, and no code runs here. Only the sizes stand in code too, since the length of an
 // array names no definition: each has here the name and the value that it has in specs/Sizes.antt, and where the two differ a proof breaks.
 
+#![tactic(auto)]
+
 pub const SEGMENTS: usize = 32;
 
 pub const SLOTS: usize = 128 * SEGMENTS;

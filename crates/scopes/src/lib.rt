@@ -2,6 +2,8 @@
 // `open` opens, dangles and restores scopes, `place` gives slots and takes them back, `close` pops, `names` binds and finds names,
 // `drain` hands out the dangling list. Their work is done in `lent`, in modules of the same names, over the state's arrays where they stand.
 
+#![tactic(auto)]
+
 pub mod close;
 pub mod drain;
 pub mod lent;

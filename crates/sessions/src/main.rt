@@ -1,6 +1,8 @@
 // Document 01's sessions A to K and its five to run, and scripts of ours, with needs, with samples, of edition 2 and without: for each its label, what `translate` makes of it, the list or the `ee`
 // line, and behind > what `translate_and_run` prints on a frame of so many cells. LF is shown as /, nothing as -. Of a long list the last two
 // lines are shown.
+#![tactic(auto)]
+
 ghost use Rattle.std.specs.Prelude.{◌≤◌, length};
 ghost use Rattle.rules.specs.Sizes.{SLOTS, TEXT};
 

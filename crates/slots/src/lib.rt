@@ -1,6 +1,8 @@
 // Which of the slots are occupied, in segments of 128, each of two 64-bit halves; and where the next one goes.
 // Beside the original's slots.rs: `half` is one 64-bit half, `halves` those of a state, `spots` where an allocation goes,
 // `entries` what a host calls.
+#![tactic(auto)]
+
 pub mod entries;
 pub mod half;
 pub mod halves;

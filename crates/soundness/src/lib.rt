@@ -1,5 +1,7 @@
 // "A state handed in is sound (an entry checks what its state has) if ..": told of any content, in the order slots, lists, owners,
 // scopes, bindings. `rings` looks at the lists, `owners` at the owner table, `parents` at the scopes, `bindings` at the names.
+#![tactic(auto)]
+
 pub mod bindings;
 pub mod owners;
 pub mod parents;

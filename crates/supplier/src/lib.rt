@@ -1,5 +1,7 @@
 // Whether a list from elsewhere agrees with a script: the script's own steps, and the same steps once more with each allocation where the list
 // shows it.
+#![tactic(auto)]
+
 ghost use Rattle.std.specs.Prelude.{◌≡◌, ◌≤◌, length, take};
 ghost use Rattle.rules.specs.Sizes.{base};
 ghost use Rattle.rules.specs.Suppliers.{verdict, verdict_answer};

@@ -1,5 +1,7 @@
 // Asks of scripts and lists whether they agree, and prints for each the reading that it shows and the answer: docs/parts/supplier.md says why
 // each line is what it is.
+#![tactic(auto)]
+
 ghost use Rattle.std.specs.Prelude.{◌≡◌, ◌≤◌, length};
 
 use cases::{put, put_lines, say};

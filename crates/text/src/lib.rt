@@ -1,6 +1,8 @@
 // Text of scripts and lists: a line read at a position of a text, a line written at a position of lent memory, and the check of a
 // whole text.
 
+#![tactic(auto)]
+
 pub mod digits; // one hex digit, and four
 pub mod lines; // a line of a script or of a list, read
 pub mod writing; // a line of a list, and the line of a refusal, written

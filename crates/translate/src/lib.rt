@@ -1,4 +1,6 @@
 // Scripts into lists: the steps of all frames, the page, and translate.
+#![tactic(auto)]
+
 ghost use Rattle.std.specs.Prelude.{◌≡◌, ◌++◌, ◌≤◌, length, take, drop};
 ghost use Rattle.rules.specs.Sizes.{base, PAGE};
 ghost use Rattle.rules.specs.Entries.{refusal_answer, translate_entry};
