@@ -7,7 +7,7 @@ use native.Mathlib.Omega.{arith}
 use Rattle.rules.specs.Notation.{Answer, given, refused, ◌>>=◌}
 use Rattle.rules.specs.AddressSets.{run}
 use Rattle.rules.specs.Scopes.{Scopes}
-use Rattle.rules.specs.Needs as goal
+use Rattle.rules.specs.Needs as need
 use Rattle.needs.specs.Kinds.{addresses}
 use Rattle.needs.proofs.Runs.{of_kind}
 use Rattle.allocations.specs.Inner.{down_from, back_each}
@@ -26,33 +26,33 @@ unfolding run down_from
 down_run a zero = refl
 down_run a (suc n) = ap reverse (run-last a n) ∙ reverse-append (run a n) ((a + n) ∷ []) ∙ ap (λ (l : List ℕ). (a + n) ∷ l) (down_run a n)
 
-reverse_onto : (k : goal.Kind) (l r : List ℕ) → reverse_aux (of_kind k l) (of_kind k r) ≡ of_kind k (reverse_aux l r)
+reverse_onto : (k : need.Kind) (l r : List ℕ) → reverse_aux (of_kind k l) (of_kind k r) ≡ of_kind k (reverse_aux l r)
 reverse_onto k [] r = refl
 reverse_onto k (a ∷ l) r = reverse_onto k l (a ∷ r)
 
-pub run_down : (k : goal.Kind) (a n : ℕ) → reverse (addresses k a n) ≡ of_kind k (down_from a n)
+pub run_down : (k : need.Kind) (a n : ℕ) → reverse (addresses k a n) ≡ of_kind k (down_from a n)
 run_down k a n = reverse_onto k (run a n) [] ∙ ap (of_kind k) (down_run a n)
 
 -- ---- each of them is freed
 
-module _ (dangles : Bool) (k : goal.Kind) where
-  pub each_spent : (a : ℕ) (l : List ℕ) (c : Scopes) → goal.is_freed k ≡ true → goal.free_each dangles (of_kind k (a ∷ l)) c ≡ refused 13
-  unfolding goal.free_each ◌>>=◌
+module _ (dangles : Bool) (k : need.Kind) where
+  pub each_spent : (a : ℕ) (l : List ℕ) (c : Scopes) → need.is_freed k ≡ true → need.free_each dangles (of_kind k (a ∷ l)) c ≡ refused 13
+  unfolding need.free_each ◌>>=◌
   each_spent a l c e = rw (free-spent dangles a k c e)
 
-  pub each-kept : (l : List ℕ) (c : Scopes) → goal.is_freed k ≡ false → goal.goes_back c k ≡ false → goal.free_each dangles (of_kind k l) c ≡ given c
-  unfolding goal.free_each ◌>>=◌
+  pub each-kept : (l : List ℕ) (c : Scopes) → need.is_freed k ≡ false → need.goes_back c k ≡ false → need.free_each dangles (of_kind k l) c ≡ given c
+  unfolding need.free_each ◌>>=◌
   each-kept [] c e g = refl
   each-kept (a ∷ l) c e g = rw (free-kept dangles a k c e g) (each-kept l c e g)
 
-  pub each_back : (l : List ℕ) (c : Scopes) → goal.is_freed k ≡ false → goal.goes_back c k ≡ true → goal.free_each dangles (of_kind k l) c ≡ back_each dangles l c
-  unfolding goal.free_each back_each ◌>>=◌
+  pub each_back : (l : List ℕ) (c : Scopes) → need.is_freed k ≡ false → need.goes_back c k ≡ true → need.free_each dangles (of_kind k l) c ≡ back_each dangles l c
+  unfolding need.free_each back_each ◌>>=◌
   each_back [] c e g = refl
   each_back (a ∷ l) c e g =
-      ap (λ (m : Answer (goal.Address × Scopes)). m >>= λ r. goal.free_each dangles (of_kind k l) r.1) (free_back dangles a k c e g)
-      ∙ go (goal.give_back dangles a c) (λ d p. each_back l d e ((back-goes dangles a c k).at d p ∙ g))
+      ap (λ (m : Answer (need.Address × Scopes)). m >>= λ r. need.free_each dangles (of_kind k l) r.1) (free_back dangles a k c e g)
+      ∙ go (need.give_back dangles a c) (λ d p. each_back l d e ((back-goes dangles a c k).at d p ∙ g))
     where
-      go : (m : Answer Scopes) → ((d : Scopes) → m ≡ given d → goal.free_each dangles (of_kind k l) d ≡ back_each dangles l d)
-          → ((m >>= freed_in a) >>= λ r. goal.free_each dangles (of_kind k l) r.1) ≡ (m >>= back_each dangles l)
+      go : (m : Answer Scopes) → ((d : Scopes) → m ≡ given d → need.free_each dangles (of_kind k l) d ≡ back_each dangles l d)
+          → ((m >>= freed_in a) >>= λ r. need.free_each dangles (of_kind k l) r.1) ≡ (m >>= back_each dangles l)
       go (given d) more = more d refl
       go (refused n) more = refl

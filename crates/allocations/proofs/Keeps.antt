@@ -7,7 +7,7 @@ use native.Mathlib.Omega.{arith}
 use Rattle.rules.specs.Sizes.{SCOPES, SLOTS}
 use Rattle.rules.specs.Notation.{refused, ◌>>=◌, refuse◌when◌, refuse◌unless◌, put}
 use Rattle.rules.specs.Scopes.{Scope, Scopes, Found, found, top_scope, set_scope}
-use Rattle.rules.specs.Needs as goal
+use Rattle.rules.specs.Needs as need
 use Rattle.rules.proofs.Tables.{by_eqb, put_same}
 use Rattle.rules.proofs.Chains.{All, all-given, all-when, all-unless, none-some}
 use Rattle.scopes.specs.View.{view}
@@ -55,25 +55,25 @@ top_set c d t x e p q =
     top-is d t.index x (p ∙ (top-parts c t e).0) (ap (λ (f : ℕ → Option Scope). f t.index) q ∙ put_same c.live t.index (some x))
 
 -- "Scope only if its scope is top": giving an address back changes neither the top nor its number
-pub back-goes : (dangles : Bool) (a : ℕ) (c : Scopes) (k : goal.Kind) → All (λ d. goal.goes_back d k ≡ goal.goes_back c k) (goal.give_back dangles a c)
-unfolding goal.goes_back goal.give_back set_scope
-back-goes dangles a c goal.local = record { at = λ d e. refl }
-back-goes dangles a c goal.dangling = record { at = λ d e. refl }
-back-goes dangles a c goal.assigned = record { at = λ d e. refl }
-back-goes dangles a c goal.freed = record { at = λ d e. refl }
-back-goes dangles a c (goal.scope id) = go
+pub back-goes : (dangles : Bool) (a : ℕ) (c : Scopes) (k : need.Kind) → All (λ d. need.goes_back d k ≡ need.goes_back c k) (need.give_back dangles a c)
+unfolding need.goes_back need.give_back set_scope
+back-goes dangles a c need.local = record { at = λ d e. refl }
+back-goes dangles a c need.dangling = record { at = λ d e. refl }
+back-goes dangles a c need.assigned = record { at = λ d e. refl }
+back-goes dangles a c need.freed = record { at = λ d e. refl }
+back-goes dangles a c (need.scope id) = go
   where
-    go : All (λ d. goal.goes_back d (goal.scope id) ≡ goal.goes_back c (goal.scope id)) (goal.give_back dangles a c)
+    go : All (λ d. need.goes_back d (need.scope id) ≡ need.goes_back c (need.scope id)) (need.give_back dangles a c)
     go =
         all-unless 12 (λ t e. all-when 12 _ (λ m. all-given
-        (ap (goal.is_scope id) (top_set c _ t _ e refl refl) ∙ sym (ap (goal.is_scope id) e))))
+        (ap (need.is_scope id) (top_set c _ t _ e refl refl) ∙ sym (ap (need.is_scope id) e))))
 
 -- ---- of a sound state
 
 module _ (s : state.Scopes) (sound : Sound s) where
   -- 12: no scope owns what is no slot
-  pub no_slot : (dangles : Bool) (a : ℕ) → SLOTS ≤ a → goal.give_back dangles a (view s) ≡ refused 12
-  unfolding goal.give_back ◌>>=◌ refuse◌unless◌ refuse◌when◌
+  pub no_slot : (dangles : Bool) (a : ℕ) → SLOTS ≤ a → need.give_back dangles a (view s) ≡ refused 12
+  unfolding need.give_back ◌>>=◌ refuse◌unless◌ refuse◌when◌
   no_slot dangles a h =
       by_eqb s.top SCOPES
       (λ e. rw (no_top s e))

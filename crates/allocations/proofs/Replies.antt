@@ -6,7 +6,7 @@ use Rattle.rules.specs.Notation.{Answer, given, refused, ◌>>=◌, refuse◌unl
 use Rattle.rules.specs.Slots.{Placement}
 use Rattle.rules.specs.AddressSets.{run}
 use Rattle.rules.specs.Scopes.{Scopes, Found, top_scope, alloc_run}
-use Rattle.rules.specs.Needs as goal
+use Rattle.rules.specs.Needs as need
 use Rattle.rules.proofs.Chains.{none-some}
 use Rattle.scopes.specs.View as state
 use Rattle.scopes.specs.declared.Reply.{Reply}
@@ -30,7 +30,7 @@ answer_in t a = record { next = t; says = a }
 -- ---- a slot that was given, as an address of kind k
 
 pub as-address-told : (k : AddressKind) (c t : Scopes) (r : Reply) (a : AddressAnswer) (m : Answer (ℕ × Scopes)) → a ≡ as_address k r → reply_in t r ≡ state.told state.at c m
-    → answer_in t (address_says a) ≡ told_state c (m >>= λ x. given (goal.address x.0 (kind_of k), x.1))
+    → answer_in t (address_says a) ≡ told_state c (m >>= λ x. given (need.address x.0 (kind_of k), x.1))
 unfolding ◌>>=◌
 as-address-told k c t r a (given x) p e = ap (λ (b : AddressAnswer). answer_in t (address_says b)) p ∙ ap (λ (s : state.Seen). answer_in s.next (address_says (as_address k s.says))) e
 as-address-told k c t r a (refused n) p e = ap (λ (b : AddressAnswer). answer_in t (address_says b)) p ∙ ap (λ (s : state.Seen). answer_in s.next (address_says (as_address k s.says))) e
@@ -68,14 +68,14 @@ none_first place c d a = go (top_scope c)
     go (some t) e = none-some (ap first_in e)
 
 module _ (place : Placement) (n : ℕ) (c t : Scopes) (r : Reply) where
-  pub as-run-told : reply_in t r ≡ state.told state.at_first c (alloc_run place n c) → answer_in t (run_says (as_run n r)) ≡ told_state c (goal.alloc_addresses place n c)
-  unfolding goal.alloc_addresses ◌>>=◌ run
+  pub as-run-told : reply_in t r ≡ state.told state.at_first c (alloc_run place n c) → answer_in t (run_says (as_run n r)) ≡ told_state c (need.alloc_addresses place n c)
+  unfolding need.alloc_addresses ◌>>=◌ run
   as-run-told = go (alloc_run place n c)
     where
-      go : (m : Answer (Option ℕ × Scopes)) → reply_in t r ≡ state.told state.at_first c m → answer_in t (run_says (as_run n r)) ≡ told_state c (m >>= λ x. given (goal.run_from n x.0, x.1))
+      go : (m : Answer (Option ℕ × Scopes)) → reply_in t r ≡ state.told state.at_first c m → answer_in t (run_says (as_run n r)) ≡ told_state c (m >>= λ x. given (need.run_from n x.0, x.1))
       go (given (none, d)) e = ap (λ (s : state.Seen). answer_in s.next (run_says (as_run n s.says))) e
       go (given (some b, d)) e =
-          ap (λ (s : state.Seen). answer_in s.next (run_says (as_run n s.says))) e ∙ ap (λ (k : goal.Kind). answer_in d (given (addresses k b n))) (kind-for n)
+          ap (λ (s : state.Seen). answer_in s.next (run_says (as_run n s.says))) e ∙ ap (λ (k : need.Kind). answer_in d (given (addresses k b n))) (kind-for n)
       go (refused m) e = ap (λ (s : state.Seen). answer_in s.next (run_says (as_run n s.says))) e
 
   pub as-run-plain : reply_in t r ≡ state.told state.at_first c (alloc_run place n c) → PlainRun (as_run n r)

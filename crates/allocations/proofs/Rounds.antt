@@ -6,7 +6,7 @@ use Prim.Native.Nat.{ℕ, suc, ◌+◌, ◌-◌, ◌<◌}
 use native.Mathlib.Omega.{arith}
 use Rattle.rules.specs.Notation.{Answer, given, refused, ◌>>=◌}
 use Rattle.rules.specs.Scopes.{Scopes}
-use Rattle.rules.specs.Needs as goal
+use Rattle.rules.specs.Needs as need
 use Rattle.rules.specs.Sizes.{WORD}
 use Rattle.scopes.specs.View as state
 use Rattle.scopes.specs.View.{view, told_only}
@@ -31,7 +31,7 @@ some_more z = omega (arith, z)
 -- ---- one turn
 
 module _ (dangles : Bool) (a : ℕ) where
-  pub down_step : (i j : ℕ) (c : Scopes) → i ≡ suc j → back_each dangles (down_from a i) c ≡ (goal.give_back dangles (a + j) c >>= back_each dangles (down_from a j))
+  pub down_step : (i j : ℕ) (c : Scopes) → i ≡ suc j → back_each dangles (down_from a i) c ≡ (need.give_back dangles (a + j) c >>= back_each dangles (down_from a j))
   unfolding down_from back_each
   down_step i j c e = ap (λ (n : ℕ). back_each dangles (down_from a n) c) e
 
@@ -53,32 +53,32 @@ module _ (f : Scopes → Answer Scopes) (d t : Scopes) (r : Reply) where
 
 -- ---- a run is freed: empty, Freed, kept by its owner, given back
 
-module _ (dangles : Bool) (k : goal.Kind) (a n : ℕ) (c : Scopes) where
-  abbrev freed_run : Scopes → Answer (List goal.Address × Scopes)
-  freed_run d = given (goal.forget_run (addresses k a n), d)
+module _ (dangles : Bool) (k : need.Kind) (a n : ℕ) (c : Scopes) where
+  abbrev freed_run : Scopes → Answer (List need.Address × Scopes)
+  freed_run d = given (need.forget_run (addresses k a n), d)
 
-  each : goal.free_run dangles (addresses k a n) c ≡ (goal.free_each dangles (of_kind k (down_from a n)) c >>= freed_run)
-  unfolding goal.free_run goal.forget_run
-  each = ap (λ (l : List goal.Address). goal.free_each dangles l c >>= freed_run) (run_down k a n)
+  each : need.free_run dangles (addresses k a n) c ≡ (need.free_each dangles (of_kind k (down_from a n)) c >>= freed_run)
+  unfolding need.free_run need.forget_run
+  each = ap (λ (l : List need.Address). need.free_each dangles l c >>= freed_run) (run_down k a n)
 
-  freed-each : (m : Answer Scopes) → goal.free_each dangles (of_kind k (down_from a n)) c ≡ m → goal.free_run dangles (addresses k a n) c ≡ (m >>= freed_run)
+  freed-each : (m : Answer Scopes) → need.free_each dangles (of_kind k (down_from a n)) c ≡ m → need.free_run dangles (addresses k a n) c ≡ (m >>= freed_run)
   freed-each m e = each ∙ ap (λ (x : Answer Scopes). x >>= freed_run) e
 
-  pub run-empty : n ≡ 0 → goal.free_run dangles (addresses k a n) c ≡ freed_run c
-  unfolding down_from goal.free_each ◌>>=◌
-  run-empty e = freed-each (given c) (ap (λ (i : ℕ). goal.free_each dangles (of_kind k (down_from a i)) c) e)
+  pub run-empty : n ≡ 0 → need.free_run dangles (addresses k a n) c ≡ freed_run c
+  unfolding down_from need.free_each ◌>>=◌
+  run-empty e = freed-each (given c) (ap (λ (i : ℕ). need.free_each dangles (of_kind k (down_from a i)) c) e)
 
-  pub run-spent : (n ≡ 0 → ⊥) → goal.is_freed k ≡ true → goal.free_run dangles (addresses k a n) c ≡ refused 13
+  pub run-spent : (n ≡ 0 → ⊥) → need.is_freed k ≡ true → need.free_run dangles (addresses k a n) c ≡ refused 13
   unfolding down_from ◌>>=◌
   run-spent z e =
       freed-each (refused 13)
-      (ap (λ (i : ℕ). goal.free_each dangles (of_kind k (down_from a i)) c) (some_more z) ∙ each_spent dangles k (a + (n - 1)) (down_from a (n - 1)) c e)
+      (ap (λ (i : ℕ). need.free_each dangles (of_kind k (down_from a i)) c) (some_more z) ∙ each_spent dangles k (a + (n - 1)) (down_from a (n - 1)) c e)
 
-  pub run-kept : goal.is_freed k ≡ false → goal.goes_back c k ≡ false → goal.free_run dangles (addresses k a n) c ≡ freed_run c
+  pub run-kept : need.is_freed k ≡ false → need.goes_back c k ≡ false → need.free_run dangles (addresses k a n) c ≡ freed_run c
   unfolding ◌>>=◌
   run-kept e g = freed-each (given c) (each-kept dangles k (down_from a n) c e g)
 
-  pub run-back : goal.is_freed k ≡ false → goal.goes_back c k ≡ true → goal.free_run dangles (addresses k a n) c ≡ (back_each dangles (down_from a n) c >>= freed_run)
+  pub run-back : need.is_freed k ≡ false → need.goes_back c k ≡ true → need.free_run dangles (addresses k a n) c ≡ (back_each dangles (down_from a n) c >>= freed_run)
   run-back e g = freed-each _ (each_back dangles k (down_from a n) c e g)
 
 -- ---- of a sound state
@@ -93,24 +93,24 @@ far-refused s sound dangles a n l h =
 
 module _ (s : declared.Scopes) (sound : Sound s) (dangles : Bool) (r : Run) where
   -- what freeing the run tells
-  abbrev pub run_told : SeenState (List goal.Address)
-  run_told = told_state (view s) (goal.free_run dangles (run_of r) (view s))
+  abbrev pub run_told : SeenState (List need.Address)
+  run_told = told_state (view s) (need.free_run dangles (run_of r) (view s))
 
-  pub told-empty : r.count ≡ 0 → answer_in (view s) (given (goal.forget_run (run_of r))) ≡ run_told
+  pub told-empty : r.count ≡ 0 → answer_in (view s) (given (need.forget_run (run_of r))) ≡ run_told
   told-empty z = sym (ap (told_state (view s)) (run-empty dangles (kind_of r.kind) r.first.0 r.count (view s) z))
 
-  pub told-spent : (r.count ≡ 0 → ⊥) → goal.is_freed (kind_of r.kind) ≡ true → answer_in (view s) (refused 13) ≡ run_told
+  pub told-spent : (r.count ≡ 0 → ⊥) → need.is_freed (kind_of r.kind) ≡ true → answer_in (view s) (refused 13) ≡ run_told
   told-spent z e = sym (ap (told_state (view s)) (run-spent dangles (kind_of r.kind) r.first.0 r.count (view s) z e))
 
-  pub told-kept : goal.is_freed (kind_of r.kind) ≡ false → back_from s.number s.top r.kind ≡ false
-      → answer_in (view s) (given (goal.forget_run (run_of r))) ≡ run_told
+  pub told-kept : need.is_freed (kind_of r.kind) ≡ false → back_from s.number s.top r.kind ≡ false
+      → answer_in (view s) (given (need.forget_run (run_of r))) ≡ run_told
   told-kept e g = sym (ap (told_state (view s)) (run-kept dangles (kind_of r.kind) r.first.0 r.count (view s) e (sym (back_from_lem s sound r.kind) ∙ g)))
 
-  module _ (e : goal.is_freed (kind_of r.kind) ≡ false) (g : back_from s.number s.top r.kind ≡ true) where
-    back-each : told_state (view s) (back_each dangles (down_from r.first.0 r.count) (view s) >>= λ d. given (goal.forget_run (run_of r), d)) ≡ run_told
+  module _ (e : need.is_freed (kind_of r.kind) ≡ false) (g : back_from s.number s.top r.kind ≡ true) where
+    back-each : told_state (view s) (back_each dangles (down_from r.first.0 r.count) (view s) >>= λ d. given (need.forget_run (run_of r), d)) ≡ run_told
     back-each = sym (ap (told_state (view s)) (run-back dangles (kind_of r.kind) r.first.0 r.count (view s) e (sym (back_from_lem s sound r.kind) ∙ g)))
 
     pub told_back : (t : Scopes) (reply : Reply) (a b : FreeAnswer) → a ≡ freed_by reply → a ≡ b
         → reply_in t reply ≡ told_only (view s) (back_each dangles (down_from r.first.0 r.count) (view s))
-        → answer_in t (once_back (goal.forget_run (run_of r)) b) ≡ run_told
-    told_back t reply a b p q e = freed-told (goal.forget_run (run_of r)) (view s) t reply _ a b p q e ∙ back-each
+        → answer_in t (once_back (need.forget_run (run_of r)) b) ≡ run_told
+    told_back t reply a b p q e = freed-told (need.forget_run (run_of r)) (view s) t reply _ a b p q e ∙ back-each

@@ -5,7 +5,7 @@ use mathlib.Core.Option.{Option}
 use mathlib.Core.List.{List}
 use Prim.Native.Nat.{ℕ}
 use Rattle.rules.specs.Notation.{Answer, given, refused}
-use Rattle.rules.specs.Needs as goal
+use Rattle.rules.specs.Needs as need
 use Rattle.scopes.specs.View.{view}
 use Rattle.scopes.specs.Sound.{Sound, Typed}
 use Rattle.scopes.specs.declared.Scopes.{Scopes}
@@ -59,16 +59,16 @@ unchanged {s = s} {r = r} state ts tr e same (taken g h) =
 abbrev proper : {t : Scopes} → Typed t → Sound t → Proper t
 proper h k = record { typed = h; sound = k }
 
-pub address-call-one : (s : Scopes) (x : SeenState goal.Address) (r q : AddressOutcome) → Typed r.state → Typed q.state → AddressCall s x r → AddressCall s x q → r ≡ q
+pub address-call-one : (s : Scopes) (x : SeenState need.Address) (r q : AddressOutcome) → Typed r.state → Typed q.state → AddressCall s x r → AddressCall s x q → r ≡ q
 address-call-one s x r q tr tq = checked-one (λ h k. admits-address x r q (proper tr h.1) (proper tq k.1) h.0 k.0)
 
-pub run-call-one : (s : Scopes) (x : SeenState (List goal.Address)) (r q : RunOutcome) → Typed r.state → Typed q.state → RunCall s x r → RunCall s x q → r ≡ q
+pub run-call-one : (s : Scopes) (x : SeenState (List need.Address)) (r q : RunOutcome) → Typed r.state → Typed q.state → RunCall s x r → RunCall s x q → r ≡ q
 run-call-one s x r q tr tq = checked-one (λ h k. admits-run x r q (proper tr h.2) (proper tq k.2) h.1 k.1 h.0 k.0)
 
 pub slot-call-one : (s : Scopes) (d : Need) (x : SeenBoth (Option ℕ)) (r q : SlotOutcome) → Typed r.state → Typed q.state → SlotCall s d x r → SlotCall s d x q → r ≡ q
 slot-call-one s d x r q tr tq = checked-one (λ h k. admits-slot x r q (proper tr h.1) (proper tq k.1) h.0 k.0)
 
-pub output-call-one : (s : Scopes) (d : Need) (x : SeenBoth goal.Output) (r q : OutputOutcome) → Typed r.state → Typed q.state → OutputCall s d x r → OutputCall s d x q → r ≡ q
+pub output-call-one : (s : Scopes) (d : Need) (x : SeenBoth need.Output) (r q : OutputOutcome) → Typed r.state → Typed q.state → OutputCall s d x r → OutputCall s d x q → r ≡ q
 output-call-one s d x r q tr tq = checked-one (λ h k. admits-output x r q (proper tr h.1) (proper tq k.1) h.0 k.0)
 
 pub free-call-one : (s : Scopes) (d : Need) (x : SeenBoth (Unit {0})) (r q : FreeOutcome) → Typed r.state → Typed q.state → FreeCall s d x r → FreeCall s d x q → r ≡ q

@@ -7,7 +7,7 @@ use lib.Dec.{eqb, ltb}
 use lib.ListN.{get_or}
 use borrow.Author.Tests.{lt-ltb, le-ltb, eq-eqb, ne_eqb}
 use Rattle.rules.specs.Sizes.{SCOPES}
-use Rattle.rules.specs.Needs as goal
+use Rattle.rules.specs.Needs as need
 use Rattle.rules.proofs.Tables.{by_eqb}
 use Rattle.scopes.specs.View.{view, id_of}
 use Rattle.scopes.specs.Sound.{Sound}
@@ -34,16 +34,16 @@ module _ (t i : ℕ) (b : Bool) where
 
 module _ (s : state.Scopes) (sound : Sound s) where
   -- the top's number is read off the arrays
-  pub back_from_lem : (k : AddressKind) → back_from s.number s.top k ≡ goal.goes_back (view s) (kind_of k)
-  unfolding goal.goes_back
+  pub back_from_lem : (k : AddressKind) → back_from s.number s.top k ≡ need.goes_back (view s) (kind_of k)
+  unfolding need.goes_back
   back_from_lem kind.Local = refl
   back_from_lem kind.Dangling = refl
   back_from_lem kind.Assigned = refl
   back_from_lem kind.Freed = refl
   back_from_lem (kind.Scope id) =
       by_eqb s.top SCOPES
-      (λ e. sym (top-far s.top id.index (eqb (get_or s.number s.top 0) id.number) (omega arith)) ∙ sym (ap (goal.is_scope (id_of id)) (no_top s e)))
+      (λ e. sym (top-far s.top id.index (eqb (get_or s.number s.top 0) id.number) (omega arith)) ∙ sym (ap (need.is_scope (id_of id)) (no_top s e)))
       (λ n.
       let t : Topped s = topped s sound n in
       sym (ap (λ (b : Bool). b && eqb s.top id.index && eqb (get_or s.number s.top 0) id.number) (sym (lt-ltb s.top SCOPES t.small)))
-      ∙ sym (ap (goal.is_scope (id_of id)) t.is))
+      ∙ sym (ap (need.is_scope (id_of id)) t.is))

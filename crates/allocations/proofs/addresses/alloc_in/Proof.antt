@@ -1,4 +1,4 @@
-use Rattle.rules.specs.Needs as goal
+use Rattle.rules.specs.Needs as need
 use Rattle.needs.specs.declared.AddressKind.TheVariants.{Scope}
 use Rattle.allocations.proofs.Replies.{as-address-told}
 use Rattle.allocations.proofs.addresses.alloc_in.Statement.{statement}
@@ -11,7 +11,7 @@ as-address-requires : tie.Need-as-address-requires
 as-address-requires c κs = tt
 
 returns : tie.Need-returns
-unfolding goal.alloc_address_in
+unfolding need.alloc_address_in
 returns c = (as-address-told (Scope _) _ _ _ _ _ c.as-address.ensures c.before.before.alloc-in.ensures.0, c.before.before.alloc-in.ensures.1)
 
 pub alloc-in-spec : {M : Type 1} → statement M

@@ -1,7 +1,7 @@
 use mathlib.Core.Path.{◌≡◌, sym, ap, ◌∙◌}
 use borrow.Author.Tests.{not-true, not-false}
 use borrow.Author.Rules.{rules}
-use Rattle.rules.specs.Needs as goal
+use Rattle.rules.specs.Needs as need
 use Rattle.scopes.specs.View.{view}
 use Rattle.needs.specs.Kinds.{address_of}
 use Rattle.needs.specs.declared.FreeAnswer.{FreeAnswer}
@@ -42,8 +42,8 @@ start c = c.before.before.before.before.before.before.before.before.before.befor
 
 -- what is answered once the slot was to go back
 went : (c : tie.After-freed-by) (b : FreeAnswer) → c.freed-by.result ≡ b
-    → answer_in (view c.before.before.give-back.result.state) (once_back (goal.address (start c).args.a.slot.0 goal.freed) b)
-    ≡ told_state (view (start c).args.t1) (goal.free_address (start c).args.dangles (address_of (start c).args.a) (view (start c).args.t1))
+    → answer_in (view c.before.before.give-back.result.state) (once_back (need.address (start c).args.a.slot.0 need.freed) b)
+    ≡ told_state (view (start c).args.t1) (need.free_address (start c).args.dangles (address_of (start c).args.a) (view (start c).args.t1))
 went c b e =
     freed-told _ _ _ _ _ _ b c.freed-by.ensures e c.before.before.give-back.ensures.0
     ∙ sym (ap (told_state (view (start c).args.t1)) (free_back (start c).args.dangles _ _ _ (sym c.before.before.before.before.before.before.before.before.is-freed.ensures ∙ c.before.before.before.before.before.before.before.if1.false) (sym (back_from_lem _ (start c).requires (start c).args.a.kind) ∙ sym c.before.before.before.before.goes_back.ensures ∙ not-false _ c.before.before.before.if2.false)))

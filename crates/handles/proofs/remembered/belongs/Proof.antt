@@ -9,10 +9,10 @@ use Rattle.handles.proofs.remembered.belongs.Statement.{statement}
 use Rattle.handles.proofs.remembered.belongs.Tie as tie
 
 abbrev invariant-loop : tie.invariant-loop
-invariant-loop rules remembers needed h i₀ i = Left rules remembers needed h.0 i
+invariant-loop needs remembers needed h i₀ i = Left needs remembers needed h.0 i
 
 abbrev decreases-loop : tie.decreases-loop
-decreases-loop rules remembers needed h i₀ i = needed - i
+decreases-loop needs remembers needed h i₀ i = needed - i
 
 is-remembered-requires : tie.Need-is-remembered-requires invariant-loop decreases-loop
 is-remembered-requires c κs = search rules

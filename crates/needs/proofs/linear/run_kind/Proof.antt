@@ -3,7 +3,7 @@ use mathlib.Core.Bool.{Bool, true, false}
 use Prim.Native.Nat.{ℕ}
 use lib.Dec.{eqb}
 use borrow.Author.Tests.{eq-eqb, ne_eqb}
-use Rattle.rules.specs.Needs as goal
+use Rattle.rules.specs.Needs as need
 use Rattle.needs.specs.Kinds.{kind_of}
 use Rattle.needs.specs.Inner.{kind_for}
 use Rattle.needs.specs.declared.AddressKind.TheVariants.{Local, Dangling}
@@ -12,7 +12,7 @@ use Rattle.needs.proofs.linear.run_kind.Statement.{statement}
 use Rattle.needs.proofs.linear.run_kind.Tie as tie
 
 -- what is tested tells the kind, and the kind is the rule's
-both : (n : ℕ) (b : Bool) → eqb n 1 ≡ b → (elim b [ true ↦ Local | false ↦ Dangling ] ≡ kind_for n) × (kind_of (elim b [ true ↦ Local | false ↦ Dangling ]) ≡ goal.run_kind n)
+both : (n : ℕ) (b : Bool) → eqb n 1 ≡ b → (elim b [ true ↦ Local | false ↦ Dangling ] ≡ kind_for n) × (kind_of (elim b [ true ↦ Local | false ↦ Dangling ]) ≡ need.run_kind n)
 both n b e =
     let k : elim b [ true ↦ Local | false ↦ Dangling ] ≡ kind_for n = sym (ap (λ (x : Bool). elim x [ true ↦ Local | false ↦ Dangling ]) e) in
     (k, ap kind_of k ∙ kind-for n)

@@ -1,0 +1,27 @@
+use mathlib.Core.Path.{sym, ◌∙◌}
+use mathlib.Core.Bool.{true, false}
+use borrow.Author.Rules.{rules}
+use native.Mathlib.Omega.{arith}
+use Rattle.rules.specs.Sizes.{base}
+use Rattle.slots.specs.Promises.{view}
+use Rattle.slots.proofs.Steps.{sound-segments, remove-within, still-clear, remove-past}
+use Rattle.slots.proofs.entries.remove_sound.Goals as goal
+
+pub occupied-requires : goal.occupied-requires
+unfolding base
+occupied-requires c = omega (arith, sound-segments base.segments (view c.args.s) c.requires)
+
+pub vacate-requires : goal.vacate-requires
+unfolding base
+vacate-requires c = (omega (arith, sound-segments base.segments (view c.args.s) c.requires), search rules)
+
+pub returns-then-occupied : goal.returns-then-occupied
+returns-then-occupied c = remove-within (view c.args.s) _ true c.if-a-t.true (sym c.occupied.ensures ∙ c.if-occupied.true) c.vacate.ensures.halves_after
+
+pub returns-else-occupied : goal.returns-else-occupied
+returns-else-occupied c =
+    let clear = sym c.occupied.ensures ∙ c.if-occupied.false in
+    remove-within (view c.args.s) _ false c.if-a-t.true clear (still-clear (view c.args.s) _ clear)
+
+pub returns-else-a-t : goal.returns-else-a-t
+returns-else-a-t c = remove-past (view c.args.s) _ c.if-a-t.false
