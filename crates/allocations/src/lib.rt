@@ -11,33 +11,33 @@ use scopes::Scopes;
 
 // ---- results: the state first, then the need, then the answer
 
-#[derive(Drop)]
+#[derive(Clone, Copy)]
 pub struct AddressOutcome {
     pub state: Scopes,
     pub answer: AddressAnswer,
 }
 
-#[derive(Drop)]
+#[derive(Clone, Copy)]
 pub struct RunOutcome {
     pub state: Scopes,
     pub answer: RunAnswer,
 }
 
-#[derive(Drop)]
+#[derive(Clone, Copy)]
 pub struct SlotOutcome {
     pub state: Scopes,
     pub need: Need,
     pub answer: SlotAnswer,
 }
 
-#[derive(Drop)]
+#[derive(Clone, Copy)]
 pub struct OutputOutcome {
     pub state: Scopes,
     pub need: Need,
     pub answer: OutputAnswer,
 }
 
-#[derive(Drop)]
+#[derive(Clone, Copy)]
 pub struct FreeOutcome {
     pub state: Scopes,
     pub need: Need,

@@ -7,13 +7,13 @@ ghost use Rattle.allocator.specs.Drained.{DrainCall, drained};
 use rules::SLOTS;
 use scopes::Scopes;
 
-#[derive(Drop)]
+#[derive(Clone, Copy)]
 pub enum DrainAnswer {
     Count(usize),
     Refused(u8),
 }
 
-#[derive(Drop)]
+#[derive(Clone, Copy)]
 pub struct DrainOutcome {
     pub state: Scopes,
     pub answer: DrainAnswer,

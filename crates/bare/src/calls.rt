@@ -10,7 +10,7 @@ use slots::{
 };
 
 // The state, and what the call answered as a number.
-#[derive(Drop)]
+#[derive(Clone, Copy)]
 pub struct Shown {
     pub state: Slots,
     pub says: u64,

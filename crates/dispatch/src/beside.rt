@@ -16,7 +16,7 @@ use slots::Place;
 use text::lines::Frame;
 
 // A step with needs: the numbers of the state, and how many handles and needs there are.
-#[derive(Drop)]
+#[derive(Clone, Copy)]
 pub struct Advance {
     pub numbers: Numbers,
     pub handed: usize,

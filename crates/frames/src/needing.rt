@@ -16,7 +16,7 @@ use rules::{HANDLES, NEEDS, SCOPES};
 use scopes::{HandleNumber, Scopes};
 
 // How many needs there are, and what the line adds.
-#[derive(Drop)]
+#[derive(Clone, Copy)]
 pub struct Noted {
     pub needed: usize,
     pub adds: Adds,

@@ -8,14 +8,14 @@ use scopes::{LentOutcome, Numbers, Reply, ScopeId, Scopes, open};
 use slots::SlotAddress;
 
 // What a write stores: 10 has it in the frame, 14 takes the next sample.
-#[derive(Drop)]
+#[derive(Clone, Copy)]
 pub enum Source {
     Constant(u16),
     NextSample,
 }
 
 // What a frame's line has besides its opcode; or the number of a refusal.
-#[derive(Drop)]
+#[derive(Clone, Copy)]
 pub enum Adds {
     Nothing,
     Slot(SlotAddress),
@@ -28,7 +28,7 @@ pub enum Adds {
 }
 
 // A step over lent arrays: the numbers of the state come back.
-#[derive(Drop)]
+#[derive(Clone, Copy)]
 pub struct Stepped {
     pub numbers: Numbers,
     pub handed: usize, // how many handles were handed out

@@ -15,7 +15,7 @@ use scopes::{HandleNumber, ScopeId};
 use slots::{SlotAddress, halves};
 
 // An allocation, as its handle knows it; whether it is held, the slot tells.
-#[derive(Drop)]
+#[derive(Clone, Copy)]
 pub struct Handle {
     pub address: Address,
     pub written: bool,

@@ -16,7 +16,7 @@ use scopes::{HandleNumber, ScopeId};
 use slots::SlotAddress;
 
 // Needs count from 0 in the order made. A need's number is neither a handle's nor a slot's.
-#[derive(Drop)]
+#[derive(Clone, Copy)]
 pub struct NeedNumber(pub u16);
 
 // ---- a need in one number

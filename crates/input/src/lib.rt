@@ -5,7 +5,7 @@ ghost use Rattle.std.specs.Prelude.{◌≡◌, ℕ, ◌≤◌, length};
 ghost use Rattle.input.specs.Within.{Within};
 
 // All of it, in so many bytes at the start of the buffer, where room is left; or the buffer is full, and more may follow; or a read failed.
-#[derive(Drop)]
+#[derive(Clone, Copy)]
 pub enum Input {
     Whole(usize),
     Full,

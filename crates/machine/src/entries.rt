@@ -5,7 +5,7 @@ ghost use Rattle.machine.specs.Entries.{entry_for, entry_in, loads_of, takes_of,
 use text::lines::Frame;
 use text::table::unpack;
 
-#[derive(Drop)]
+#[derive(Clone, Copy)]
 pub enum Entry {
     Skip,
     Store(u16, u16),

@@ -7,7 +7,7 @@ ghost use Rattle.machine.specs.Survey.{survey_of, lacking_of};
 use crate::entries::{entry_at, loads_of, over, takes_of};
 
 // The first line whose address is not below the size; or how many loads there are, and how many samples are taken.
-#[derive(Drop)]
+#[derive(Clone, Copy)]
 pub enum Survey {
     High(usize),
     Low(usize, usize),

@@ -9,7 +9,7 @@ pub mod linear;
 use scopes::ScopeId;
 use slots::SlotAddress;
 
-#[derive(Drop)]
+#[derive(Clone, Copy)]
 pub enum AddressKind {
     Local,
     Dangling,
@@ -18,21 +18,21 @@ pub enum AddressKind {
     Scope(ScopeId),
 }
 
-#[derive(Drop)]
+#[derive(Clone, Copy)]
 pub struct Address {
     pub slot: SlotAddress,
     pub kind: AddressKind,
 }
 
 // The addresses first, first + 1, .., all of one kind. An empty one that we hand out is (0, 0, Freed).
-#[derive(Drop)]
+#[derive(Clone, Copy)]
 pub struct Run {
     pub first: SlotAddress,
     pub count: u16,
     pub kind: AddressKind,
 }
 
-#[derive(Drop)]
+#[derive(Clone, Copy)]
 pub enum Need {
     Defer(ScopeId),
     Address(Address),
@@ -42,47 +42,47 @@ pub enum Need {
 
 // ---- answers; a refusal has its number
 
-#[derive(Drop)]
+#[derive(Clone, Copy)]
 pub enum AddressAnswer {
     Got(Address),
     Refused(u8),
 }
 
-#[derive(Drop)]
+#[derive(Clone, Copy)]
 pub enum RunAnswer {
     Got(Run),
     Refused(u8),
 }
 
-#[derive(Drop)]
+#[derive(Clone, Copy)]
 pub enum SlotAnswer {
     At(SlotAddress),
     Nothing,
     Refused(u8),
 }
 
-#[derive(Drop)]
+#[derive(Clone, Copy)]
 pub enum OutputAnswer {
     Keep(SlotAddress),
     Discard,
     Refused(u8),
 }
 
-#[derive(Drop)]
+#[derive(Clone, Copy)]
 pub enum TriedAnswer {
     Got(Address),
     Nothing,
     Refused(u8),
 }
 
-#[derive(Drop)]
+#[derive(Clone, Copy)]
 pub enum FreeAnswer {
     Done,
     Refused(u8),
 }
 
 // Where x is to be copied, if anywhere.
-#[derive(Drop)]
+#[derive(Clone, Copy)]
 pub enum Copying {
     To(SlotAddress),
     Nothing,
@@ -90,13 +90,13 @@ pub enum Copying {
 
 // ---- results: the need, then the answer
 
-#[derive(Drop)]
+#[derive(Clone, Copy)]
 pub struct Taken {
     pub need: Need,
     pub answer: AddressAnswer,
 }
 
-#[derive(Drop)]
+#[derive(Clone, Copy)]
 pub struct Assignment {
     pub need: Need,
     pub copy: Copying,

@@ -18,7 +18,7 @@ const BYTES: u64 = 30064771066;
 const MALFORMED: u64 = 0x7_0000_0000_0000;
 
 // The state that the bytes of a recording leave; or a read failed.
-#[derive(Drop)]
+#[derive(Clone, Copy)]
 pub enum Recorded {
     State(u64),
     Failed,

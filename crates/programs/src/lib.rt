@@ -12,7 +12,7 @@ use rules::{LONGER, TEXT};
 pub mod beside; // the running program with a recording
 pub mod checking; // the checking program
 
-#[derive(Drop)]
+#[derive(Clone, Copy)]
 pub enum Program {
     Translator,
     Runner,

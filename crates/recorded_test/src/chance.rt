@@ -7,7 +7,7 @@ use recordings::read_recording;
 use std::num::wrapping_add_u64;
 use text::writing::put_line;
 
-#[derive(Drop)]
+#[derive(Clone, Copy)]
 struct Parts {
     state: u64,
     count: u64,

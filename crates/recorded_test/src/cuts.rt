@@ -5,7 +5,7 @@ use crate::bytes::{same, show_count, show_hex, show_state};
 use recordings::read_recording;
 use std::num::wrapping_add_u64;
 
-#[derive(Drop)]
+#[derive(Clone, Copy)]
 pub struct Ways {
     pub agree: u64,
     pub differ: u64,

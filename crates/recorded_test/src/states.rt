@@ -6,7 +6,7 @@ use crate::tally::{Outcome, Tally, counted, none, show_tally};
 use recordings::read_recording;
 
 // What they came to, and all answers and samples, mixed.
-#[derive(Drop)]
+#[derive(Clone, Copy)]
 struct Answers {
     tally: Tally,
     digest: u64,

@@ -8,7 +8,7 @@ use crate::runs::whole_lines;
 use crate::states::Reader;
 
 // What is known after some bytes, and where the next one stands.
-#[derive(Drop)]
+#[derive(Clone, Copy)]
 struct Turn {
     reader: Reader,
     next: usize,

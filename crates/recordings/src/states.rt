@@ -7,7 +7,7 @@ ghost use Rattle.recordings.specs.Reading.{seen};
 pub const LINES: u64 = 4294967295;
 
 // The line that is read, how many of its bytes were read, and the number that its digits make so far. Column 7: the line is malformed.
-#[derive(Drop)]
+#[derive(Clone, Copy)]
 pub struct Reader {
     pub line: u64,
     pub column: u64,

@@ -12,7 +12,7 @@ use text::digits::digit_value;
 pub mod tally; // the records of a text, replayed and counted
 
 // Where a record's script and answer begin, and where the answer ends.
-#[derive(Drop)]
+#[derive(Clone, Copy)]
 enum Found {
     Broken,
     Record {

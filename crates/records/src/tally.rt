@@ -10,7 +10,7 @@ use answers::translated;
 use rules::TEXT;
 
 // The first that differs is counted from 1, and is 0 where none does. A broken record ends the count.
-#[derive(Drop)]
+#[derive(Clone, Copy)]
 pub struct Tally {
     pub records: usize,
     pub differ: usize,

@@ -10,7 +10,7 @@ use crate::Scopes;
 use crate::lent::drain as lent;
 use rules::SLOTS;
 
-#[derive(Drop)]
+#[derive(Clone, Copy)]
 pub struct Drained {
     pub state: Scopes,
     pub count: usize,

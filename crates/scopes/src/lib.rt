@@ -27,17 +27,17 @@ pub const OF_NOBODY: u8 = LISTS as u8;
 
 pub const NO_PARENT: u8 = SCOPES as u8;
 
-#[derive(Drop)]
+#[derive(Clone, Copy)]
 pub struct HandleNumber(pub u16);
 
 // An id is an index and a counter number.
-#[derive(Drop)]
+#[derive(Clone, Copy)]
 pub struct ScopeId {
     pub index: u8,
     pub number: u32,
 }
 
-#[derive(Drop)]
+#[derive(Clone, Copy)]
 pub struct Scopes {
     pub halves: [u64; HALVES], // slots: bit a % 64 of half a / 64
     pub links: [u16; LINKS], // the lists of the scopes, and at DANGLING the dangling list
@@ -56,7 +56,7 @@ pub struct Scopes {
 }
 
 // The numbers of a state: they go in and come back by value where the arrays are lent.
-#[derive(Drop)]
+#[derive(Clone, Copy)]
 pub struct Numbers {
     pub count: usize,
     pub segments: usize,
@@ -67,13 +67,13 @@ pub struct Numbers {
 }
 
 // What a name is bound to.
-#[derive(Drop)]
+#[derive(Clone, Copy)]
 pub struct Bound {
     pub address: SlotAddress,
     pub handle: HandleNumber,
 }
 
-#[derive(Drop)]
+#[derive(Clone, Copy)]
 pub enum Reply {
     Done,
     At(SlotAddress),
@@ -83,14 +83,14 @@ pub enum Reply {
     Refused(u8),
 }
 
-#[derive(Drop)]
+#[derive(Clone, Copy)]
 pub struct Outcome {
     pub state: Scopes,
     pub reply: Reply,
 }
 
 // An outcome where the arrays are lent.
-#[derive(Drop)]
+#[derive(Clone, Copy)]
 pub struct LentOutcome {
     pub numbers: Numbers,
     pub reply: Reply,

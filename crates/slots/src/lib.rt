@@ -12,11 +12,11 @@ pub use entries::{fresh, insert, insert_lowest, push, remove};
 use rules::HALVES;
 
 // The address of a slot. A handle number is another type, so that neither passes for the other.
-#[derive(Drop)]
+#[derive(Clone, Copy)]
 pub struct SlotAddress(pub u16);
 
 // The state, by value: the occupied slots, segment count L, head segment H.
-#[derive(Drop)]
+#[derive(Clone, Copy)]
 pub struct Slots {
     pub halves: [u64; HALVES],
     pub segments: usize,
@@ -24,7 +24,7 @@ pub struct Slots {
 }
 
 // Where an allocation goes: by the head (edition 1), to the lowest clear slot of all (edition 2), or exactly at an address that a list shows.
-#[derive(Drop)]
+#[derive(Clone, Copy)]
 pub enum Place {
     ByHead,
     Lowest,
@@ -32,7 +32,7 @@ pub enum Place {
 }
 
 // The first slot of an allocation, SLOTS where there is none; and L and H once its slots are occupied.
-#[derive(Drop)]
+#[derive(Clone, Copy)]
 pub struct Spot {
     pub address: usize,
     pub segments: usize,
@@ -40,14 +40,14 @@ pub struct Spot {
 }
 
 // What insert and push answer.
-#[derive(Drop)]
+#[derive(Clone, Copy)]
 pub enum PlaceAnswer {
     At(SlotAddress),
     Refused(u8),
 }
 
 // What remove answers.
-#[derive(Drop)]
+#[derive(Clone, Copy)]
 pub enum RemoveAnswer {
     Yes,
     No,
@@ -55,13 +55,13 @@ pub enum RemoveAnswer {
 }
 
 // The state comes first, the answer after it: so a step copies the state least.
-#[derive(Drop)]
+#[derive(Clone, Copy)]
 pub struct Placing {
     pub state: Slots,
     pub answer: PlaceAnswer,
 }
 
-#[derive(Drop)]
+#[derive(Clone, Copy)]
 pub struct Removing {
     pub state: Slots,
     pub answer: RemoveAnswer,

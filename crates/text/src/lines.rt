@@ -8,28 +8,28 @@ use crate::digits::{NO_NUMBER, four_digits, is_other, value_of, word_of};
 use crate::table::unpack;
 
 // A frame, or a line of a list: its opcode and its first two operands, 0 where it has fewer.
-#[derive(Drop)]
+#[derive(Clone, Copy)]
 pub struct Frame {
     pub opcode: u8,
     pub a: u16,
     pub b: u16,
 }
 
-#[derive(Drop)]
+#[derive(Clone, Copy)]
 pub enum Reading {
     Malformed,
     One(Frame),
 }
 
 // What was read, and where the next line begins.
-#[derive(Drop)]
+#[derive(Clone, Copy)]
 pub struct TakenLine {
     pub reading: Reading,
     pub next: usize,
 }
 
 // The same, as one number: the opcode, then the two operands; NONE where the line is malformed.
-#[derive(Drop)]
+#[derive(Clone, Copy)]
 pub struct Coded {
     pub code: u64,
     pub next: usize,
@@ -39,7 +39,7 @@ pub struct Coded {
 pub const NONE: u64 = 0x100_0000_0000;
 
 // The digits from a place on: where they end, and the number that the first ten make, with zeros after them where there are fewer.
-#[derive(Drop)]
+#[derive(Clone, Copy)]
 pub struct Digits {
     pub end: usize,
     pub number: u64,

@@ -12,14 +12,14 @@ use rules::{LINES, SLOTS};
 const TITLE: u64 = 0xf0_0002_0000;
 
 // Of a script how many frames it has, its title among them; or the number and the line of a refusal.
-#[derive(Drop)]
+#[derive(Clone, Copy)]
 pub enum CheckedScript {
     Good(usize),
     Refused(u8, usize),
 }
 
 // Of a list its size, and how many lines stand before the size line; or the number and the line of a refusal.
-#[derive(Drop)]
+#[derive(Clone, Copy)]
 pub enum Listing {
     Read(usize, usize),
     Unread(u8, usize),

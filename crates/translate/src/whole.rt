@@ -20,21 +20,21 @@ use text::whole::{CheckedScript, check_from, title_lines};
 use text::writing::{put_drain, put_line, put_size};
 
 // Whether the script goes on, or the number that stops it.
-#[derive(Drop)]
+#[derive(Clone, Copy)]
 enum Onward {
     Go,
     Stop(u8),
 }
 
 // How many bytes of the page the list takes, and its size; or the number and the line of a refusal.
-#[derive(Drop)]
+#[derive(Clone, Copy)]
 pub enum Ended {
     Listed(usize, usize),
     Refused(u8, usize),
 }
 
 // Where slots go: at every line by one place; or line by line where a list shows them, of which a table has so many lines.
-#[derive(Drop)]
+#[derive(Clone, Copy)]
 pub enum Guide {
     Everywhere(Place),
     Shown(usize),

@@ -1,0 +1,8 @@
+-- `check_script` meets its contract. Assumes nothing.
+use mathlib.Core.Path.{sym, ◌∙◌}
+use Rattle.rules.specs.Sizes.{base}
+use Rattle.text.proofs.Titling.{script-start}
+use Rattle.text.proofs.whole.check_script.Goals as goal
+
+pub returns : goal.returns
+returns c = c.check_from.ensures ∙ sym (script-start base _ _ c.title_lines-first.ensures)
