@@ -39,7 +39,7 @@ pub fn free_step<'a>(
     needed: usize,
     f: Frame,
 ) -> Stepped
-    requires { StandsFreesWith halves links owner number n handles holders handed needs remembers needed × (12 ≤ f.opcode) × (f.opcode < 15) }
+    requires { StandsFreesWith halves links owner number n handles holders handed needs.now remembers.now needed × (12 ≤ f.opcode) × (f.opcode < 15) }
     ensures { FreeStep f halves links owner number n handles holders handed needs remembers needed result }
 {
     let op = f.opcode;

@@ -146,7 +146,7 @@ fn cell_step<'a>(
     handed: usize,
     f: Frame,
 ) -> Adds
-    requires { StandsCells halves live parent bindings n handles holders handed × (16 ≤ f.opcode) × (f.opcode < 32) }
+    requires { StandsCells halves live parent bindings n handles.old holders handed × (16 ≤ f.opcode) × (f.opcode < 32) }
     ensures { CellStep f halves live parent bindings n handles holders handed result }
 {
     let op = f.opcode;

@@ -1,6 +1,6 @@
 -- The steps of a script with needs, W-201 of document 02: what the frames 20 to 25, and 0c, 0d, 0e beside needs, promise. Assumes nothing.
 use Rattle.std.specs.Prelude.{◌≡◌, Bool, true, List, [], ◌∷◌, ℕ, length}
-use Rattle.std.specs.Borrow.{Bor}
+use Rattle.std.specs.Borrow.{Bor, MutBor}
 use Rattle.rules.specs.Notation.{◌>>=◌}
 use Rattle.rules.specs.Sizes.{base, HANDLES, NEEDS, SLOTS}
 use Rattle.rules.specs.Slots.{Placement}
@@ -12,7 +12,7 @@ use Rattle.rules.proofs.Sound.{NeedsSound}
 use Rattle.scopes.specs.declared.Numbers.{Numbers}
 use Rattle.scopes.specs.declared.Scopes.{Scopes}
 use Rattle.scopes.specs.View.{view}
-use Rattle.scopes.specs.Lent.{on_allots, Whole, LentArray, LentArrays, allot_arrays}
+use Rattle.scopes.specs.Lent.{on_allots, Whole, LentArray, LentArrays, ReadArray, allot_arrays}
 use Rattle.needs.specs.declared.OutputAnswer.{OutputAnswer}
 use Rattle.needs.specs.declared.OutputAnswer.TheVariants as output
 use Rattle.handles.specs.Handles.{handle_at}
@@ -91,38 +91,38 @@ abbrev pub table_out : (needs remembers : LentArray ℕ) → ℕ → Needing
 table_out needs remembers needed = table needs.exit.now remembers.exit.now needed
 
 -- there is a state with the arrays of an allocation, or of a freeing, in which a script with needs stands
-abbrev pub StandsAllotsWith : (halves links owner : Bor (List ℕ)) → Bor (List Bool) → Bor (List ℕ) → Numbers → (handles holders : Bor (List ℕ)) → ℕ → (needs remembers : Bor (List ℕ)) → ℕ → Type 0
+abbrev pub StandsAllotsWith : (halves links owner : MutBor (List ℕ)) → Bor (List Bool) → Bor (List ℕ) → Numbers → (handles holders : MutBor (List ℕ)) → ℕ → (needs remembers : MutBor (List ℕ)) → ℕ → Type 0
 StandsAllotsWith halves links owner live number n handles holders handed needs remembers needed =
     (s : Scopes) × StandsWith (on_allots s halves.now links.now owner.now live.now number.now n) handles.now holders.now handed (table needs.now remembers.now needed)
 
-abbrev pub StandsFreesWith : (halves links owner number : Bor (List ℕ)) → Numbers → (handles holders : Bor (List ℕ)) → ℕ → (needs remembers : Bor (List ℕ)) → ℕ → Type 0
+abbrev pub StandsFreesWith : (halves links owner : MutBor (List ℕ)) (number : Bor (List ℕ)) → Numbers → (handles : MutBor (List ℕ)) (holders : Bor (List ℕ)) → ℕ → (needs remembers : List ℕ) → ℕ → Type 0
 StandsFreesWith halves links owner number n handles holders handed needs remembers needed =
-    (s : Scopes) × StandsWith (on_frees s halves.now links.now owner.now number.now n) handles.now holders.now handed (table needs.now remembers.now needed)
+    (s : Scopes) × StandsWith (on_frees s halves.now links.now owner.now number.now n) handles.now holders.now handed (table needs remembers needed)
 
 -- a step over the arrays of an allocation, and the needs
-abbrev pub AllotsBeside : Placement → rules.Frame → ℕ → (halves links owner : LentArray ℕ) → LentArray Bool → LentArray ℕ → Numbers → (handles holders : LentArray ℕ) → ℕ → (needs remembers : LentArray ℕ) → ℕ → Stepped → Type 0
+abbrev pub AllotsBeside : Placement → rules.Frame → ℕ → (halves links owner : LentArray ℕ) → ReadArray Bool → ReadArray ℕ → Numbers → (handles holders : LentArray ℕ) → ℕ → (needs remembers : LentArray ℕ) → ℕ → Stepped → Type 0
 AllotsBeside place f o halves links owner live number n handles holders handed needs remembers needed r =
     let lent : LentArrays = allot_arrays halves links owner live number in
     (s : Scopes) → LeadsWithBy place f o (lent.entry s n) (lent.exit s r.numbers)
     handles.entry.now holders.entry.now handed (table_in needs remembers needed) r handles.exit.now holders.exit.now (table_out needs remembers needed)
 
 -- a step over the arrays of a freeing, which leaves the holders: the needs become t', or stay, or are changed too
-abbrev pub LentFreesWith : rules.Frame → ℕ → LentArrays → Numbers → (handles holders : LentArray ℕ) → ℕ → Needing → Stepped → Needing → Type 0
+abbrev pub LentFreesWith : rules.Frame → ℕ → LentArrays → Numbers → (handles : LentArray ℕ) (holders : ReadArray ℕ) → ℕ → Needing → Stepped → Needing → Type 0
 LentFreesWith f o lent n handles holders handed t r t' =
     (s : Scopes) → LeadsWith f o (lent.entry s n) (lent.exit s r.numbers) handles.entry.now holders.entry.now handed t r handles.exit.now holders.entry.now t'
 
-abbrev pub FreesBeside : rules.Frame → ℕ → (halves links owner number : LentArray ℕ) → Numbers → (handles holders : LentArray ℕ) → ℕ → (needs remembers : LentArray ℕ) → ℕ → Stepped → Type 0
+abbrev pub FreesBeside : rules.Frame → ℕ → (halves links owner : LentArray ℕ) (number : ReadArray ℕ) → Numbers → (handles : LentArray ℕ) (holders : ReadArray ℕ) → ℕ → (needs remembers : ReadArray ℕ) → ℕ → Stepped → Type 0
 FreesBeside f o halves links owner number n handles holders handed needs remembers needed r =
-    LentFreesWith f o (free_arrays halves links owner number) n handles holders handed (table_in needs remembers needed) r (table_in needs remembers needed)
+    LentFreesWith f o (free_arrays halves links owner number) n handles holders handed (table needs.entry.now remembers.entry.now needed) r (table needs.entry.now remembers.entry.now needed)
 
-abbrev pub FreesNeed : rules.Frame → ℕ → (halves links owner number : LentArray ℕ) → Numbers → (handles holders : LentArray ℕ) → ℕ → (needs remembers : LentArray ℕ) → ℕ → Stepped → Type 0
+abbrev pub FreesNeed : rules.Frame → ℕ → (halves links owner : LentArray ℕ) (number : ReadArray ℕ) → Numbers → (handles : LentArray ℕ) (holders : ReadArray ℕ) → ℕ → (needs remembers : LentArray ℕ) → ℕ → Stepped → Type 0
 FreesNeed f o halves links owner number n handles holders handed needs remembers needed r =
     LentFreesWith f o (free_arrays halves links owner number) n handles holders handed (table_in needs remembers needed) r (table_out needs remembers needed)
 
 -- a step that changes the handle table alone, whatever the state and the holders are
-abbrev pub Forgets : rules.Frame → ℕ → LentArray ℕ → ℕ → (needs remembers : LentArray ℕ) → ℕ → Adds → Type 0
+abbrev pub Forgets : rules.Frame → ℕ → LentArray ℕ → ℕ → (needs remembers : ReadArray ℕ) → ℕ → Adds → Type 0
 Forgets f o handles handed needs remembers needed adds =
-    let t : Needing = table_in needs remembers needed in
+    let t : Needing = table needs.entry.now remembers.entry.now needed in
     (s : Scopes) (holders : List ℕ) → StandsWith s handles.entry.now holders handed t → (drained : List ℕ)
     → WorksWith nowhere f o s handles.entry.now holders handed t (record { state = s; handed = handed; adds = adds }) handles.exit.now holders t drained
 
@@ -137,10 +137,10 @@ MakesNeed f o s handles holders handed needs remembers needed r = Makes f o s ha
 abbrev pub Notes : rules.Frame → ℕ → Scopes → (needs remembers : LentArray ℕ) → ℕ → Noted → Type 0
 Notes f o s needs remembers needed r = (handles holders : List ℕ) (handed : ℕ) → MakesNeed f o s handles holders handed needs remembers needed r
 
-abbrev pub NotesHandle : rules.Frame → ℕ → LentArray ℕ → ℕ → (needs remembers : LentArray ℕ) → ℕ → Noted → Type 0
+abbrev pub NotesHandle : rules.Frame → ℕ → ReadArray ℕ → ℕ → (needs remembers : LentArray ℕ) → ℕ → Noted → Type 0
 NotesHandle f o handles handed needs remembers needed r = (s : Scopes) (holders : List ℕ) → MakesNeed f o s handles.entry.now holders handed needs remembers needed r
 
 -- a step that asks a need
-abbrev pub Asks : rules.Frame → ℕ → LentArray ℕ → ℕ → Adds → Type 0
+abbrev pub Asks : rules.Frame → ℕ → ReadArray ℕ → ℕ → Adds → Type 0
 Asks f o needs needed adds =
     (s : Scopes) (remembers : List ℕ) → let t : Needing = table needs.entry.now remembers needed in (handles holders : List ℕ) (handed : ℕ) → Makes f o s handles holders handed t adds t

@@ -1,7 +1,7 @@
 -- One step of the code as a step of the rules: what it adds to the list, and where the script stands then. Assumes nothing.
 use Rattle.std.specs.Prelude.{◌≡◌, Bool, true, false, not, List, [], ◌∷◌, ℕ, ◌+◌, ◌%◌, ◌≤◌, ◌<◌, length, get_or, take}
 use Rattle.std.proofs.Math.Option.{Option, none}
-use Rattle.std.specs.Borrow.{Bor}
+use Rattle.std.specs.Borrow.{Bor, MutBor}
 use Rattle.rules.specs.Notation.{Answer, refused, ◌>>=◌, refuse◌when◌, refuse◌unless◌}
 use Rattle.rules.specs.Sizes.{base, HANDLES, SLOTS, WORD}
 use Rattle.rules.specs.Slots.{Placement}
@@ -16,7 +16,7 @@ use Rattle.scopes.specs.declared.Numbers.{Numbers}
 use Rattle.scopes.specs.declared.Reply.{Reply}
 use Rattle.scopes.specs.declared.Reply.TheVariants as reply
 use Rattle.scopes.specs.View.{view, id_of}
-use Rattle.scopes.specs.Lent.{numbers_of, made, with_slots, on_allots, on_names, Whole, LentArray, LentArrays, slot_arrays, allot_arrays, whole_in, whole_out}
+use Rattle.scopes.specs.Lent.{numbers_of, made, with_slots, on_allots, on_names, Whole, LentArray, LentArrays, ReadArray, slot_arrays, allot_arrays, whole_in, whole_out}
 use Rattle.slots.specs.declared.SlotAddress.{SlotAddress}
 use Rattle.needs.specs.Kinds.{kind_of}
 use Rattle.needs.specs.declared.AddressKind.{AddressKind}
@@ -173,7 +173,7 @@ on_cells s halves live parent bindings n = made halves s.links s.owner live s.da
 -- ---- over the lent arrays themselves, each at entry and at exit
 
 -- the arrays of a freeing, of which the numbers are read only
-abbrev pub free_arrays : (halves links owner number : LentArray ℕ) → LentArrays
+abbrev pub free_arrays : (halves links owner : LentArray ℕ) (number : ReadArray ℕ) → LentArrays
 free_arrays halves links owner number =
     record {
       entry = λ s n. on_frees s halves.entry.now links.entry.now owner.entry.now number.entry.now n;
@@ -181,10 +181,10 @@ free_arrays halves links owner number =
     }
 
 -- the state s with arrays that are read only
-abbrev pub halves_in : Scopes → LentArray ℕ → Scopes
+abbrev pub halves_in : Scopes → ReadArray ℕ → Scopes
 halves_in s halves = on_halves s halves.entry.now
 
-abbrev pub cells_in : Scopes → LentArray ℕ → LentArray Bool → (parent bindings : LentArray ℕ) → Numbers → Scopes
+abbrev pub cells_in : Scopes → ReadArray ℕ → ReadArray Bool → (parent bindings : ReadArray ℕ) → Numbers → Scopes
 cells_in s halves live parent bindings n = on_cells s halves.entry.now live.entry.now parent.entry.now bindings.entry.now n
 
 -- ---- what is asked where the state doesn't matter
@@ -206,7 +206,7 @@ abbrev pub LeadsAlone : rules.Frame → ℕ → LentArrays → Numbers → ℕ �
 LeadsAlone f o lent n handed r = (s : Scopes) (handles holders : List ℕ) → Leads f o (lent.entry s n) (lent.exit s r.numbers) handles holders handed r handles holders
 
 -- .. or it reads the handles
-abbrev pub LeadsFrom : rules.Frame → ℕ → LentArrays → Numbers → LentArray ℕ → ℕ → Stepped → Type 0
+abbrev pub LeadsFrom : rules.Frame → ℕ → LentArrays → Numbers → ReadArray ℕ → ℕ → Stepped → Type 0
 LeadsFrom f o lent n handles handed r =
     (s : Scopes) (holders : List ℕ) → Leads f o (lent.entry s n) (lent.exit s r.numbers) handles.entry.now holders handed r handles.entry.now holders
 
@@ -226,10 +226,10 @@ abbrev pub StaysAlone : rules.Frame → ℕ → Scopes → Adds → Type 0
 StaysAlone f o s adds = (handles holders : List ℕ) (handed : ℕ) → Stays f o s handles holders handed adds handles
 
 -- .. over the lent tables: it reads both, or changes the handles, or changes them whatever the state and the holders are
-abbrev pub StaysReading : rules.Frame → ℕ → Scopes → (handles holders : LentArray ℕ) → ℕ → Adds → Type 0
+abbrev pub StaysReading : rules.Frame → ℕ → Scopes → (handles holders : ReadArray ℕ) → ℕ → Adds → Type 0
 StaysReading f o s handles holders handed adds = Stays f o s handles.entry.now holders.entry.now handed adds handles.entry.now
 
-abbrev pub StaysMarking : rules.Frame → ℕ → Scopes → (handles holders : LentArray ℕ) → ℕ → Adds → Type 0
+abbrev pub StaysMarking : rules.Frame → ℕ → Scopes → (handles : LentArray ℕ) (holders : ReadArray ℕ) → ℕ → Adds → Type 0
 StaysMarking f o s handles holders handed adds = Stays f o s handles.entry.now holders.entry.now handed adds handles.exit.now
 
 abbrev pub MarksHandles : rules.Frame → ℕ → LentArray ℕ → ℕ → Adds → Type 0
@@ -264,7 +264,7 @@ abbrev pub LoadsOf : rules.Frame → ℕ → Scopes → List ℕ → List ℕ �
 LoadsOf f o s handles holders handed h = rules.step base nowhere (state_of (view s) handles holders handed) f ≡ loading o (state_of (view s) handles holders handed) h
 
 -- the step of whatever frame does that, over the lent arrays
-abbrev pub LoadsOn : (halves handles holders : LentArray ℕ) → (handed h : ℕ) → Adds → Type 0
+abbrev pub LoadsOn : (halves handles holders : ReadArray ℕ) → (handed h : ℕ) → Adds → Type 0
 LoadsOn halves handles holders handed h adds =
     (f : rules.Frame) (o : ℕ) (s : Scopes) → LoadsOf f o (halves_in s halves) handles.entry.now holders.entry.now handed h
     → StaysReading f o (halves_in s halves) handles holders handed adds
@@ -275,7 +275,7 @@ pub record AllotsOne (place : Placement) (id : scope.Id) (s : Scopes) (handles h
   pub hands : is_refused r.adds ≡ false → (handed < HANDLES) × (kind_in (get_or handles' handed 0) ≡ in_scope id)
 
 -- .. over the lent arrays
-abbrev pub AllotsInScope : Placement → scope.Id → (halves links owner : LentArray ℕ) → LentArray Bool → LentArray ℕ → Numbers → (handles holders : LentArray ℕ) → ℕ → Stepped → Type 0
+abbrev pub AllotsInScope : Placement → scope.Id → (halves links owner : LentArray ℕ) → ReadArray Bool → ReadArray ℕ → Numbers → (handles holders : LentArray ℕ) → ℕ → Stepped → Type 0
 AllotsInScope place id halves links owner live number n handles holders handed r =
     let lent : LentArrays = allot_arrays halves links owner live number in
     (s : Scopes) → Stands (lent.entry s n) handles.entry.now holders.entry.now handed
@@ -283,16 +283,16 @@ AllotsInScope place id halves links owner live number n handles holders handed r
     (record { state = lent.exit s r.numbers; handed = r.handed; adds = r.adds }) handles.exit.now holders.exit.now
 
 -- something was freed by m, which may be refused
-abbrev pub Frees : (rules.State → Answer rules.State) → Scopes → Scopes → (handles holders : LentArray ℕ) → ℕ → Stepped → Type 0
+abbrev pub Frees : (rules.State → Answer rules.State) → Scopes → Scopes → (handles : LentArray ℕ) (holders : ReadArray ℕ) → ℕ → Stepped → Type 0
 Frees m s t handles holders handed r =
     Stands s handles.entry.now holders.entry.now handed → (o : ℕ) (drained : List ℕ)
     → Comes s handles.entry.now holders.entry.now handed (freed_then o (m (state_of (view s) handles.entry.now holders.entry.now handed))) o (record { state = t; handed = r.handed; adds = r.adds }) handles.exit.now holders.entry.now drained
 
 -- .. over the lent arrays, and over those of a freeing
-abbrev pub LentFrees : (rules.State → Answer rules.State) → LentArrays → Numbers → (handles holders : LentArray ℕ) → ℕ → Stepped → Type 0
+abbrev pub LentFrees : (rules.State → Answer rules.State) → LentArrays → Numbers → (handles : LentArray ℕ) (holders : ReadArray ℕ) → ℕ → Stepped → Type 0
 LentFrees m lent n handles holders handed r = (s : Scopes) → Frees m (lent.entry s n) (lent.exit s r.numbers) handles holders handed r
 
-abbrev pub FreesBy : (rules.State → Answer rules.State) → (halves links owner number : LentArray ℕ) → Numbers → (handles holders : LentArray ℕ) → ℕ → Stepped → Type 0
+abbrev pub FreesBy : (rules.State → Answer rules.State) → (halves links owner : LentArray ℕ) (number : ReadArray ℕ) → Numbers → (handles : LentArray ℕ) (holders : ReadArray ℕ) → ℕ → Stepped → Type 0
 FreesBy m halves links owner number n handles holders handed r = LentFrees m (free_arrays halves links owner number) n handles holders handed r
 
 -- a step over lent arrays and tables: over those of the slots, of an allocation, and of a freeing, which leaves the holders
@@ -303,32 +303,32 @@ LentLeads place f o lent n handles holders handed r =
 abbrev pub LeadsSlots : Placement → rules.Frame → ℕ → (halves links owner : LentArray ℕ) → Numbers → (handles holders : LentArray ℕ) → ℕ → Stepped → Type 0
 LeadsSlots place f o halves links owner n handles holders handed r = LentLeads place f o (slot_arrays halves links owner) n handles holders handed r
 
-abbrev pub LeadsAllots : Placement → rules.Frame → ℕ → (halves links owner : LentArray ℕ) → LentArray Bool → LentArray ℕ → Numbers → (handles holders : LentArray ℕ) → ℕ → Stepped → Type 0
+abbrev pub LeadsAllots : Placement → rules.Frame → ℕ → (halves links owner : LentArray ℕ) → ReadArray Bool → ReadArray ℕ → Numbers → (handles holders : LentArray ℕ) → ℕ → Stepped → Type 0
 LeadsAllots place f o halves links owner live number n handles holders handed r = LentLeads place f o (allot_arrays halves links owner live number) n handles holders handed r
 
-abbrev pub LeadsFrees : rules.Frame → ℕ → (halves links owner number : LentArray ℕ) → Numbers → (handles holders : LentArray ℕ) → ℕ → Stepped → Type 0
+abbrev pub LeadsFrees : rules.Frame → ℕ → (halves links owner : LentArray ℕ) (number : ReadArray ℕ) → Numbers → (handles : LentArray ℕ) (holders : ReadArray ℕ) → ℕ → Stepped → Type 0
 LeadsFrees f o halves links owner number n handles holders handed r =
     let lent : LentArrays = free_arrays halves links owner number in
     (s : Scopes) → Leads f o (lent.entry s n) (lent.exit s r.numbers) handles.entry.now holders.entry.now handed r handles.exit.now holders.entry.now
 
 -- there is a state with the arrays of the slots, of an allocation, of a freeing, of names or of cells, in which a script stands
-abbrev pub StandsSlots : (halves links owner : Bor (List ℕ)) → Numbers → (handles holders : Bor (List ℕ)) → ℕ → Type 0
-StandsSlots halves links owner n handles holders handed = (s : Scopes) × Stands (with_slots s halves.now links.now owner.now n) handles.now holders.now handed
+abbrev pub StandsSlots : (halves links owner : MutBor (List ℕ)) → Numbers → (handles : MutBor (List ℕ)) (holders : List ℕ) → ℕ → Type 0
+StandsSlots halves links owner n handles holders handed = (s : Scopes) × Stands (with_slots s halves.now links.now owner.now n) handles.now holders handed
 
-abbrev pub StandsAllots : (halves links owner : Bor (List ℕ)) → Bor (List Bool) → Bor (List ℕ) → Numbers → (handles holders : Bor (List ℕ)) → ℕ → Type 0
+abbrev pub StandsAllots : (halves links owner : MutBor (List ℕ)) → Bor (List Bool) → Bor (List ℕ) → Numbers → (handles holders : MutBor (List ℕ)) → ℕ → Type 0
 StandsAllots halves links owner live number n handles holders handed =
     (s : Scopes) × Stands (on_allots s halves.now links.now owner.now live.now number.now n) handles.now holders.now handed
 
-abbrev pub StandsFrees : (halves links owner number : Bor (List ℕ)) → Numbers → (handles holders : Bor (List ℕ)) → ℕ → Type 0
+abbrev pub StandsFrees : (halves links owner : MutBor (List ℕ)) (number : Bor (List ℕ)) → Numbers → (handles : MutBor (List ℕ)) (holders : Bor (List ℕ)) → ℕ → Type 0
 StandsFrees halves links owner number n handles holders handed =
     (s : Scopes) × Stands (on_frees s halves.now links.now owner.now number.now n) handles.now holders.now handed
 
-abbrev pub StandsNames : Bor (List Bool) → (parent bindings : Bor (List ℕ)) → Numbers → Bor (List ℕ) → ℕ → Type 0
+abbrev pub StandsNames : Bor (List Bool) → (parent : Bor (List ℕ)) (bindings : MutBor (List ℕ)) → Numbers → Bor (List ℕ) → ℕ → Type 0
 StandsNames live parent bindings n handles handed = (s : Scopes) × ((holders : List ℕ) × Stands (on_names s live.now parent.now bindings.now n) handles.now holders handed)
 
-abbrev pub StandsCells : Bor (List ℕ) → Bor (List Bool) → (parent bindings : Bor (List ℕ)) → Numbers → (handles holders : Bor (List ℕ)) → ℕ → Type 0
+abbrev pub StandsCells : Bor (List ℕ) → Bor (List Bool) → (parent bindings : Bor (List ℕ)) → Numbers → (handles : List ℕ) (holders : Bor (List ℕ)) → ℕ → Type 0
 StandsCells halves live parent bindings n handles holders handed =
-    (s : Scopes) × Stands (on_cells s halves.now live.now parent.now bindings.now n) handles.now holders.now handed
+    (s : Scopes) × Stands (on_cells s halves.now live.now parent.now bindings.now n) handles holders.now handed
 
 -- the handle h was handed out, and is known as x
 abbrev pub KnownAs : List ℕ → ℕ → ℕ → Handle → Type 0

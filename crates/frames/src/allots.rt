@@ -72,7 +72,7 @@ pub fn alloc(
     handed: usize,
     place: Place,
 ) -> Stepped
-    requires { StandsSlots halves links owner n handles holders handed }
+    requires { StandsSlots halves links owner n handles holders.old handed }
     ensures { LeadsSlots (placement_of place) frame.alloc 0x06 halves links owner n handles holders handed result }
 {
     let top = n.top;
@@ -147,7 +147,7 @@ pub fn linear(
     k: u16,
     place: Place,
 ) -> Stepped
-    requires { StandsSlots halves links owner n handles holders handed }
+    requires { StandsSlots halves links owner n handles holders.old handed }
     ensures { LeadsSlots (placement_of place) (frame.linear k) 0x08 halves links owner n handles holders handed result }
 {
     let top = n.top;

@@ -107,7 +107,7 @@ pub fn read_name<'a>(
     handed: usize,
     name: u16,
 ) -> Adds
-    requires { StandsCells halves live parent bindings n handles holders handed }
+    requires { StandsCells halves live parent bindings n handles.now holders handed }
     ensures { (s : Scopes) → StaysReading (frame.read_name name) 0x12 (cells_in s halves live parent bindings n) handles holders handed result }
 {
     let reply = names::get(live, parent, bindings, n, name);

@@ -25,7 +25,7 @@ fn hand_back(
     x: Handle,
     dangles: bool,
 ) -> Stepped
-    requires { StandsSlots halves links owner n handles holders handed × KnownAs handles.old handed h.0 x }
+    requires { StandsSlots halves links owner n handles holders.now handed × KnownAs handles.old handed h.0 x }
     ensures { LentFrees (frame.hand_back dangles h.0) (slot_arrays halves links owner) n handles holders handed result }
 {
     let address = x.address;

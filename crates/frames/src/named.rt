@@ -1,7 +1,7 @@
 // 09 define, 0a get, 0b take.
 ghost use Rattle.std.specs.Prelude.{List, ℕ};
 ghost use Rattle.rules.specs.Frames as frame;
-ghost use Rattle.scopes.specs.Lent.{with_names, on_names, name_arrays, binding_arrays, Whole};
+ghost use Rattle.scopes.specs.Lent.{with_names, on_names, name_arrays, names_in, binding_arrays, Whole};
 ghost use Rattle.frames.specs.Steps.{Stands, LeadsAlone, LeadsFrom, StaysAlone};
 
 use crate::steps::{Adds, Stepped, adds_of, ended, refused};
@@ -50,7 +50,7 @@ pub fn get<'a>(
     name: u16,
 ) -> Adds
     requires { (s : Scopes) × Whole (on_names s live.now parent.now bindings.now n) }
-    ensures { (s : Scopes) → StaysAlone (frame.get name) 0x0a ((name_arrays live parent bindings).entry s n) result }
+    ensures { (s : Scopes) → StaysAlone (frame.get name) 0x0a (names_in s live parent bindings n) result }
 {
     let reply = names::get(live, parent, bindings, n, name);
     adds_of(reply)

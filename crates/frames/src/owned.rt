@@ -37,7 +37,7 @@ pub fn free_beside<'a>(
     h: HandleNumber,
     dangles: bool,
 ) -> Stepped
-    requires { StandsFreesWith halves links owner number n handles holders handed needs remembers needed }
+    requires { StandsFreesWith halves links owner number n handles holders handed needs.now remembers.now needed }
     ensures { FreesBeside (freeing dangles h.0) (free_code dangles) halves links owner number n handles holders handed needs remembers needed result }
 {
     if belongs(needs, remembers, needed, h) {
@@ -239,7 +239,7 @@ pub fn free_need(
     needed: usize,
     k: NeedNumber,
 ) -> Stepped
-    requires { StandsFreesWith halves links owner number n handles holders handed needs remembers needed }
+    requires { StandsFreesWith halves links owner number n handles holders handed needs.old remembers.old needed }
     ensures { FreesNeed (frame.drop_need k.0) 0x25 halves links owner number n handles holders handed needs remembers needed result }
 {
     let i = k.0 as usize;

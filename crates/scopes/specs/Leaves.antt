@@ -5,7 +5,7 @@ use Rattle.rules.specs.Sizes.{BINDINGS, SCOPES}
 use Rattle.rules.specs.Notation.{or_else, first, is_some}
 use Rattle.rules.specs.Scopes as rule
 use Rattle.scopes.specs.View.{index, scopes_from, binding, bindings_of}
-use Rattle.scopes.specs.Lent.{LentArray}
+use Rattle.scopes.specs.Lent.{LentArray, ReadArray}
 
 -- ---- which scope
 
@@ -81,7 +81,7 @@ abbrev pub Noted : List ℕ → ℕ → ℕ → ℕ → List ℕ → Type 0
 Noted bindings name from to places = (i : ℕ) → i < SCOPES → Earliest (binds bindings name i) from to (slice_index places i)
 
 -- where `places` had the first ones from `to` on, it has those from `from` on then
-abbrev pub NotesFrom : (places bindings : LentArray ℕ) → (from to name : ℕ) → Type 0
+abbrev pub NotesFrom : (places : LentArray ℕ) (bindings : ReadArray ℕ) → (from to name : ℕ) → Type 0
 NotesFrom places bindings from to name =
     (length places.exit.now ≡ SCOPES) × ((count : ℕ) → to ≤ count → count ≤ BINDINGS → Noted bindings.entry.now name to count places.entry.now
     → Noted bindings.entry.now name from count places.exit.now)
@@ -96,7 +96,7 @@ pub record Climbs (live : List Bool) (parent bindings : List ℕ) (count name i 
   pub spot : r < BINDINGS → (k : ℕ) × There bindings count k name r
 
 -- the same by `places`, of whatever bindings and name these are
-abbrev pub ClimbsBy : LentArray Bool → (parent places : LentArray ℕ) → (i left r : ℕ) → Type 0
+abbrev pub ClimbsBy : ReadArray Bool → (parent places : ReadArray ℕ) → (i left r : ℕ) → Type 0
 ClimbsBy live parent places i left r =
     (bindings : List ℕ) (count name : ℕ) → Placed bindings count name places.entry.now → Climbs live.entry.now parent.entry.now bindings count name i left r
 

@@ -1,6 +1,6 @@
 -- The state whose arrays are lent. Its record is made of the lists and the numbers, and is seen as one by value is. Assumes nothing.
 use Rattle.std.specs.Prelude.{◌≡◌, ℕ, ◌+◌, ◌<◌, ◌≤◌, max, Bool, true, false, List, [], length, take, slice_index, slice_index_or}
-use Rattle.std.specs.Borrow.{Bor}
+use Rattle.std.specs.Borrow.{Bor, MutBor}
 use denote.Triple.Both.{Both}
 use Rattle.rules.specs.Notation.{Answer, given, ◌>>=◌, refuse◌when◌}
 use Rattle.rules.specs.Sizes.{base, SCOPES, SEGMENTS, SLOTS}
@@ -66,7 +66,11 @@ on_names s live parent bindings n = with_names (with_scopes s live s.dangled par
 
 -- an array that is lent: as it came in, and as it is left
 abbrev pub LentArray : Type 0 → Type 0
-LentArray A = Both (Bor (List A)) (Bor (List A))
+LentArray A = Both (MutBor (List A)) (MutBor (List A))
+
+-- an array that is lent to be read only
+abbrev pub ReadArray : Type 0 → Type 0
+ReadArray A = Both (Bor (List A)) (Bor (List A))
 
 -- some arrays that are lent: the state s with them and with these numbers, as they came in, and as they are left
 abbrev pub LentArrays : Type 0
@@ -81,7 +85,7 @@ slot_arrays halves links owner =
     }
 
 -- those of an allocation in a scope, of which those that tell which scope it is are read only
-abbrev pub allot_arrays : (halves links owner : LentArray ℕ) → LentArray Bool → LentArray ℕ → LentArrays
+abbrev pub allot_arrays : (halves links owner : LentArray ℕ) → ReadArray Bool → ReadArray ℕ → LentArrays
 allot_arrays halves links owner live number =
     record {
       entry = λ s n. on_allots s halves.entry.now links.entry.now owner.entry.now live.entry.now number.entry.now n;
@@ -97,14 +101,14 @@ child_arrays live parent number =
     }
 
 -- those that dangling a scope takes, and restoring one: the marks are changed, the others read
-abbrev pub dangle_arrays : (live dangled : LentArray Bool) (parent number : LentArray ℕ) → LentArrays
+abbrev pub dangle_arrays : (live : ReadArray Bool) (dangled : LentArray Bool) (parent number : ReadArray ℕ) → LentArrays
 dangle_arrays live dangled parent number =
     record {
       entry = λ s n. with_scopes s live.entry.now dangled.entry.now parent.entry.now number.entry.now n;
       exit = λ s n. with_scopes s live.entry.now dangled.exit.now parent.entry.now number.entry.now n;
     }
 
-abbrev pub restore_arrays : (live dangled : LentArray Bool) (number : LentArray ℕ) → LentArrays
+abbrev pub restore_arrays : (live : ReadArray Bool) (dangled : LentArray Bool) (number : ReadArray ℕ) → LentArrays
 restore_arrays live dangled number =
     record {
       entry = λ s n. with_scopes s live.entry.now dangled.entry.now s.parent number.entry.now n;
@@ -112,23 +116,27 @@ restore_arrays live dangled number =
     }
 
 -- those in which a name is looked for: the bindings may be changed, the others are read
-abbrev pub name_arrays : LentArray Bool → (parent bindings : LentArray ℕ) → LentArrays
+abbrev pub name_arrays : ReadArray Bool → (parent : ReadArray ℕ) (bindings : LentArray ℕ) → LentArrays
 name_arrays live parent bindings =
     record {
       entry = λ s n. on_names s live.entry.now parent.entry.now bindings.entry.now n;
       exit = λ s n. on_names s live.entry.now parent.entry.now bindings.exit.now n;
     }
 
+-- .. and where all of them are read only: the state s with them
+abbrev pub names_in : Scopes → ReadArray Bool → (parent bindings : ReadArray ℕ) → Numbers → Scopes
+names_in s live parent bindings n = on_names s live.entry.now parent.entry.now bindings.entry.now n
+
 -- the bindings alone
 abbrev pub binding_arrays : LentArray ℕ → LentArrays
 binding_arrays bindings = record { entry = λ s n. with_names s bindings.entry.now n; exit = λ s n. with_names s bindings.exit.now n }
 
 -- the state s with those that tell a scope by its number, which are read only
-abbrev pub numbered_in : Scopes → LentArray Bool → LentArray ℕ → Scopes
+abbrev pub numbered_in : Scopes → ReadArray Bool → ReadArray ℕ → Scopes
 numbered_in s live number = on_numbered s live.entry.now number.entry.now
 
 -- all arrays of a state: as they stand, as they came in, and as they are left
-abbrev pub whole_now : (halves links owner : Bor (List ℕ)) (live dangled : Bor (List Bool)) (parent number bindings : Bor (List ℕ)) → Numbers → Scopes
+abbrev pub whole_now : (halves links owner : MutBor (List ℕ)) (live dangled : MutBor (List Bool)) (parent number bindings : MutBor (List ℕ)) → Numbers → Scopes
 whole_now halves links owner live dangled parent number bindings n = made halves.now links.now owner.now live.now dangled.now parent.now number.now bindings.now n
 
 abbrev pub whole_in : (halves links owner : LentArray ℕ) (live dangled : LentArray Bool) (parent number bindings : LentArray ℕ) → Numbers → Scopes
@@ -213,7 +221,7 @@ abbrev pub TopOwns : Scopes → ℕ → Type 0
 TopOwns s a = (a < SLOTS) × (s.top < SCOPES) × (slice_index s.owner a ≡ s.top)
 
 -- there is a whole state with these arrays in which it does
-abbrev pub TopOwnsOn : (halves links owner : Bor (List ℕ)) → Numbers → ℕ → Type 0
+abbrev pub TopOwnsOn : (halves links owner : MutBor (List ℕ)) → Numbers → ℕ → Type 0
 TopOwnsOn halves links owner n a =
     (s : Scopes) × Whole (with_slots s halves.now links.now owner.now n) × TopOwns (with_slots s halves.now links.now owner.now n) a
 

@@ -7,7 +7,7 @@ use Rattle.rules.specs.Slots.{Place, exactly_at, placing}
 use Rattle.rules.specs.Text.{line_text, list_text, Script, frames, unread, title, read_script}
 use Rattle.rules.specs.Entries.{refusal_answer, Translation}
 use Rattle.slots.specs.Spots.{place_of}
-use Rattle.scopes.specs.Lent.{LentArray}
+use Rattle.scopes.specs.Lent.{LentArray, ReadArray}
 use Rattle.text.specs.Shapes.{pick, frame}
 use Rattle.text.specs.Titles.{place_by, Titles}
 use Rattle.text.specs.Writing.{over}
@@ -133,12 +133,12 @@ pub data EndsOn (o : Outcome) (r : Ended) (page : List ℕ) : Type 0 where
   outgrown : length page < PAGE → r ≡ ended.Refused 17 0 → EndsOn o r page
 
 -- the script, with n title lines, as the guide walks it
-abbrev pub walked_by : Guide → (shown script : LentArray ℕ) → ℕ → Outcome
+abbrev pub walked_by : Guide → (shown script : ReadArray ℕ) → ℕ → Outcome
 walked_by by shown script n = walked (guide_at by shown.entry.now) n script.entry.now
 
-abbrev pub EndsWalk : Guide → (shown script page : LentArray ℕ) → ℕ → Ended → Type 0
+abbrev pub EndsWalk : Guide → (shown script : ReadArray ℕ) (page : LentArray ℕ) → ℕ → Ended → Type 0
 EndsWalk by shown script page n r = EndsOn (walked_by by shown script n) r page.exit.now
 
 -- .. by the lines that are shown, with the title lines that it has
-abbrev pub EndsShown : ℕ → (shown script page : LentArray ℕ) → Ended → Type 0
+abbrev pub EndsShown : ℕ → (shown script : ReadArray ℕ) (page : LentArray ℕ) → Ended → Type 0
 EndsShown lines shown script page r = (n : ℕ) × Titles script.entry.now n × Ends (walked_by (guide.Shown lines) shown script n) r page.exit.now

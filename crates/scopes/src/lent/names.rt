@@ -2,7 +2,7 @@
 ghost use Rattle.rules.specs.Sizes.{base};
 ghost use Rattle.rules.specs.Scopes as rule;
 ghost use Rattle.scopes.specs.View.{bound, told, told_only, replied};
-ghost use Rattle.scopes.specs.Lent.{with_names, on_names, name_arrays, binding_arrays, Whole, Replies, LentBecomes};
+ghost use Rattle.scopes.specs.Lent.{with_names, on_names, name_arrays, names_in, binding_arrays, Whole, Replies, LentBecomes};
 
 use crate::{HandleNumber, LentOutcome, Numbers, Reply, Scopes, names};
 use rules::{BINDINGS, SCOPES};
@@ -17,7 +17,7 @@ pub fn get<'a>(
     name: u16,
 ) -> Reply
     requires { (s : Scopes) × Whole (on_names s live.now parent.now bindings.now n) }
-    ensures { (s : Scopes) → Replies ((name_arrays live parent bindings).entry s n) result (λ c. replied bound (rule.get_name base name c)) }
+    ensures { (s : Scopes) → Replies (names_in s live parent bindings n) result (λ c. replied bound (rule.get_name base name c)) }
 {
     let top = n.top;
     if top == SCOPES {
