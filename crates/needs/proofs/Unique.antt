@@ -16,7 +16,7 @@ use Rattle.needs.specs.declared.AddressKind.TheVariants as kind
 use Rattle.needs.specs.declared.Address.{Address}
 use Rattle.needs.specs.declared.Run.{Run}
 use Rattle.needs.specs.declared.Need.{Need}
-use Rattle.needs.specs.declared.Need.TheVariants as goal
+use Rattle.needs.specs.declared.Need.TheVariants as need
 use Rattle.needs.specs.declared.AddressAnswer.{AddressAnswer}
 use Rattle.needs.specs.declared.AddressAnswer.TheVariants as address
 use Rattle.needs.specs.declared.RunAnswer.{RunAnswer}
@@ -64,16 +64,16 @@ pub address-one : (a b : Address) → address_of a ≡ address_of b → a ≡ b
 address-one = one address_of address_from address-back
 
 abbrev need_from : rule.Need → Need
-need_from (rule.defer i) = goal.Defer (record { index = i.index; number = i.number })
-need_from (rule.at a) = goal.Address (address_from a)
-need_from rule.ignore = goal.Ignore
-need_from rule.freed_need = goal.Freed
+need_from (rule.defer i) = need.Defer (record { index = i.index; number = i.number })
+need_from (rule.at a) = need.Address (address_from a)
+need_from rule.ignore = need.Ignore
+need_from rule.freed_need = need.Freed
 
 need-back : (d : Need) → need_from (need_of d) ≡ d
-need-back (goal.Defer i) = refl
-need-back (goal.Address a) = ap goal.Address (address-back a)
-need-back goal.Ignore = refl
-need-back goal.Freed = refl
+need-back (need.Defer i) = refl
+need-back (need.Address a) = ap need.Address (address-back a)
+need-back need.Ignore = refl
+need-back need.Freed = refl
 
 pub need-one : (a b : Need) → need_of a ≡ need_of b → a ≡ b
 need-one = one need_of need_from need-back
@@ -208,10 +208,10 @@ pub taken-one : (r q : Taken) → seen_taken r ≡ seen_taken q → r ≡ q
 taken-one r q e =
     let d : r.need ≡ q.need = need-one r.need q.need (ap (λ (x : SeenNeed rule.Address). x.need) e) in
     let a : r.answer ≡ q.answer = address-says-one r.answer q.answer (ap (λ (x : SeenNeed rule.Address). x.says) e) in
-    λ i. record { goal = d i; answer = a i }
+    λ i. record { need = d i; answer = a i }
 
 pub assigned-one : (r q : Assignment) → seen_assigned r ≡ seen_assigned q → r ≡ q
 assigned-one r q e =
     let d : r.need ≡ q.need = need-one r.need q.need (ap (λ (x : rule.Assignment). x.need) e) in
     let c : r.copy ≡ q.copy = copy-says-one r.copy q.copy (ap (λ (x : rule.Assignment). x.copy_to) e) in
-    λ i. record { goal = d i; copy = c i }
+    λ i. record { need = d i; copy = c i }

@@ -8,8 +8,7 @@ use Rattle.needs.specs.Kinds.{kind_of}
 use Rattle.needs.specs.Inner.{kind_for}
 use Rattle.needs.specs.declared.AddressKind.TheVariants.{Local, Dangling}
 use Rattle.needs.proofs.Runs.{kind-for}
-use Rattle.needs.proofs.linear.run_kind.Statement.{statement}
-use Rattle.needs.proofs.linear.run_kind.Tie as tie
+use Rattle.needs.proofs.linear.run_kind.Goals as goal
 
 -- what is tested tells the kind, and the kind is the rule's
 both : (n : ℕ) (b : Bool) → eqb n 1 ≡ b → (elim b [ true ↦ Local | false ↦ Dangling ] ≡ kind_for n) × (kind_of (elim b [ true ↦ Local | false ↦ Dangling ]) ≡ need.run_kind n)
@@ -17,11 +16,8 @@ both n b e =
     let k : elim b [ true ↦ Local | false ↦ Dangling ] ≡ kind_for n = sym (ap (λ (x : Bool). elim x [ true ↦ Local | false ↦ Dangling ]) e) in
     (k, ap kind_of k ∙ kind-for n)
 
-returns : tie.Need-returns
-returns c = both _ true (eq-eqb _ 1 c.if1.true)
+pub returns-then-n-eq1 : goal.returns-then-n-eq1
+returns-then-n-eq1 c = both _ true (eq-eqb _ 1 c.if-n-eq1.true)
 
-returns-2 : tie.Need-returns-2
-returns-2 c = both _ false (ne_eqb _ 1 c.if1.false)
-
-pub run-kind-spec : {M : Type 1} → statement M
-run-kind-spec = tie.close (tie.spec returns returns-2)
+pub returns-else-n-eq1 : goal.returns-else-n-eq1
+returns-else-n-eq1 c = both _ false (ne_eqb _ 1 c.if-n-eq1.false)

@@ -1,0 +1,21 @@
+use mathlib.Core.Path.{sym, ap}
+use Rattle.rules.specs.Needs as rule
+use Rattle.needs.specs.Kinds.{need_of}
+use Rattle.needs.specs.declared.Need.{Need}
+use Rattle.needs.proofs.any.addr.Goals as goal
+
+pub returns-in-Address : goal.returns-in-Address
+unfolding rule.addr_of
+returns-in-Address c = sym (ap (λ (d : Need). rule.addr_of (need_of d)) c.in-Address.is)
+
+pub returns-in-Defer : goal.returns-in-Defer
+unfolding rule.addr_of
+returns-in-Defer c = sym (ap (λ (d : Need). rule.addr_of (need_of d)) c.in-Defer.is)
+
+pub returns-in-Ignore : goal.returns-in-Ignore
+unfolding rule.addr_of
+returns-in-Ignore c = sym (ap (λ (d : Need). rule.addr_of (need_of d)) c.in-Ignore.is)
+
+pub returns-in-Freed : goal.returns-in-Freed
+unfolding rule.addr_of
+returns-in-Freed c = sym (ap (λ (d : Need). rule.addr_of (need_of d)) c.in-Freed.is)
