@@ -1,0 +1,25 @@
+-- `belongs` meets its contract. Assumes nothing.
+use native.Mathlib.Omega.{arith}
+use mathlib.Core.Path.{sym, ◌∙◌}
+use borrow.Author.Rules.{rules}
+use Rattle.handles.proofs.NeedTables.{belongs-all, belongs-here, belongs-next, belongs-none, belongs-nobody}
+use Prim.Native.Nat.{◌-◌}
+use Rattle.handles.proofs.remembered.belongs.Goals as goal
+
+pub returns-then-not-is_remembered : goal.returns-then-not-is_remembered
+returns-then-not-is_remembered c = sym (belongs-nobody c.args.needs.now c.args.remembers.now c.args.needed c.args.h.0 (λ j l e. c.is_remembered.ensures c.if-not-is_remembered.true j (omega (arith, l, c.requires.2)) e))
+
+pub loop-i-init : goal.loop-i-init
+loop-i-init c = (omega arith, belongs-all c.args.needs.now c.args.remembers.now c.args.needed c.args.h.0)
+
+pub is_its-requires : goal.is_its-requires
+is_its-requires c = tt
+
+pub returns-then-is_its : goal.returns-then-is_its
+returns-then-is_its c = sym (belongs-here c.args.needs.now c.args.remembers.now c.args.needed c.args.h.0 c.loop-i.i (search rules) c.loop-i.invariant (sym c.is_its.ensures ∙ c.if-is_its.true))
+
+pub loop-i-preserved : goal.loop-i-preserved
+loop-i-preserved c = belongs-next c.args.needs.now c.args.remembers.now c.args.needed c.args.h.0 c.loop-i.i (search rules) c.loop-i.invariant (sym c.is_its.ensures ∙ c.if-is_its.false)
+
+pub returns : goal.returns
+returns c = sym (belongs-none c.args.needs.now c.args.remembers.now c.args.needed c.args.h.0 c.loop-i.i (search rules) c.loop-i.invariant)
