@@ -1,7 +1,7 @@
 -- What a run with a recording answers and leaves, over the entries of a list: a refusal after the other, and then the work. The promise of
 -- `run_recorded` is over the rules' own `recorded_entry`. Assumes nothing.
 use Rattle.std.specs.Prelude.{◌≡◌, Bool, true, List, ◌++◌, ℕ, ◌+◌, ◌*◌, ◌/◌, ◌-◌, length, take, drop, eqb, ltb}
-use Rattle.std.specs.Borrow.{Bor}
+use Rattle.std.specs.Borrow.{MutBor}
 use denote.Triple.Both.{Both}
 use Rattle.rules.specs.Sizes.{Room}
 use Rattle.rules.specs.Entries.{refusal_answer, bytes4, over_front, RecordedRunning}
@@ -25,7 +25,7 @@ pub record LeavesAll (l : RecordedRunning) (answer : ℕ) (cells out left : List
   pub left-left : left ≡ l.left
 
 abbrev LentBytes : Type 0
-LentBytes = Both (Bor (List ℕ)) (Bor (List ℕ))
+LentBytes = Both (MutBor (List ℕ)) (MutBor (List ℕ))
 
 -- f says what is left of the lent cells, output and number left over, as they came in
 abbrev pub LeftBy : (List ℕ → List ℕ → List ℕ → RecordedRunning) → ℕ → (cells out left : LentBytes) → Type 0

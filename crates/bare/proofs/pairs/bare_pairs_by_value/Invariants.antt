@@ -1,0 +1,11 @@
+use Rattle.std.proofs.Common.{◌≡◌, ◌-◌}
+use Rattle.slots.specs.Promises.{view}
+use Rattle.bare.specs.Bare.{summed, pairs_sum}
+use Rattle.bare.proofs.Runs.{Sound}
+use Rattle.bare.proofs.pairs.bare_pairs_by_value.Given as goal
+
+abbrev pub invariant-loop-i : goal.invariant-loop-i
+invariant-loop-i l = Sound (view l.s) × (summed l.stride (l.n - l.i) l.a (view l.s) l.sum ≡ pairs_sum l.stride l.n)
+
+abbrev pub decreases-loop-i : goal.decreases-loop-i
+decreases-loop-i l = l.n - l.i
