@@ -3,6 +3,7 @@
 
 ghost use Rattle.std.specs.Prelude.{◌≡◌, ◌≤◌, length};
 
+use std::io;
 use text::refusal::REFUSAL;
 use text::writing::{put_malformed, put_refusal};
 
@@ -39,23 +40,24 @@ pub fn put_lines(buf: &mut [u8], w: usize, line: &[u8], n: usize) -> usize
 }
 
 // LF is shown as /.
-fn show_char(b: u8) {
+fn show_char(rt: &HostRuntime, b: u8) -> io::Result<()> {
     if b == 10 {
-        io::write_all(1, b"/");
+        rt.write_all(b"/")
     } else {
-        io::write_all(1, &[b]);
+        rt.write_all(&[b])
     }
 }
 
 // The bytes of text before `to`, from `from` on.
-pub fn show(text: &[u8], from: usize, to: usize)
+pub fn show(rt: &HostRuntime, text: &[u8], from: usize, to: usize) -> io::Result<()>
     requires { to ≤ length text.now }
 {
     let mut i = from;
     while i < to {
-        show_char(text[i]);
+        show_char(rt, text[i])?;
         i += 1;
     }
+    Ok(())
 }
 
 // Where the last bytes of n begin.
@@ -67,27 +69,25 @@ fn back(n: usize, last: usize) -> usize {
 }
 
 // The `ee` line; that of 24 has eight digits for the recording's line.
-fn say_refusal(number: u8, line: u32) {
+fn say_refusal(rt: &HostRuntime, number: u8, line: u32) -> io::Result<()> {
     if number == 24 {
         let mut long = [0u8; 13];
         put_malformed(&mut long, 0, line);
-        show(&long, 0, 13);
-        return;
+        return show(rt, &long, 0, 13);
     }
     let mut short = [0u8; 9];
     put_refusal(&mut short, 0, number, (line % 65536) as u16);
-    show(&short, 0, 9);
+    show(rt, &short, 0, 9)
 }
 
 // What was answered: the last of r bytes of text, `-` where there are none; or the `ee` line.
-pub fn say(r: u64, text: &[u8], last: usize) {
+pub fn say(rt: &HostRuntime, r: u64, text: &[u8], last: usize) -> io::Result<()> {
     if r < REFUSAL {
-        let n = io::count(r as isize, text);
+        let n = (r as usize).min(text.len());
         if n == 0 {
-            io::write_all(1, b"-");
+            rt.write_all(b"-")?;
         }
-        show(text, back(n, last), n);
-        return;
+        return show(rt, text, back(n, last), n);
     }
-    say_refusal((r / REFUSAL % 256) as u8, (r % REFUSAL) as u32);
+    say_refusal(rt, (r / REFUSAL % 256) as u8, (r % REFUSAL) as u32)
 }
