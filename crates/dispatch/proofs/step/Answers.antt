@@ -14,10 +14,10 @@ need_step-requires c = (((made c.args.halves.now c.args.links.now c.args.owner.n
 
 pub returns-then-op-ge32 : goal.returns-then-op-ge32
 returns-then-op-ge32 c = record {
-      steps_on = λ g q. c.need_step.ensures g q (made c.args.halves.now c.args.links.now c.args.owner.now c.args.live.now c.args.dangled.now c.args.parent.now c.args.number.now c.args.bindings.now c.args.n) c.requires.0 _;
-      drained_len = c.requires.1;
-      refused_keeps = λ _. refl;
-    }
+  steps_on = λ g q. c.need_step.ensures g q (made c.args.halves.now c.args.links.now c.args.owner.now c.args.live.now c.args.dangled.now c.args.parent.now c.args.number.now c.args.bindings.now c.args.n) c.requires.0 _;
+  drained_len = c.requires.1;
+  refused_keeps = λ _. refl;
+}
 
 pub is_freeing-requires : goal.is_freeing-requires
 is_freeing-requires c = tt
@@ -36,9 +36,9 @@ returns-then-is_freeing c =
 
 pub plain_step-r-requires : goal.plain_step-r-requires
 plain_step-r-requires c = record {
-      stands = c.requires.0.stands;
-      drained_len = (c.requires.1, plain_by c.args.f.opcode (λ p. clash (c.is_freeing.ensures.shows p) c.if-is_freeing.false) (omega (arith, c.if-op-ge32.false)));
-    }
+  stands = c.requires.0.stands;
+  drained_len = (c.requires.1, plain_by c.args.f.opcode (λ p. clash (c.is_freeing.ensures.shows p) c.if-is_freeing.false) (omega (arith, c.if-op-ge32.false)));
+}
 
 pub returns : goal.returns
 returns c =

@@ -12,6 +12,6 @@ loop-i-preserved c = (omega arith, hands_more _ _ _ _ _ _ _ _ c.loop-i.invariant
 
 pub returns : goal.returns
 returns c = record {
-      hands_out = hands-all c.loop-i.i c.args.n (omega arith) (omega arith) c.loop-i.invariant.1;
-      handles_len = (c.loop-i.invariant.2, c.loop-i.invariant.3);
-    }
+  hands_out = hands-all c.loop-i.i c.args.n (omega arith) (omega arith) c.loop-i.invariant.1;
+  handles_len = (c.loop-i.invariant.2, c.loop-i.invariant.3);
+}

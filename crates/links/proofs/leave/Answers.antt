@@ -15,12 +15,12 @@ unlink-requires c =
 
 pub returns-then-t-a : goal.returns-then-t-a
 returns-then-t-a c = record {
-      by_index_2 = λ xs h. c.unlink.ensures.by_index_2 xs h (must-be SLOTS LISTS _ _ xs h (omega arith) c.args.a c.requires.a_bound.0 c.if-t-a.true);
-      t_len = c.unlink.ensures.t_len;
-    }
+  by_index_2 = λ xs h. c.unlink.ensures.by_index_2 xs h (must-be SLOTS LISTS _ _ xs h (omega arith) c.args.a c.requires.a_bound.0 c.if-t-a.true);
+  t_len = c.unlink.ensures.t_len;
+}
 
 pub returns-else-t-a : goal.returns-else-t-a
 returns-else-t-a c = record {
-      by_index_2 = λ xs h. stays SLOTS LISTS _ _ xs c.args.a (must-not SLOTS LISTS _ _ xs h (omega arith) c.args.a c.requires.a_bound.0 c.if-t-a.false) h;
-      t_len = c.requires.a_bound.1;
-    }
+  by_index_2 = λ xs h. stays SLOTS LISTS _ _ xs c.args.a (must-not SLOTS LISTS _ _ xs h (omega arith) c.args.a c.requires.a_bound.0 c.if-t-a.false) h;
+  t_len = c.requires.a_bound.1;
+}

@@ -15,6 +15,6 @@ append-requires c =
 
 pub returns : goal.returns
 returns c = record {
-      by_index_2 = λ xs h. c.append.ensures.by_index_2 (leaves c.args.a xs) (c.leave.ensures.by_index_2 xs h) (off-left LISTS c.args.a xs);
-      t_len = c.append.ensures.t_len;
-    }
+  by_index_2 = λ xs h. c.append.ensures.by_index_2 (leaves c.args.a xs) (c.leave.ensures.by_index_2 xs h) (off-left LISTS c.args.a xs);
+  t_len = c.append.ensures.t_len;
+}

@@ -23,30 +23,30 @@ scope_step-requires c = (c.requires.stands.whole, c.if-op-lt6.true)
 
 pub returns-then-op-lt6 : goal.returns-then-op-lt6
 returns-then-op-lt6 c = record {
-      plain_on = λ g q. works-any c.args.f g (inl c.if-op-lt6.true, λ e. omega arith) q (c.scope_step.ensures g q _ _ c.requires.stands _);
-      drained_len_2 = c.requires.drained_len.0;
-      refused_keeps = λ _. refl;
-    }
+  plain_on = λ g q. works-any c.args.f g (inl c.if-op-lt6.true, λ e. omega arith) q (c.scope_step.ensures g q _ _ c.requires.stands _);
+  drained_len_2 = c.requires.drained_len.0;
+  refused_keeps = λ _. refl;
+}
 
 pub allot_step-requires : goal.allot_step-requires
 allot_step-requires c = (((made c.args.halves.now c.args.links.now c.args.owner.now c.args.live.now c.args.dangled.now c.args.parent.now c.args.number.now c.args.bindings.now c.args.n), c.requires.stands), omega (arith, c.if-op-lt6.false), c.if-op-lt9.true)
 
 pub returns-then-op-lt9 : goal.returns-then-op-lt9
 returns-then-op-lt9 c = record {
-      plain_on = λ g q. c.allot_step.ensures g q (made c.args.halves.now c.args.links.now c.args.owner.now c.args.live.now c.args.dangled.now c.args.parent.now c.args.number.now c.args.bindings.now c.args.n) c.requires.stands _;
-      drained_len_2 = c.requires.drained_len.0;
-      refused_keeps = λ _. refl;
-    }
+  plain_on = λ g q. c.allot_step.ensures g q (made c.args.halves.now c.args.links.now c.args.owner.now c.args.live.now c.args.dangled.now c.args.parent.now c.args.number.now c.args.bindings.now c.args.n) c.requires.stands _;
+  drained_len_2 = c.requires.drained_len.0;
+  refused_keeps = λ _. refl;
+}
 
 pub name_step-requires : goal.name_step-requires
 name_step-requires c = (((made c.args.halves.now c.args.links.now c.args.owner.now c.args.live.now c.args.dangled.now c.args.parent.now c.args.number.now c.args.bindings.now c.args.n), (_, c.requires.stands)), omega (arith, c.if-op-lt9.false), c.if-op-lt12.true)
 
 pub returns-then-op-lt12 : goal.returns-then-op-lt12
 returns-then-op-lt12 c = record {
-      plain_on = λ g q. works-any c.args.f g (inr (omega (arith, c.if-op-lt9.false)), λ e. omega (arith, c.if-op-lt12.true)) q (c.name_step.ensures g q (made c.args.halves.now c.args.links.now c.args.owner.now c.args.live.now c.args.dangled.now c.args.parent.now c.args.number.now c.args.bindings.now c.args.n) _ c.requires.stands _);
-      drained_len_2 = c.requires.drained_len.0;
-      refused_keeps = λ _. refl;
-    }
+  plain_on = λ g q. works-any c.args.f g (inr (omega (arith, c.if-op-lt9.false)), λ e. omega (arith, c.if-op-lt12.true)) q (c.name_step.ensures g q (made c.args.halves.now c.args.links.now c.args.owner.now c.args.live.now c.args.dangled.now c.args.parent.now c.args.number.now c.args.bindings.now c.args.n) _ c.requires.stands _);
+  drained_len_2 = c.requires.drained_len.0;
+  refused_keeps = λ _. refl;
+}
 
 pub drain-count-requires : goal.drain-count-requires
 drain-count-requires c = ((made c.args.halves.now c.args.links.now c.args.owner.now c.args.live.now c.args.dangled.now c.args.parent.now c.args.number.now c.args.bindings.now c.args.n), c.requires.stands.whole, c.requires.drained_len.0)
@@ -66,7 +66,7 @@ cell_step-adds-requires c = (((made c.args.halves.now c.args.links.now c.args.ow
 
 pub returns : goal.returns
 returns c = record {
-      plain_on = λ g q. works-any c.args.f g (inr (omega (arith, past c.args.f.opcode c.requires.drained_len.1 c.if-op-lt12.false)), λ e. omega (arith, c.requires.drained_len.1.1)) q (c.cell_step-adds.ensures g q (made c.args.halves.now c.args.links.now c.args.owner.now c.args.live.now c.args.dangled.now c.args.parent.now c.args.number.now c.args.bindings.now c.args.n) c.requires.stands _);
-      drained_len_2 = c.requires.drained_len.0;
-      refused_keeps = λ _. refl;
-    }
+  plain_on = λ g q. works-any c.args.f g (inr (omega (arith, past c.args.f.opcode c.requires.drained_len.1 c.if-op-lt12.false)), λ e. omega (arith, c.requires.drained_len.1.1)) q (c.cell_step-adds.ensures g q (made c.args.halves.now c.args.links.now c.args.owner.now c.args.live.now c.args.dangled.now c.args.parent.now c.args.number.now c.args.bindings.now c.args.n) c.requires.stands _);
+  drained_len_2 = c.requires.drained_len.0;
+  refused_keeps = λ _. refl;
+}

@@ -23,9 +23,9 @@ need_in-d-requires c = tt
 
 pub first-requires : goal.first-requires
 first-requires c = record {
-      stands_allots_with = c.requires;
-      k_lt_needed = (c.if-needed-i.false, sym c.need_in-d.ensures ∙ ap need_of c.in-Defer.is);
-    }
+  stands_allots_with = c.requires;
+  k_lt_needed = (c.if-needed-i.false, sym c.need_in-d.ensures ∙ ap need_of c.in-Defer.is);
+}
 
 pub refused-requires-in-Freed : goal.refused-requires-in-Freed
 refused-requires-in-Freed c = tt

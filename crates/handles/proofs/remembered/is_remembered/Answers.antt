@@ -14,8 +14,7 @@ loop-k-init c = (search rules, λ e j a b. absurd (omega (arith, a)))
 
 pub loop-k-preserved : goal.loop-k-preserved
 loop-k-preserved c =
-    let l = c.loop-k in
-    (
+    let l = c.loop-k in (
       search rules,
       elim c.if-remembers-k.branch [
         | then-remembers-k w ↦ λ e j a b. clash w.hit-is e

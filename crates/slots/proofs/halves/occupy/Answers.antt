@@ -5,6 +5,6 @@ use Rattle.slots.proofs.halves.occupy.Goals as goal
 
 pub returns : goal.returns
 returns c = record {
-      halves_after = occ-set c.args.halves.now c.args.a c.set_bit.result true (search rules) c.set_bit.ensures;
-      halves_len = search rules;
-    }
+  halves_after = occ-set c.args.halves.now c.args.a c.set_bit.result true (search rules) c.set_bit.ensures;
+  halves_len = search rules;
+}

@@ -5,6 +5,6 @@ use Rattle.slots.proofs.halves.vacate.Goals as goal
 
 pub returns : goal.returns
 returns c = record {
-      halves_after = occ-set c.args.halves.now c.args.a c.clear_bit.result false (search rules) c.clear_bit.ensures;
-      halves_len = search rules;
-    }
+  halves_after = occ-set c.args.halves.now c.args.a c.clear_bit.result false (search rules) c.clear_bit.ensures;
+  halves_len = search rules;
+}

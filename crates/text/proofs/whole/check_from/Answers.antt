@@ -26,10 +26,10 @@ loop-p-smaller c = omega (arith, c.frame_at-t.ensures, c.loop-p-test.true)
 pub loop-p-preserved : goal.loop-p-preserved
 unfolding base
 loop-p-preserved c = (
-      c.loop-p.invariant.0 ∙ script-on base c.args.s.now _ _ _ c.frame_at-t.ensures c.if-i-eq-LINES.false _ c.in-One.is,
-      c.frame_at-t.ensures.within,
-      omega (arith, c.loop-p.invariant.2, c.if-i-eq-LINES.false),
-    )
+  c.loop-p.invariant.0 ∙ script-on base c.args.s.now _ _ _ c.frame_at-t.ensures c.if-i-eq-LINES.false _ c.in-One.is,
+  c.frame_at-t.ensures.within,
+  omega (arith, c.loop-p.invariant.2, c.if-i-eq-LINES.false),
+)
 
 pub returns : goal.returns
 returns c = sym (c.loop-p.invariant.0 ∙ script-end base c.args.s.now _ _ c.loop-p-test.false)

@@ -25,8 +25,7 @@ overflow_mul-p c = omega (arith, c.title_lines-titles.ensures.most)
 
 pub loop-p-init : goal.loop-p-init
 loop-p-init c =
-    let t = c.title_lines-titles.ensures in
-    (
+    let t = c.title_lines-titles.ensures in (
       list-start base c.args.s.now _ t,
       t.within,
       omega (arith, t.most),
@@ -86,6 +85,6 @@ loop-p-preserved c =
 
 pub returns : goal.returns
 returns c = record {
-      value = sym (c.loop-p.invariant.0 ∙ list-end base c.args.s.now _ _ c.loop-p-test.false);
-      tabled = tabled-unread c.args.s.now _ _ _ _ refl;
-    }
+  value = sym (c.loop-p.invariant.0 ∙ list-end base c.args.s.now _ _ c.loop-p-test.false);
+  tabled = tabled-unread c.args.s.now _ _ _ _ refl;
+}

@@ -9,6 +9,6 @@ bounds-out-w1 c = simp length-set (omega arith)
 
 pub returns : goal.returns
 returns c = record {
-      value = omega arith;
-      out_after = writing.byte_put c.args.out.now c.args.w c.args.n _ _ c.requires c.digit_of.ensures c.digit_of-2.ensures;
-    }
+  value = omega arith;
+  out_after = writing.byte_put c.args.out.now c.args.w c.args.n _ _ c.requires c.digit_of.ensures c.digit_of-2.ensures;
+}

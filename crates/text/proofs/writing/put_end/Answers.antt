@@ -5,6 +5,6 @@ use Rattle.text.proofs.writing.put_end.Goals as goal
 
 pub returns : goal.returns
 returns c = record {
-      value = refl;
-      out_after = writing.end-put c.args.out.now c.args.w c.requires;
-    }
+  value = refl;
+  out_after = writing.end-put c.args.out.now c.args.w c.requires;
+}

@@ -6,15 +6,15 @@ use Rattle.text.proofs.writing.put_line.Goals as goal
 
 pub returns-then-n-eq0 : goal.returns-then-n-eq0
 returns-then-n-eq0 c = record {
-      value = omega (arith, c.put_end.ensures.value, c.put_byte-w1.ensures.value, c.if-n-eq0.true);
-      out_after = writing.line-none c.args.out.now c.args.w c.args.opcode c.args.n c.args.a c.args.b (omega (arith, c.requires)) _ _ c.put_byte-w1.ensures.value c.put_byte-w1.ensures.out_after _ c.if-n-eq0.true c.put_end.ensures.out_after;
-    }
+  value = omega (arith, c.put_end.ensures.value, c.put_byte-w1.ensures.value, c.if-n-eq0.true);
+  out_after = writing.line-none c.args.out.now c.args.w c.args.opcode c.args.n c.args.a c.args.b (omega (arith, c.requires)) _ _ c.put_byte-w1.ensures.value c.put_byte-w1.ensures.out_after _ c.if-n-eq0.true c.put_end.ensures.out_after;
+}
 
 pub returns-then-n-eq1 : goal.returns-then-n-eq1
 returns-then-n-eq1 c = record {
-      value = omega (arith, c.put_end-then-n-eq1.ensures.value, c.put_word-w2.ensures.value, c.put_byte-w1.ensures.value, c.if-n-eq1.true);
-      out_after = writing.line-one c.args.out.now c.args.w c.args.opcode c.args.n c.args.a c.args.b (omega (arith, c.requires)) _ _ c.put_byte-w1.ensures.value c.put_byte-w1.ensures.out_after _ _ c.put_word-w2.ensures.value c.put_word-w2.ensures.out_after _ c.if-n-eq1.true c.put_end-then-n-eq1.ensures.out_after;
-    }
+  value = omega (arith, c.put_end-then-n-eq1.ensures.value, c.put_word-w2.ensures.value, c.put_byte-w1.ensures.value, c.if-n-eq1.true);
+  out_after = writing.line-one c.args.out.now c.args.w c.args.opcode c.args.n c.args.a c.args.b (omega (arith, c.requires)) _ _ c.put_byte-w1.ensures.value c.put_byte-w1.ensures.out_after _ _ c.put_word-w2.ensures.value c.put_word-w2.ensures.out_after _ c.if-n-eq1.true c.put_end-then-n-eq1.ensures.out_after;
+}
 
 pub returns : goal.returns
 returns c =

@@ -15,6 +15,6 @@ bounds-out-w3 c = simp length-set (omega arith)
 
 pub returns : goal.returns
 returns c = record {
-      value = omega arith;
-      out_after = writing.word-put c.args.out.now c.args.w c.args.n _ _ _ _ (omega arith) c.requires c.digit_of.ensures c.digit_of-2.ensures c.digit_of-3.ensures c.digit_of-4.ensures;
-    }
+  value = omega arith;
+  out_after = writing.word-put c.args.out.now c.args.w c.args.n _ _ _ _ (omega arith) c.requires c.digit_of.ensures c.digit_of-2.ensures c.digit_of-3.ensures c.digit_of-4.ensures;
+}

@@ -7,7 +7,7 @@ use Rattle.scopes.proofs.Runs.{Running}
 use Rattle.scopes.proofs.lent.place.take_run.Given as goal
 
 abbrev pub invariant-loop-b : goal.invariant-loop-b
-invariant-loop-b l = 
+invariant-loop-b l =
     (s : Scopes) → Whole (with_slots s l.initial.halves l.initial.links l.initial.owner (numbers_of s)) → Lives s l.k → Vacant (occ l.initial.halves) l.a l.many
     → Running (roomy (with_slots s l.initial.halves l.initial.links l.initial.owner (numbers_of s)) (max s.size (l.a + l.many))) l.k l.a l.many (roomy (with_slots s l.halves l.links l.owner (numbers_of s)) (max s.size (l.a + l.many))) l.b
 
