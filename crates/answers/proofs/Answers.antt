@@ -41,10 +41,10 @@ module _ (text out : List ℕ) (answer : ℕ) (out' : List ℕ) where
 translation-says : (o : Outcome) → translation.Comes o → (out : List ℕ) → TEXT ≤ length out → (r : ℕ) (out' : List ℕ) → translate.LeavesList (list_left o out) r out'
     → Says (outcome_text o) out r out'
 unfolding list_left outcome_text if◌then◌else◌
-translation-says _ (translation.to-stop n i a b c) out h r out' l = refusal n i l.answered a (omega arith) c refl l.list-left
+translation-says _ (translation.to-stop n i a b c) out h r out' l = refusal n i l.answered a (omega arith) c refl l.list_left
 translation-says _ (translation.to-list {ls = ls} {size = size} a) out h r out' l =
     let e = le-leb (length (list_text ls size)) (length out) (omega arith) in
-    written (rw (e, if◌then◌else◌) at l.answered) (omega arith) (rw (e, if◌then◌else◌) at l.list-left)
+    written (rw (e, if◌then◌else◌) at l.answered) (omega arith) (rw (e, if◌then◌else◌) at l.list_left)
 
 module _ (script : List ℕ) where
   pub script-longer : TEXT < length script → ee_text 17 0 ≡ translator_prints base script
