@@ -16,6 +16,18 @@ slice_bounds-agrees-count c = let w = in_row _ _ _ c.loop-p.invariant c.loop-p-t
 pub slice_bounds-agrees-count-in-Record : goal.slice_bounds-agrees-count-in-Record
 slice_bounds-agrees-count-in-Record c = let w = in_row _ _ _ c.loop-p.invariant c.loop-p-test.true _ c.record_at.ensures _ _ _ c.in-Record.is in omega (arith, w.2)
 
+pub slice_bounds-agrees-start : goal.slice_bounds-agrees-start
+slice_bounds-agrees-start c = let w = in_row _ _ _ c.loop-p.invariant c.loop-p-test.true _ c.record_at.ensures _ _ _ c.in-Record.is in omega (arith, w.1)
+
+pub slice_bounds-agrees-end : goal.slice_bounds-agrees-end
+slice_bounds-agrees-end c = let w = in_row _ _ _ c.loop-p.invariant c.loop-p-test.true _ c.record_at.ensures _ _ _ c.in-Record.is in omega (arith, w.2, w.3)
+
+pub slice_bounds-agrees-start-in-Record : goal.slice_bounds-agrees-start-in-Record
+slice_bounds-agrees-start-in-Record c = let w = in_row _ _ _ c.loop-p.invariant c.loop-p-test.true _ c.record_at.ensures _ _ _ c.in-Record.is in omega (arith, w.2)
+
+pub slice_bounds-agrees-end-in-Record : goal.slice_bounds-agrees-end-in-Record
+slice_bounds-agrees-end-in-Record c = let w = in_row _ _ _ c.loop-p.invariant c.loop-p-test.true _ c.record_at.ensures _ _ _ c.in-Record.is in omega (arith, w.3)
+
 pub counted-t-requires : goal.counted-t-requires
 counted-t-requires c = (c.loop-p.invariant.fewer, omega (arith, c.loop-p.invariant.few, c.loop-p.invariant.within, c.loop-p-test.true))
 
