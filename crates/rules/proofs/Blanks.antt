@@ -1,17 +1,17 @@
 -- The scopes without what depends on where allocations go: `blank` has no slots, no owned addresses, and no addresses in its bindings.
 -- Calls that place nothing do to it what they do to the scopes. Assumes nothing.
-use mathlib.Core.Path.{◌≡◌, refl, sym, ap, subst, ◌∙◌, fun_ext}
+use mathlib.Core.Path.{◌≡◌, refl, sym, ap, ◌∙◌, fun_ext}
 use mathlib.Core.Bool.{Bool, true, false, not, ◌&&◌}
 use mathlib.Core.Option.{Option, none, some}
 use mathlib.Core.List.{List, [], ◌∷◌, map}
 use Prim.Native.Nat.{ℕ, zero, suc, ◌-◌}
 use lib.Dec.{eqb, leb}
 use lib.ListN.{length, length-map}
-use Rattle.rules.specs.Notation.{Answer, given, refused, ◌>>=◌, is_some, ◌▹◌, put, first}
+use Rattle.rules.specs.Notation.{Answer, given, ◌>>=◌, is_some, ◌▹◌, put, first}
 use Rattle.rules.specs.Sizes.{Room}
 use Rattle.rules.specs.Slots.{fresh_slots, remove_all}
 use Rattle.rules.specs.AddressSets.{added_all}
-use Rattle.rules.specs.Scopes.{Id, Scope, Binding, Scopes, live≔, top≔, counter≔, bindings≔, dangled≔, owned≔, moved≔, new_scope, Found, found, top_scope, has_number, by_number, child_of, has_child, set_scope, after_counter, open_child, unbound, closed, poppable, last_poppable, dangle_scope, restore_scope, is_for, bound_in, rebound, bind_in, lookup, get_name, take_name}
+use Rattle.rules.specs.Scopes.{Scope, Binding, Scopes, live≔, top≔, counter≔, bindings≔, dangled≔, owned≔, moved≔, new_scope, Found, found, top_scope, has_number, by_number, child_of, has_child, set_scope, after_counter, open_child, unbound, closed, poppable, last_poppable, dangle_scope, restore_scope, is_for, bound_in, rebound, bind_in, lookup, get_name, take_name}
 use Rattle.rules.proofs.Chains.{All, all-given, all_then, all-when, all-unless, none-some, unless-some, when_false}
 use Rattle.rules.proofs.Naming.{found_at}
 use Rattle.rules.proofs.Tables.{put_same, put_other, put-ext}

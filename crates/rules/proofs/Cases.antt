@@ -11,7 +11,7 @@ use Rattle.rules.specs.Slots.{fresh_slots}
 use Rattle.rules.specs.AddressSets.{member, repeats_nothing}
 use Rattle.rules.specs.Scopes.{Scope, Binding, Scopes, slots≔, live≔, top≔, bindings≔, dangling≔, size≔, fresh_scopes, bound_in}
 use Rattle.rules.specs.Needs.{assigned, freed, scope as in_scope, Need, defer, at, ignore}
-use Rattle.rules.specs.Frames.{Handle, kind≔, Remembered, no_need, State, needs≔, needed≔}
+use Rattle.rules.specs.Frames.{Handle, Remembered, no_need, State, needs≔, needed≔}
 use Rattle.rules.specs.Sound.{sum_below, times, sound_slots, sound_top, leads, sound_parents, on_lists, sound_owners, sound_dangling, binds_once, sound_bindings, sound_size, sound, holders, sound_handles, agreeing, sound_needs, sound_state}
 
 unfoldable pub small : Room

@@ -13,7 +13,7 @@ use lib.Seq.{get_or-set_same, get_or-set_other}
 use Rattle.rules.specs.Notation.{◌▹◌, put}
 use Rattle.rules.specs.Needs.{Kind}
 use Rattle.rules.specs.Frames.{Handle, kind≔, written≔, grant, Source, Line, stores, loads, shows}
-use Rattle.rules.specs.Meaning.{Deed, nothing, fill, show, worth, later, filled, unused, shown, obey, high, takes, list_takes}
+use Rattle.rules.specs.Meaning.{Deed, nothing, fill, show, worth, filled, unused, shown, obey, high, takes, list_takes}
 use Rattle.rules.proofs.Tables.{by_eqb, put_same, put_other, put-alike, grant-cases}
 
 -- what it looks at

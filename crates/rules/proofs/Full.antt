@@ -1,19 +1,18 @@
 -- W-211: "In edition 2, an alloc past 3 and 16 is refused by 7 exactly if every slot is held." Assumes nothing.
-use mathlib.Core.Path.{◌≡◌, refl, sym, ap, subst, ◌∙◌}
+use mathlib.Core.Path.{◌≡◌, refl, ap, subst, ◌∙◌}
 use mathlib.Core.Bool.{Bool, true, false, not}
 use mathlib.Core.Option.{Option, none, some}
 use Prim.Native.Nat.{ℕ, ◌+◌, ◌*◌, ◌<◌}
 use native.Mathlib.Omega.{arith}
 use lib.Dec.{ltb}
 use borrow.Author.Tests.{le-ltb, not-false}
-use Rattle.rules.specs.Notation.{Answer, given, refused, ◌>>=◌, refuse◌when◌, refuse◌unless◌}
+use Rattle.rules.specs.Notation.{given, refused, ◌>>=◌, refuse◌when◌, refuse◌unless◌}
 use Rattle.rules.specs.Sizes.{Room}
-use Rattle.rules.specs.Slots.{Slots, placed, take_at, lowest_of_all, insert_lowest, edition2}
+use Rattle.rules.specs.Slots.{Slots, lowest_of_all, insert_lowest, edition2}
 use Rattle.rules.specs.Scopes.{Found, top_scope, allocate}
 use Rattle.rules.specs.Needs.{local}
 use Rattle.rules.specs.Frames.{alloc, State, allot, step}
-use Rattle.rules.specs.Sound.{sound_state}
-use Rattle.rules.specs.Editions.{EverySlotHeld, PastThreeAndSixteen, SevenIfFull, SevenExactlyIfFull}
+use Rattle.rules.specs.Editions.{EverySlotHeld, SevenIfFull, SevenExactlyIfFull}
 use Rattle.rules.proofs.Chains.{unless-some, unless-none, when_false, refused-on}
 use Rattle.rules.proofs.Searches.{first-none, first-is-none}
 use Rattle.rules.proofs.Sound.{StateSound}

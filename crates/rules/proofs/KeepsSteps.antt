@@ -11,11 +11,11 @@ use Rattle.rules.specs.Sizes.{Room}
 use Rattle.rules.specs.Slots.{Placement, remove}
 use Rattle.rules.specs.Scopes.{Id, Binding, Scopes, moved≔, Found, by_number, has_child, closed, bind_in, take_name, drain_dangling}
 use Rattle.rules.specs.Needs.{Kind, local, dangling, assigned, freed, scope, is_freed, allocated_kind, Address, Need, defer, at, ignore, freed_need}
-use Rattle.rules.specs.Frames.{Frame, child, pop, dangle, restore, pop_last, alloc, alloc_in, linear, define, get, take_from, free, free_quietly, forget, drain, write, read, read_name, new_defer, new_assigned, new_ignore, alloc_need, output_need, drop_need, Handle, kind≔, held≔, Remembered, no_need, is_scope_kind, owns, State, scopes≔, handles≔, handed≔, needs≔, needed≔, set_handle, unknown, spent, barred, belongs, let_go, grant, allot, close, hand_back, free_as, free_handle, set_need, add_need, lost, allot_need, free_own, step}
+use Rattle.rules.specs.Frames.{Frame, child, pop, dangle, restore, pop_last, alloc, alloc_in, linear, define, get, take_from, free, free_quietly, forget, drain, write, read, read_name, new_defer, new_assigned, new_ignore, alloc_need, output_need, drop_need, Handle, kind≔, held≔, Remembered, no_need, is_scope_kind, owns, State, scopes≔, handles≔, handed≔, set_handle, unknown, spent, barred, let_go, grant, allot, close, hand_back, free_as, free_handle, set_need, add_need, allot_need, free_own, step}
 use Rattle.rules.specs.Demand3.{Fair}
 use Rattle.rules.proofs.Chains.{All, all-given, all_then, all-when, all-unless, all-if}
 use Rattle.rules.proofs.Tables.{put-alike}
-use Rattle.rules.proofs.Sound.{Every, SlotsSound, Sound, Agrees, NeedAgrees, NeedsSound, StateSound}
+use Rattle.rules.proofs.Sound.{Every, SlotsSound, Sound, Agrees, NeedAgrees, StateSound}
 use Rattle.rules.proofs.Tells.{clash, neither}
 use Rattle.rules.proofs.Naming.{Here, top-here, id-here, number-here}
 use Rattle.rules.proofs.Names.{every-as, bound-is, rebound-every, unbound-every}

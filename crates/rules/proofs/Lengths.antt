@@ -1,21 +1,20 @@
 -- No accepted script's list is longer than 11 bytes a frame, 4 for each handle, and 7. The one line that may be long is a drain's, and
 -- each slot that is drained was allocated since it was last drained. Assumes nothing.
-use mathlib.Core.Path.{◌≡◌, refl, sym, ap, subst, ◌∙◌}
+use mathlib.Core.Path.{◌≡◌, refl, sym, ap, subst}
 use mathlib.Core.Bool.{Bool, true, false, true≢false}
 use mathlib.Core.Logic.{by_cases}
-use mathlib.Core.List.{List, [], ◌∷◌, ◌++◌}
-use Prim.Native.Nat.{ℕ, zero, suc, ◌+◌, ◌*◌, ◌-◌, ◌≤◌, ◌<◌}
+use mathlib.Core.List.{List, [], ◌∷◌}
+use Prim.Native.Nat.{ℕ, zero, suc, ◌+◌, ◌*◌, ◌≤◌, ◌<◌}
 use native.Mathlib.Omega.{arith}
 use native.Mathlib.Decide.{dec_lt}
-use lib.Dec.{eqb}
 use lib.ListN.{length, length-append}
 use Rattle.rules.specs.Notation.{put}
 use Rattle.rules.specs.AddressSets.{member, added, without, added_all, without_all, run}
-use Rattle.rules.specs.Frames.{Line, stores, loads, shows}
+use Rattle.rules.specs.Frames.{Line}
 use Rattle.rules.specs.Sound.{sum_below}
-use Rattle.rules.specs.Text.{hex2, hex4, hexes, opcode_of, operands_of, line_text, list_text}
+use Rattle.rules.specs.Text.{hex2, hex4, hexes, operands_of, line_text}
 use Rattle.rules.proofs.Tables.{by_eqb, put_same, put_other}
-use Rattle.rules.proofs.Sets.{member-cons, member-same, without-same, without-skip}
+use Rattle.rules.proofs.Sets.{member-cons, without-same, without-skip}
 
 -- ---- address sets
 

@@ -10,7 +10,7 @@ use Rattle.rules.specs.Sizes.{Room}
 use Rattle.rules.specs.Slots.{Placement}
 use Rattle.rules.specs.AddressSets.{member, run}
 use Rattle.rules.specs.Scopes.{Scope, Scopes, Found, set_scope, allocate, closed, dangle_scope, restore_scope, bind_in, take_name}
-use Rattle.rules.specs.Needs.{scope, address, give_back}
+use Rattle.rules.specs.Needs.{give_back}
 use Rattle.rules.specs.Sound.{owned_by}
 use Rattle.rules.proofs.Chains.{All, all-given, all_then, all-when, all-unless, none-some}
 use Rattle.rules.proofs.Tables.{put_same, put-cases}

@@ -1,23 +1,23 @@
 -- No accepted script's list is longer than 11 bytes a frame, 4 for each handle, and 7: what is drained was allocated since it was last
 -- drained. Assumes nothing.
-use mathlib.Core.Path.{◌≡◌, refl, sym, ap, subst, ◌∙◌}
-use mathlib.Core.Bool.{Bool, true, false, not}
+use mathlib.Core.Path.{◌≡◌, refl, ap, subst}
+use mathlib.Core.Bool.{Bool, true, false}
 use mathlib.Core.Option.{Option, none, some}
 use mathlib.Core.List.{List, [], ◌∷◌, ◌++◌}
-use Prim.Native.Nat.{ℕ, zero, suc, ◌+◌, ◌*◌, ◌≤◌, ◌<◌}
+use Prim.Native.Nat.{ℕ, zero, suc, ◌+◌, ◌*◌, ◌≤◌}
 use native.Mathlib.Omega.{arith}
 use borrow.Author.Tests.{not-false}
 use lib.ListN.{length, length-append}
-use Rattle.rules.specs.Notation.{Answer, given, refused, ◌▹◌, put}
+use Rattle.rules.specs.Notation.{given, refused, ◌▹◌, put}
 use Rattle.rules.specs.Sizes.{Room}
 use Rattle.rules.specs.Slots.{Placement}
-use Rattle.rules.specs.AddressSets.{member, without, added, added_all, without_all, run}
-use Rattle.rules.specs.Scopes.{Scope, Scopes, top≔, dangling≔, owned≔, new_scope, Found, found, has_number, top_scope, by_number, set_scope, open_child, allocate, closed, poppable, last_poppable, dangle_scope, restore_scope, bind_in, get_name, take_name, drain_dangling}
+use Rattle.rules.specs.AddressSets.{without, added, added_all, run}
+use Rattle.rules.specs.Scopes.{Scope, Scopes, top≔, dangling≔, owned≔, new_scope, Found, top_scope, by_number, set_scope, open_child, allocate, closed, poppable, last_poppable, dangle_scope, restore_scope, bind_in, take_name, drain_dangling}
 use Rattle.rules.specs.Needs.{Kind, give_back, Need, defer, at, ignore, freed_need}
-use Rattle.rules.specs.Frames.{State, scopes≔, Frame, child, pop, dangle, restore, pop_last, alloc, alloc_in, linear, define, get, take_from, free, free_quietly, forget, drain, constant, next_sample, write, read, read_name, new_defer, new_assigned, new_ignore, alloc_need, output_need, drop_need, Line, stores, loads, shows, set_handle, allot, close, hand_back, free_as, free_handle, Remembered, no_need, needs≔, needed≔, set_need, add_need, allot_need, slot_shown, free_own, step, Step, before, onward, Outcome, accepted, refused_at, steps}
+use Rattle.rules.specs.Frames.{State, scopes≔, Frame, child, pop, dangle, restore, pop_last, alloc, alloc_in, linear, define, get, take_from, free, free_quietly, forget, drain, constant, next_sample, write, read, read_name, new_defer, new_assigned, new_ignore, alloc_need, output_need, drop_need, Line, shows, set_handle, allot, close, hand_back, free_as, free_handle, Remembered, no_need, needs≔, needed≔, set_need, add_need, allot_need, slot_shown, free_own, step, Step, before, onward, Outcome, accepted, refused_at, steps}
 use Rattle.rules.specs.Sound.{sum_below, owned_by}
 use Rattle.rules.specs.Text.{operands_of, line_text, list_text}
-use Rattle.rules.proofs.Chains.{All, all-given, all_then, all-when, all-unless, all-if, none-some}
+use Rattle.rules.proofs.Chains.{All, all-given, all_then, all-when, all-unless, all-if}
 use Rattle.rules.proofs.Naming.{Here, found_here, top-here, id-here, number-here}
 use Rattle.rules.proofs.Sound.{StateSound}
 use Rattle.rules.proofs.Lengths.{added_all-length, without_all-length, without-shorter, run_length, sum-put, sum-grows, line-length}

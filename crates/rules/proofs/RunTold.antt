@@ -11,12 +11,11 @@ use lib.ListN.{length, get_or, take, drop, replicate, length-append, length-take
 use lib.Seq.{get_or-take}
 use borrow.Author.Tests.{le-ltb}
 use Rattle.rules.specs.Frames.{Line}
-use Rattle.rules.specs.Meaning.{Ran, obey, high, list_takes, lacking}
+use Rattle.rules.specs.Meaning.{Ran, high, list_takes, lacking}
 use Rattle.rules.specs.Text.{Listed, listed, unlisted}
 use Rattle.rules.specs.Recordings.{Recording, recorded, malformed, recording, Reader, ended}
-use Rattle.rules.specs.Entries.{RunOutcome, ran, stopped, run_sampled, run_listed, cells_of}
+use Rattle.rules.specs.Entries.{ran, stopped, run_sampled, run_listed, cells_of}
 use Rattle.rules.specs.Cuts.{Told}
-use Rattle.rules.proofs.Chains.{none-some}
 use Rattle.rules.proofs.Taking.{Alike, obey-alike, taken-by}
 
 get_d_front : (xs ys : List ℕ) (j : ℕ) → j < length xs → get_or (xs ++ ys) j 0 ≡ get_or xs j 0

@@ -1,21 +1,21 @@
 -- What a frame does to names, and what it does to boxes, doesn't depend on where allocations go: a step that is given does to the blank
 -- scopes what `said` does, which places nothing. Assumes nothing.
-use mathlib.Core.Path.{◌≡◌, refl, sym, ap, subst, ◌∙◌, fun_ext}
+use mathlib.Core.Path.{◌≡◌, refl, sym, ap, ◌∙◌, fun_ext}
 use mathlib.Core.Bool.{Bool, true, false}
-use mathlib.Core.Option.{Option, none, some}
-use mathlib.Core.List.{List, []}
+use mathlib.Core.Option.{Option, some}
+use mathlib.Core.List.{List}
 use Prim.Native.Nat.{ℕ, zero, suc}
-use Rattle.rules.specs.Notation.{Answer, given, refused, ◌>>=◌, refuse◌unless◌, ◌▹◌, put}
+use Rattle.rules.specs.Notation.{Answer, given, ◌>>=◌, refuse◌unless◌, ◌▹◌, put}
 use Rattle.rules.specs.Sizes.{Room}
 use Rattle.rules.specs.Slots.{Placement}
-use Rattle.rules.specs.Scopes.{Binding, Scope, Scopes, slots≔, live≔, owned≔, Found, top_scope, by_number, set_scope, open_child, allocate, closed, poppable, last_poppable, dangle_scope, restore_scope, bind_in, get_name, take_name, drain_dangling}
-use Rattle.rules.specs.Needs.{Kind, give_back, Need, defer, at, ignore, freed_need, output_of}
+use Rattle.rules.specs.Scopes.{Scope, Scopes, live≔, owned≔, Found, top_scope, by_number, set_scope, open_child, allocate, closed, poppable, last_poppable, dangle_scope, restore_scope, bind_in, take_name, drain_dangling}
+use Rattle.rules.specs.Needs.{Kind, give_back, Need, defer, at, ignore, freed_need}
 use Rattle.rules.specs.Frames.{Frame, child, pop, dangle, restore, pop_last, alloc, alloc_in, linear, define, get, take_from, free, free_quietly, forget, drain, write, read, read_name, new_defer, new_assigned, new_ignore, alloc_need, output_need, drop_need, Remembered, State, scopes≔, start, set_handle, allot, close, hand_back, free_as, free_handle, set_need, add_need, allot_need, free_own, Line, step}
 use Rattle.rules.specs.Meaning.{show_bound, deed}
-use Rattle.rules.proofs.Chains.{All, all-given, all_then, all-when, all-unless, all-if, none-some, unless-some}
+use Rattle.rules.proofs.Chains.{All, all-given, all_then, all-when, all-unless, all-if, unless-some}
 use Rattle.rules.proofs.Tables.{put-alike}
 use Rattle.rules.proofs.Naming.{top-at, id-here}
-use Rattle.rules.proofs.Blanks.{then-given, blank_scope, blank_live, blank_found, blank_binding, blank, top-blank, by-number-at, child-blank, pop-blank, last-blank, dangle-blank, restore-blank, closed-blank, bind-blank, get-blank, take-blank}
+use Rattle.rules.proofs.Blanks.{then-given, blank_live, blank, top-blank, by-number-at, child-blank, pop-blank, last-blank, dangle-blank, restore-blank, closed-blank, bind-blank, get-blank, take-blank}
 
 -- what a frame does to the scopes' names
 unfoldable pub said : Room → Scopes → Frame → Answer Scopes

@@ -1,5 +1,5 @@
 -- Sessions A to K, and those of document 02, by computation. Assumes nothing.
-use mathlib.Core.Path.{◌≡◌, refl}
+use mathlib.Core.Path.{refl}
 use Rattle.rules.specs.Notation.{◌>>=◌, refuse◌when◌, refuse◌unless◌, if◌then◌else◌, put, first, past_last, all_below}
 use Rattle.rules.specs.Sizes.{base}
 use Rattle.rules.specs.Slots.{fresh_slots, clear_in, first_with_clear, insert_into, insert_new, insert, past_greatest, push_at, pushes, push_run, removes, remove, remove_all, edition1, lowest_of_all, take_at, insert_lowest, edition2, vacant, take_run, exactly, placing}

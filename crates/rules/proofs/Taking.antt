@@ -8,7 +8,7 @@ use Rattle.rules.specs.Frames.{constant, next_sample, Line, stores, loads, shows
 use lib.ListN.{get_or, set, drop}
 use lib.Seq.{get_or-drop}
 use Rattle.rules.proofs.Chains.{none-some}
-use Rattle.rules.specs.Meaning.{Ran, loading, obey, list_takes, lacking}
+use Rattle.rules.specs.Meaning.{loading, obey, list_takes, lacking}
 
 pub enough : (ls : List Line) (i n : ℕ) → list_takes ls ≤ n → lacking i n ls ≡ none
 unfolding list_takes lacking

@@ -1,14 +1,14 @@
 -- Demand 3: "Any accepted script, translated and run on a zeroed frame of exactly the reported size, prints what the script means ..;
 -- no load or store falls outside the frame", stated for every placement. Assumes nothing.
-use Rattle.std.specs.Prelude.{◌≡◌, Bool, true, false, List, [], ◌∷◌, ℕ, zero, suc, ◌+◌, ◌*◌, ◌-◌, ◌≤◌, ◌<◌, length, drop}
+use Rattle.std.specs.Prelude.{◌≡◌, true, false, List, [], ℕ, ◌+◌, ◌*◌, ◌-◌, ◌≤◌, ◌<◌, length, drop}
 use Rattle.std.proofs.Math.Option.{Option, none, some}
 use Rattle.rules.specs.Sizes.{Room}
 use Rattle.rules.specs.Slots.{Slots, Placed, Placement, placing, fresh_slots, remove}
-use Rattle.rules.specs.Frames.{State, start, Frame, Line, accepted, steps}
-use Rattle.rules.specs.Meaning.{Ran, obey, high, meaning, list_takes, frames_take, lacking}
+use Rattle.rules.specs.Frames.{start, Frame, Line, accepted, steps}
+use Rattle.rules.specs.Meaning.{obey, high, meaning, list_takes, frames_take, lacking}
 use Rattle.rules.specs.Text.{frames, unread, read_script, list_text, listed, read_list}
 use Rattle.rules.specs.Recordings.{Recording, recorded}
-use Rattle.rules.specs.Entries.{translated, RunOutcome, ran, stopped, recorded_on}
+use Rattle.rules.specs.Entries.{translated, ran, stopped, recorded_on}
 
 -- ---- fair placements
 

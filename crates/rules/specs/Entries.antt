@@ -1,14 +1,14 @@
 -- Document 01, "Script frames" and "Numbers given back", and W-205 and W-211 of document 02: what translate, run, read_recording and run_recorded
 -- answer and what they leave in lent memory, for all bytes; and what the two programs print. Assumes nothing.
-use Rattle.std.specs.Prelude.{Bool, true, false, ◌&&◌, ◌||◌, List, [], ◌∷◌, ◌++◌, ℕ, zero, suc, ◌+◌, ◌*◌, ◌/◌, ◌%◌, ◌-◌, length, replicate, drop, eqb, leb, ltb}
-use Rattle.std.proofs.Math.Option.{Option, none, some}
+use Rattle.std.specs.Prelude.{true, false, ◌&&◌, ◌||◌, List, [], ◌∷◌, ◌++◌, ℕ, ◌+◌, ◌*◌, ◌/◌, ◌%◌, ◌-◌, length, replicate, drop, eqb, leb, ltb}
+use Rattle.std.proofs.Math.Option.{none, some}
 use Rattle.rules.specs.Notation.{if◌then◌else◌}
 use Rattle.rules.specs.Sizes.{Room}
 use Rattle.rules.specs.Slots.{Place, placing}
 use Rattle.rules.specs.Frames.{Line, start, Outcome, accepted, refused_at, before, steps}
 use Rattle.rules.specs.Meaning.{Ran, obey, high, list_takes, lacking}
 use Rattle.rules.specs.Text.{hex2, hex4, Script, frames, unread, title, read_script, list_text, Listed, listed, unlisted, read_list}
-use Rattle.rules.specs.Recordings.{Recording, recorded, malformed, Reader, reader_of, state_of, is_state, fed, kept, ended}
+use Rattle.rules.specs.Recordings.{Recording, recorded, malformed, reader_of, state_of, is_state, fed, kept, ended}
 
 -- ---- translate: "Text: the first line with 1 or 2, before any step", then the steps
 

@@ -7,7 +7,7 @@ use Rattle.rules.specs.Notation.{Answer, given, refused, ◌>>=◌, refuse◌whe
 use Rattle.rules.specs.Sizes.{Room}
 use Rattle.rules.specs.Slots.{Placement}
 use Rattle.rules.specs.AddressSets.{member}
-use Rattle.rules.specs.Scopes.{Binding, Scopes, fresh_scopes, Found, id_of, top_scope, by_id, by_number, open_child, allocate, closed, poppable, last_poppable, dangle_scope, restore_scope, bind_in, get_name, take_name, drain_dangling}
+use Rattle.rules.specs.Scopes.{Scopes, fresh_scopes, Found, id_of, top_scope, by_id, by_number, open_child, allocate, closed, poppable, last_poppable, dangle_scope, restore_scope, bind_in, get_name, take_name, drain_dangling}
 use Rattle.rules.specs.Needs.{Kind, local, dangling, assigned, freed, scope, run_kind, allocated_kind, is_freed, goes_back, give_back, Need, defer, at, ignore, freed_need, Output, keep, discard, output_of}
 
 -- ---- frames

@@ -1,5 +1,5 @@
 -- What a script means, and what the frame machine does with a list. Assumes nothing.
-use Rattle.std.specs.Prelude.{Bool, true, false, List, [], ◌∷◌, ℕ, zero, suc, ◌+◌, get_or, set, drop, ltb}
+use Rattle.std.specs.Prelude.{true, false, List, [], ◌∷◌, ℕ, zero, suc, ◌+◌, get_or, set, drop, ltb}
 use Rattle.std.proofs.Math.Option.{Option, none, some}
 use Rattle.rules.specs.Notation.{Answer, given, refused, put}
 use Rattle.rules.specs.Sizes.{Room}

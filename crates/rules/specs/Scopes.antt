@@ -1,11 +1,11 @@
 -- Document 01, "Scopes". Refusals stand in the order of "Order"; those that only a script gives (13 to 16) are in Frames.
 -- Assumes nothing.
-use Rattle.std.specs.Prelude.{Bool, true, false, not, ◌&&◌, ◌||◌, List, [], ◌∷◌, ◌++◌, ℕ, zero, suc, ◌+◌, ◌-◌, ◌%◌, max, length, eqb, ltb, leb}
+use Rattle.std.specs.Prelude.{Bool, true, false, not, ◌&&◌, ◌||◌, List, [], ◌∷◌, ℕ, zero, suc, ◌+◌, ◌-◌, ◌%◌, max, length, eqb, ltb, leb}
 use Rattle.std.proofs.Math.Option.{Option, none, some}
-use Rattle.rules.specs.Notation.{Answer, given, refused, ◌>>=◌, refuse◌when◌, refuse◌unless◌, is_some, ◌▹◌, put, first}
+use Rattle.rules.specs.Notation.{Answer, given, ◌>>=◌, refuse◌when◌, refuse◌unless◌, is_some, ◌▹◌, put, first}
 use Rattle.rules.specs.Sizes.{Room, COUNTERS}
-use Rattle.rules.specs.Slots.{Slots, fresh_slots, Placed, Placement, remove, remove_all}
-use Rattle.rules.specs.AddressSets.{member, added, without, added_all, without_all, run}
+use Rattle.rules.specs.Slots.{Slots, fresh_slots, Placement, remove_all}
+use Rattle.rules.specs.AddressSets.{added_all, without_all, run}
 
 -- ---- the state
 

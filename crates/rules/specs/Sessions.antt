@@ -4,7 +4,6 @@ use Rattle.std.specs.Prelude.{◌≡◌, List, [], ◌∷◌, ◌++◌, map, ℕ
 use Rattle.std.proofs.Math.Option.{Option, none, some}
 use Prim.Native.Char.{code}
 use Prim.Native.String.{String}
-use Prim.Native.String
 use Rattle.rules.specs.Sizes.{Room, base}
 use Rattle.rules.specs.Slots.{Slots, Place, by_head, lowest, exactly_at, placing}
 use Rattle.rules.specs.Frames.{Outcome, accepted, refused_at}

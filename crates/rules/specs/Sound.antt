@@ -8,7 +8,7 @@ use Rattle.rules.specs.Slots.{Slots}
 use Rattle.rules.specs.AddressSets.{repeats_nothing}
 use Rattle.rules.specs.Scopes.{Scope, Binding, Scopes, bound_in}
 use Rattle.rules.specs.Needs.{Need, defer, at, ignore, freed_need}
-use Rattle.rules.specs.Frames.{Handle, owns, State}
+use Rattle.rules.specs.Frames.{owns, State}
 
 -- ---- counting
 
