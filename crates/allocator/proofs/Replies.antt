@@ -1,6 +1,6 @@
 -- What the operations of `scopes` reply, in 01's values; and a reply is known by what it says. Assumes nothing.
 use mathlib.Core.Path.{◌≡◌, refl, sym, ap, ◌∙◌}
-use mathlib.Core.Bool.{Bool, true, false, not}
+use mathlib.Core.Bool.{Bool, false, not}
 use mathlib.Core.Option.{none, some}
 use borrow.Author.Tests.{not-false}
 use Rattle.rules.specs.Notation.{Answer, given, refused}
@@ -14,7 +14,7 @@ use Rattle.scopes.specs.declared.Reply.{Reply}
 use Rattle.scopes.specs.declared.Reply.TheVariants as reply
 use Rattle.soundness.specs.Canonical.{Good}
 use Rattle.allocations.specs.Outcomes.{SeenState}
-use Rattle.allocator.specs.Replies.{Value, done, slot, scope, binding, reply_says, bound_to, seen_reply, told_value, told_done, valued}
+use Rattle.allocator.specs.Replies.{Value, done, slot, scope, binding, reply_says, bound_to, told_value, told_done, valued}
 use Rattle.allocator.specs.Entries.{Call, Asked, taken}
 
 -- ---- from a promise of `scopes` to one in 01's values

@@ -1,18 +1,18 @@
 -- What `run_recorded` left, as it is printed. Assumes nothing.
 use mathlib.Core.Path.{◌≡◌, refl, sym, ap, subst, ◌∙◌}
-use mathlib.Core.Bool.{Bool, true, false, ◌&&◌}
+use mathlib.Core.Bool.{Bool, true, false}
 use mathlib.Core.List.{List, [], ◌∷◌, ◌++◌}
 use Prim.Native.Nat.{ℕ, ◌+◌, ◌*◌, ◌/◌, ◌%◌, ◌≤◌, ◌<◌}
 use native.Mathlib.Omega.{arith}
-use lib.Dec.{eqb, leb}
-use lib.ListN.{length, get_or, take, drop, replicate, length-append, drop_of_length-le}
+use lib.Dec.{eqb}
+use lib.ListN.{length, drop, replicate, length-append, drop_of_length-le}
 use borrow.Author.Tests.{le-leb, lt-ltb, le-ltb, ne_eqb}
 use Rattle.rules.specs.Notation.{if◌then◌else◌}
 use Rattle.rules.specs.Sizes.{base, SLOTS, TEXT, LINES}
 use Rattle.rules.specs.Frames.{shows}
 use Rattle.rules.specs.Text.{hex2, hex4, hexes, line_text}
-use Rattle.rules.specs.Recordings.{Recording, malformed, reader_of, is_state, ended}
-use Rattle.rules.specs.Entries.{RunOutcome, ran, stopped, recorded_on, loads_text, cells_of, refusal_answer, over_front, ee_text, malformed_text, left_text, bytes4, RecordedRunning, recorded_left, recorded_entry, recorded_text, unless_longer, recorded_prints, REFUSAL}
+use Rattle.rules.specs.Recordings.{Recording, reader_of, is_state, ended}
+use Rattle.rules.specs.Entries.{RunOutcome, recorded_on, loads_text, cells_of, refusal_answer, over_front, ee_text, malformed_text, left_text, bytes4, recorded_left, recorded_entry, recorded_text, unless_longer, recorded_prints, REFUSAL}
 use Rattle.text.specs.Writing.{over}
 use Rattle.text.proofs.Over.{over-over}
 use Rattle.machine.specs.Recorded.{LeavesAll}

@@ -1,12 +1,12 @@
 -- What is printed, by its promise. Assumes nothing.
 use mathlib.Core.Path.{◌≡◌, sym, ap, subst, ◌∙◌}
-use mathlib.Core.List.{List, ◌++◌}
+use mathlib.Core.List.{List}
 use Prim.Native.Nat.{ℕ, ◌+◌, ◌≤◌}
 use native.Mathlib.Omega.{arith}
 use lib.ListN.{length, take, drop, length-append}
 use lib.Seq.{take_at, length-take-le}
 use Rattle.rules.specs.Text.{hex2, hex4}
-use Rattle.rules.specs.Entries.{ee_text, over_front}
+use Rattle.rules.specs.Entries.{ee_text}
 use Rattle.text.specs.Writing.{over}
 use Rattle.answers.specs.Prints.{Prints}
 

@@ -1,7 +1,7 @@
 -- What is printed for the state and the samples that some bytes leave is what is printed for the recording that they are. Assumes nothing.
-use mathlib.Core.Path.{◌≡◌, refl, sym, ap, ◌∙◌}
+use mathlib.Core.Path.{◌≡◌, ap}
 use mathlib.Core.List.{List, [], ◌∷◌}
-use Prim.Native.Nat.{ℕ, ◌*◌, zero, suc, ◌+◌, ◌≤◌}
+use Prim.Native.Nat.{ℕ, ◌*◌, ◌≤◌}
 use native.Mathlib.Omega.{arith}
 use lib.ListN.{length, replicate}
 use Rattle.rules.specs.Notation.{if◌then◌else◌}
@@ -9,8 +9,7 @@ use Rattle.rules.specs.Sizes.{base, LINES}
 use Rattle.rules.specs.Frames.{constant, next_sample, Line, stores, loads, shows}
 use Rattle.rules.specs.Meaning.{list_takes}
 use Rattle.rules.specs.Text.{Listed, listed, unlisted, read_list}
-use Rattle.rules.specs.Entries.{RunOutcome, run_listed, recorded_on, cells_of, read_entry, unless_longer, recorded_text, recorded_prints}
-use Rattle.rules.specs.Cuts.{PartsTell}
+use Rattle.rules.specs.Entries.{RunOutcome, recorded_on, read_entry, unless_longer, recorded_text, recorded_prints}
 use Rattle.rules.proofs.SampleCells.{cells-length}
 use Rattle.rules.proofs.PartsTell.{parts-tell}
 use Rattle.rules.proofs.RunTold.{runs-as-told}

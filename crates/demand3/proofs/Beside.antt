@@ -1,10 +1,10 @@
 -- Demand 3 with a recording: whatever the parts, run_recorded prints the meaning with the recording's samples. Assumes nothing.
-use mathlib.Core.Path.{◌≡◌, refl, sym, ap, subst, ◌∙◌}
-use mathlib.Core.Bool.{Bool, true, false, ◌&&◌}
-use mathlib.Core.List.{List, [], ◌∷◌, ◌++◌, append_assoc, append-nil}
-use Prim.Native.Nat.{ℕ, ◌*◌, ◌/◌, ◌-◌, ◌≤◌}
+use mathlib.Core.Path.{◌≡◌, sym, ap, ◌∙◌}
+use mathlib.Core.Bool.{Bool, true, false}
+use mathlib.Core.List.{List, [], ◌++◌, append_assoc, append-nil}
+use Prim.Native.Nat.{ℕ, ◌*◌, ◌-◌, ◌≤◌}
 use native.Mathlib.Omega.{arith}
-use lib.Dec.{eqb, leb}
+use lib.Dec.{eqb}
 use lib.ListN.{length, drop}
 use borrow.Author.Tests.{le-leb}
 use Rattle.rules.specs.Notation.{if◌then◌else◌}
@@ -12,9 +12,8 @@ use Rattle.rules.specs.Sizes.{base}
 use Rattle.rules.specs.Frames.{Line}
 use Rattle.rules.specs.Meaning.{Ran, list_takes}
 use Rattle.rules.specs.Text.{list_text, listed, read_list}
-use Rattle.rules.specs.Recordings.{Recording, recorded, malformed, recording, Reader, reader_of, is_state, ended}
-use Rattle.rules.specs.Entries.{over_front, loads_text, cells_of, odd_byte, bytes_of, RunOutcome, ran, run_listed, recorded_on, read_entry, RecordedRunning, recorded_left, recorded_entry, bytes4}
-use Rattle.rules.specs.Cuts.{Told, PartsTell}
+use Rattle.rules.specs.Recordings.{Recording, recorded, malformed, recording, Reader, reader_of, ended}
+use Rattle.rules.specs.Entries.{over_front, loads_text, cells_of, odd_byte, bytes_of, RunOutcome, ran, recorded_on, read_entry, RecordedRunning, recorded_left, recorded_entry, bytes4}
 use Rattle.rules.proofs.Bytes.{Held}
 use Rattle.rules.proofs.PartsTell.{parts-tell}
 use Rattle.rules.proofs.RunTold.{runs-as-told}

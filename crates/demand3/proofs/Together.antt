@@ -6,15 +6,14 @@ use mathlib.Core.List.{List, [], ◌++◌}
 use Prim.Native.Nat.{ℕ, ◌*◌, ◌/◌, ◌-◌, ◌≤◌, ◌<◌}
 use native.Mathlib.Omega.{arith}
 use lib.Dec.{leb}
-use lib.ListN.{length, take, drop, replicate}
+use lib.ListN.{length, take}
 use borrow.Author.Tests.{le-leb, lt-leb, leb-true, leb-false}
 use Rattle.rules.specs.Notation.{if◌then◌else◌}
 use Rattle.rules.specs.Sizes.{base, PAGE, LINES}
 use Rattle.rules.specs.Frames.{Line, Outcome, accepted}
-use Rattle.rules.specs.Meaning.{Ran, obey, list_takes, lacking}
+use Rattle.rules.specs.Meaning.{Ran, lacking}
 use Rattle.rules.specs.Text.{list_text}
 use Rattle.rules.specs.Entries.{translated, list_left, translate_entry, over_front, loads_text, cells_of, odd_byte, bytes_of, ran, Running, run_left, ran_on, run_entry, REFUSAL}
-use Rattle.translate.specs.Whole as translate
 use Rattle.text.proofs.Halves.{by_number_lem}
 use Rattle.translate.proofs.Numbers.{Comes, to-list, to-stop, Halves, count, number, translate-halves}
 use Rattle.machine.specs.Machine.{LeavesFrame, Bytes, refusal}

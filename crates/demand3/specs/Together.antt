@@ -1,7 +1,7 @@
 -- What translate and run answer together, on lent cells and out, for all bytes. The list between them isn't seen: what is printed is what the
 -- script means. Assumes nothing.
 use Rattle.std.specs.Prelude.{◌&&◌, List, [], ℕ, ◌*◌, length, replicate, leb}
-use Rattle.std.proofs.Math.Option.{Option, none, some}
+use Rattle.std.proofs.Math.Option.{none, some}
 use Rattle.rules.specs.Notation.{if◌then◌else◌}
 use Rattle.rules.specs.Sizes.{base}
 use Rattle.rules.specs.Frames.{Line, Outcome, accepted, refused_at}

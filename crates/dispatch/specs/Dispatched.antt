@@ -1,7 +1,7 @@
 -- What a step of any frame asks of the lent arrays and promises of them, each named once. Assumes nothing.
 use Rattle.std.specs.Prelude.{◌≡◌, ◌⊎◌, Bool, true, List, ℕ, ◌≤◌, ◌<◌, length}
 use Rattle.std.proofs.Math.Option.{some}
-use Rattle.std.specs.Borrow.{Bor, MutBor}
+use Rattle.std.specs.Borrow.{MutBor}
 use Rattle.rules.specs.Sizes.{SLOTS}
 use Rattle.rules.specs.Slots.{Placement}
 use Rattle.rules.specs.Frames.{Frame, write}

@@ -1,35 +1,32 @@
 -- 06 alloc and 08 linear, case by case: 3, 16, and what was granted. Assumes nothing.
 use mathlib.Core.Path.{◌≡◌, refl, sym, ap, subst, ◌∙◌}
-use mathlib.Core.Logic.{◌⊎◌, ⊎_elim, inl, inr}
-use mathlib.Core.Bool.{Bool, true, false, ◌&&◌}
+use mathlib.Core.Logic.{⊎_elim}
+use mathlib.Core.Bool.{Bool, true, false}
 use mathlib.Core.Option.{Option, none, some}
 use mathlib.Core.List.{List, [], ◌∷◌}
 use Prim.Native.Nat.{ℕ, zero, suc, ◌+◌, ◌≤◌, ◌<◌}
 use native.Mathlib.Omega.{arith}
-use lib.Dec.{eqb, ltb}
-use borrow.Author.Tests.{lt-ltb, eqb-true}
-use Rattle.rules.specs.Notation.{Answer, given, refused, ◌>>=◌, refuse◌when◌, refuse◌unless◌}
+use borrow.Author.Tests.{lt-ltb}
+use Rattle.rules.specs.Notation.{Answer, given, refused, ◌>>=◌}
 use Rattle.rules.specs.Sizes.{base, HANDLES, SCOPES}
 use Rattle.rules.specs.Slots.{Placement, Place, placing}
 use Rattle.rules.specs.Scopes as rule
 use Rattle.rules.specs.Scopes.{Found, Id, allocate, top_scope, by_id}
 use Rattle.rules.specs.Needs.{Kind, local, run_kind}
-use Rattle.rules.specs.Frames.{State, Frame, alloc, linear, shows, one_line, Step, allot, step}
-use Rattle.rules.proofs.Chains.{none-some, unless-some, unless-none, when_true, refused-on}
-use Rattle.rules.proofs.Tells.{tells-and, tells-lt, tells-true, clash}
+use Rattle.rules.specs.Frames.{State, Frame, alloc, linear, shows, one_line, allot, step}
+use Rattle.rules.proofs.Chains.{unless-some, unless-none, when_true, refused-on}
 use Rattle.rules.proofs.Naming.{id-is as found-id}
 use Rattle.rules.proofs.Exact.{top-found}
-use Rattle.scopes.specs.View.{view, index, at, at_first, Seen, seen, told}
+use Rattle.scopes.specs.View.{view, at, at_first, seen, told}
 use Rattle.scopes.specs.Lent.{is_refusal, made, Whole}
 use Rattle.scopes.proofs.Finds.{no_top}
 use Rattle.scopes.specs.declared.Scopes.{Scopes}
 use Rattle.scopes.specs.declared.Numbers.{Numbers}
 use Rattle.scopes.specs.declared.Outcome.{Outcome}
-use Rattle.scopes.specs.declared.Reply.TheVariants as reply
 use Rattle.needs.specs.Kinds.{kind_of}
 use Rattle.needs.specs.declared.AddressKind.{AddressKind}
 use Rattle.handles.specs.Handles.{state_of}
-use Rattle.frames.specs.Steps.{stepped, is_refused, Few, Stands, Works, Grants, Reached}
+use Rattle.frames.specs.Steps.{is_refused, Few, Stands, Works, Grants, Reached}
 use Rattle.frames.specs.declared.steps.Adds.{Adds}
 use Rattle.frames.specs.declared.steps.Adds.TheVariants.{NoSlot, Refused}
 use Rattle.frames.specs.declared.steps.Stepped.{Stepped}

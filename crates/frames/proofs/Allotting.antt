@@ -1,21 +1,17 @@
 -- Frames that hand out slots and handles: 3 or 4, then 16, then 7; then as many handles as slots. Assumes nothing.
 use mathlib.Core.Path.{◌≡◌, refl, sym, ap, subst, ◌∙◌}
-use mathlib.Core.Logic.{◌⊎◌, ⊎_elim, inl, inr}
-use mathlib.Core.Bool.{Bool, true, false}
-use mathlib.Core.Option.{Option, none, some}
+use mathlib.Core.Logic.{◌⊎◌, ⊎_elim}
 use mathlib.Core.List.{List, [], ◌∷◌}
-use Prim.Native.Nat.{ℕ, zero, suc, ◌+◌, ◌*◌, ◌≤◌, ◌<◌}
+use Prim.Native.Nat.{ℕ, ◌+◌, ◌≤◌, ◌<◌}
 use native.Mathlib.Omega.{arith}
-use lib.Dec.{eqb, ltb}
 use lib.ListN.{length}
-use borrow.Author.Tests.{lt-ltb, le-ltb, ltb-true}
-use Rattle.rules.specs.Notation.{Answer, given, refused, ◌>>=◌, refuse◌when◌, refuse◌unless◌, ◌▹◌}
+use borrow.Author.Tests.{le-ltb}
+use Rattle.rules.specs.Notation.{Answer, given, refused, ◌>>=◌, refuse◌when◌, ◌▹◌}
 use Rattle.rules.specs.Sizes.{base, HANDLES, SEGMENTS, SLOTS}
 use Rattle.rules.specs.Slots.{Slots, Placed, Place, Placement, placing}
 use Rattle.rules.specs.Scopes as rule
 use Rattle.rules.specs.Scopes.{Found, allocate, top_scope}
-use Rattle.rules.specs.Needs.{Kind}
-use Rattle.rules.specs.Frames.{no_need, State, scopes≔, handles≔, handed≔, Line, shows, one_line, Step, grant, allot}
+use Rattle.rules.specs.Frames.{no_need, State, scopes≔, handles≔, handed≔, shows, one_line, grant, allot}
 use Rattle.rules.specs.Demand3.{Fair, Gives}
 use Rattle.rules.proofs.Sound.{SlotsSound}
 use Rattle.rules.proofs.Tells.{decided, is_false, clash}
@@ -30,7 +26,7 @@ use Rattle.scopes.specs.declared.Reply.TheVariants as reply
 use Rattle.needs.specs.Kinds.{kind_of}
 use Rattle.needs.specs.declared.AddressKind.{AddressKind}
 use Rattle.handles.specs.Handles.{handle_at, state_of, Hands}
-use Rattle.frames.specs.Steps.{stepped, adds_of, is_refused, slot_or, Stands, Works, Grants, Reached}
+use Rattle.frames.specs.Steps.{stepped, adds_of, is_refused, slot_or, Stands, Grants, Reached}
 use Rattle.frames.specs.declared.steps.Adds.{Adds}
 use Rattle.handles.proofs.Changes.{Granted, granting}
 

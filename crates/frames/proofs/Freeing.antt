@@ -2,17 +2,16 @@
 -- Assumes nothing.
 use mathlib.Core.Path.{◌≡◌, refl, sym, ap, subst, ◌∙◌}
 use mathlib.Core.Bool.{Bool, true, false, not, ◌&&◌}
-use mathlib.Core.List.{List, [], ◌∷◌}
-use Prim.Native.Nat.{ℕ, ◌*◌, ◌%◌, ◌≤◌, ◌<◌}
+use mathlib.Core.List.{List, []}
+use Prim.Native.Nat.{ℕ, ◌%◌, ◌≤◌, ◌<◌}
 use lib.Dec.{eqb}
 use lib.ListN.{length, get_or, set}
-use borrow.Author.Tests.{eqb-true}
 use Rattle.rules.specs.Notation.{Answer, given, refused, ◌>>=◌, if◌then◌else◌, ◌▹◌, put}
 use Rattle.rules.specs.Sizes.{base}
 use Rattle.rules.specs.Slots.{Slots, remove}
 use Rattle.rules.specs.Scopes as rule
 use Rattle.rules.specs.Needs.{Kind, freed, is_freed, goes_back, give_back}
-use Rattle.rules.specs.Frames.{no_need, State, scopes≔, Handle, held≔, kind≔, Frame, shows, one_line, set_handle, hand_back, free_as, free_handle, step}
+use Rattle.rules.specs.Frames.{no_need, State, scopes≔, Handle, held≔, kind≔, shows, one_line, set_handle, hand_back, free_as, free_handle, step}
 use Rattle.rules.proofs.Chains.{when_true, when_false, refused-on}
 use Rattle.rules.proofs.Tables.{put_same, put_other, put-ext, remove-other}
 use Rattle.rules.proofs.Tells.{decided, clash, tells-and, tells-true, tells-eq}
@@ -22,11 +21,10 @@ use Rattle.scopes.specs.View.{view, Seen, seen, told_only}
 use Rattle.scopes.specs.Lent.{is_refusal, Whole}
 use Rattle.scopes.specs.declared.Scopes.{Scopes}
 use Rattle.scopes.specs.declared.Outcome.{Outcome}
-use Rattle.scopes.specs.declared.Reply.{Reply}
 use Rattle.scopes.specs.declared.Reply.TheVariants as reply
 use Rattle.needs.specs.Kinds.{kind_of}
 use Rattle.needs.specs.Inner.{is_done}
-use Rattle.handles.specs.Handles.{slot_in, kind_in, handle_at, state_of, Coded, freed_as}
+use Rattle.handles.specs.Handles.{slot_in, handle_at, state_of, Coded, freed_as}
 use Rattle.frames.specs.Steps.{nowhere, stepped, adds_of, freeing, free_code, freed_then, Stands, Comes, Reached}
 use Rattle.handles.specs.declared.Handle.{Handle as Known}
 use Rattle.frames.specs.declared.steps.Adds.TheVariants.{Nothing}

@@ -2,25 +2,24 @@
 -- is another one. Assumes nothing.
 use mathlib.Core.Path.{◌≡◌, refl, sym, ap, subst, ◌∙◌}
 use mathlib.Core.Bool.{Bool, true, false, not, ◌&&◌, ◌||◌}
-use mathlib.Core.List.{List, [], ◌∷◌}
-use Prim.Native.Nat.{ℕ, ◌%◌, ◌≤◌, ◌<◌}
+use mathlib.Core.List.{List, []}
+use Prim.Native.Nat.{ℕ, ◌≤◌, ◌<◌}
 use native.Mathlib.Omega.{arith}
-use lib.Dec.{eqb, leb}
+use lib.Dec.{eqb}
 use lib.ListN.{length, get_or, set, length-set}
 use borrow.Author.Tests.{le-leb, lt-leb}
-use Rattle.rules.specs.Notation.{Answer, given, refused, ◌>>=◌, refuse◌when◌, ◌▹◌, put, first}
+use Rattle.rules.specs.Notation.{refused, ◌▹◌, put, first}
 use Rattle.rules.specs.Sizes.{base, HANDLES, SLOTS}
 use Rattle.rules.specs.Scopes as rule
 use Rattle.rules.specs.Needs.{Kind, Address, address, freed, allocated_kind, is_freed}
-use Rattle.rules.specs.Frames.{no_need, State, Handle, kind≔, written≔, Frame, define, forget, Source, write, read, shows, stores, loads, one_line, unknown, spent, belongs, barred, set_handle, step}
+use Rattle.rules.specs.Frames.{no_need, State, kind≔, Frame, forget, Source, write, read, shows, stores, loads, one_line, unknown, spent, belongs, barred, set_handle, step}
 use Rattle.rules.proofs.Chains.{when_true, when_false}
 use Rattle.rules.proofs.Tells.{clash, or-second}
-use Rattle.slots.specs.Halves.{occ}
 use Rattle.scopes.specs.View.{view}
 use Rattle.scopes.specs.declared.Scopes.{Scopes}
 use Rattle.needs.specs.Kinds.{kind_of, address_of}
-use Rattle.handles.specs.Handles.{held_by, slot_in, kind_in, handle_at, state_of, Coded, freed_as}
-use Rattle.frames.specs.Steps.{nowhere, source_of, stepped, loading, LoadsOf, Stands, Works}
+use Rattle.handles.specs.Handles.{held_by, slot_in, handle_at, state_of, Coded, freed_as}
+use Rattle.frames.specs.Steps.{nowhere, source_of, LoadsOf, Stands, Works}
 use Rattle.handles.specs.declared.Handle.{Handle as Known}
 use Rattle.frames.specs.declared.steps.Source.{Source as Kept}
 use Rattle.frames.specs.declared.steps.Adds.TheVariants.{Nothing, Store, Load}

@@ -1,30 +1,26 @@
 -- Frames that leave the tables alone: what the state's operation answers is what the rules' step adds, over the same handles.
 -- Assumes nothing.
 use mathlib.Core.Path.{◌≡◌, refl, sym, ap, subst, ◌∙◌}
-use mathlib.Core.Bool.{Bool, true, false}
-use mathlib.Core.Option.{Option, none, some}
+use mathlib.Core.Bool.{true}
+use mathlib.Core.Option.{Option}
 use mathlib.Core.List.{List, [], ◌∷◌}
-use Prim.Native.Nat.{ℕ, ◌%◌, ◌<◌}
+use Prim.Native.Nat.{ℕ, ◌%◌}
 use native.Mathlib.Omega.{arith}
 use Rattle.rules.specs.Notation.{Answer, given, refused, ◌>>=◌, ◌▹◌}
 use Rattle.rules.specs.Sizes.{base, WORD}
-use Rattle.rules.specs.Slots.{Slots, Placement, remove_all}
-use Rattle.rules.specs.AddressSets.{member}
+use Rattle.rules.specs.Slots.{Placement, remove_all}
 use Rattle.rules.specs.Scopes as rule
 use Rattle.rules.specs.Scopes.{Found}
 use Rattle.rules.specs.Frames.{no_need, State, scopes≔, Frame, child, pop, dangle, restore, pop_last, Line, shows, one_line, close, let_go, Step, step}
-use Rattle.rules.specs.Sound.{owned_by}
-use Rattle.rules.proofs.Chains.{All}
 use Rattle.rules.proofs.Tables.{remove_all-other}
 use Rattle.rules.proofs.Tells.{decided}
 use Rattle.rules.proofs.Removing.{remove_all-stays, remove_all-clears}
 use Rattle.rules.proofs.Naming.{Here, number-here}
 use Rattle.rules.proofs.KeepsScopes.{poppable-is, last-is}
 use Rattle.rules.proofs.Leaves.{child-leaves, dangle-leaves, restore-leaves}
-use Rattle.scopes.specs.View.{view, id_of, opened, Seen, seen, told, told_only}
+use Rattle.scopes.specs.View.{view, opened, Seen, told, told_only}
 use Rattle.scopes.specs.Lent.{is_refusal, Whole}
 use Rattle.scopes.specs.declared.Scopes.{Scopes}
-use Rattle.scopes.specs.declared.ScopeId.{ScopeId}
 use Rattle.scopes.specs.declared.Outcome.{Outcome}
 use Rattle.scopes.specs.declared.Reply.{Reply}
 use Rattle.scopes.specs.declared.Reply.TheVariants as reply

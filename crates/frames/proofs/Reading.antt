@@ -1,22 +1,21 @@
 -- 09 define, 0a get, 0b take, 0f drain and 12 read name. Assumes nothing.
 use mathlib.Core.Path.{◌≡◌, refl, sym, ap, subst, ◌∙◌}
-use mathlib.Core.Bool.{Bool, true, false}
-use mathlib.Core.Option.{Option, none, some}
+use mathlib.Core.Bool.{true, false}
 use mathlib.Core.List.{List, [], ◌∷◌}
-use Prim.Native.Nat.{ℕ, ◌+◌, ◌≤◌, ◌<◌}
+use Prim.Native.Nat.{ℕ, ◌≤◌, ◌<◌}
 use native.Mathlib.Omega.{arith}
 use lib.ListN.{length, get_or, take, length-take}
-use Rattle.rules.specs.Notation.{Answer, given, refused, ◌>>=◌, refuse◌unless◌, ◌▹◌}
+use Rattle.rules.specs.Notation.{Answer, given, refused, ◌>>=◌}
 use Rattle.rules.specs.Sizes.{base, HANDLES, SCOPES, SLOTS}
 use Rattle.rules.specs.Scopes as rule
 use Rattle.rules.specs.Needs.{is_freed}
 use Rattle.rules.specs.Frames as frame
 use Rattle.rules.specs.Frames.{State, scopes≔, Line, shows, one_line, Step, step}
-use Rattle.rules.proofs.Chains.{All, unless-some, unless-none, when_true, when_false}
+use Rattle.rules.proofs.Chains.{unless-some, unless-none, when_true, when_false}
 use Rattle.rules.proofs.Leaves.{bind-leaves, take-leaves}
 use Rattle.rules.proofs.Held.{got-agrees}
 use Rattle.rules.proofs.Tells.{clash}
-use Rattle.scopes.specs.View.{view, bound, Seen, seen, told, told_only, replied}
+use Rattle.scopes.specs.View.{view, bound, seen, told, told_only, replied}
 use Rattle.scopes.specs.Lent.{is_refusal, Whole}
 use Rattle.scopes.proofs.Finds.{no_top}
 use Rattle.scopes.specs.declared.Scopes.{Scopes}
@@ -24,7 +23,7 @@ use Rattle.scopes.specs.declared.Outcome.{Outcome}
 use Rattle.scopes.specs.declared.Reply.{Reply}
 use Rattle.scopes.specs.declared.Reply.TheVariants as reply
 use Rattle.needs.specs.Kinds.{kind_of}
-use Rattle.handles.specs.Handles.{handle_at, state_of, Coded}
+use Rattle.handles.specs.Handles.{state_of, Coded}
 use Rattle.frames.specs.Steps.{nowhere, stepped, adds_of, handle_or, Few, loading, LoadsOf, Stands, Works, Reached}
 use Rattle.handles.specs.declared.Handle.{Handle as Known}
 use Rattle.frames.specs.declared.steps.Adds.{Adds}

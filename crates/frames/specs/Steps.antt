@@ -1,6 +1,6 @@
 -- One step of the code as a step of the rules: what it adds to the list, and where the script stands then. Assumes nothing.
 use Rattle.std.specs.Prelude.{◌≡◌, Bool, true, false, not, List, [], ◌∷◌, ℕ, ◌+◌, ◌%◌, ◌≤◌, ◌<◌, length, get_or, take}
-use Rattle.std.proofs.Math.Option.{Option, none}
+use Rattle.std.proofs.Math.Option.{none}
 use Rattle.std.specs.Borrow.{Bor, MutBor}
 use Rattle.rules.specs.Notation.{Answer, refused, ◌>>=◌, refuse◌when◌, refuse◌unless◌}
 use Rattle.rules.specs.Sizes.{base, HANDLES, SLOTS, WORD}

@@ -3,7 +3,7 @@
 use mathlib.Core.Path.{◌≡◌, refl, sym, ap, subst, ◌∙◌}
 use mathlib.Core.Bool.{Bool, true, false, ◌&&◌}
 use mathlib.Core.List.{List}
-use Prim.Native.Nat.{ℕ, zero, suc, ◌+◌, ◌-◌, ◌*◌, ◌/◌, ◌%◌, ◌≤◌, ◌<◌}
+use Prim.Native.Nat.{ℕ, ◌+◌, ◌-◌, ◌%◌, ◌≤◌, ◌<◌}
 use native.Mathlib.Omega.{arith}
 use native.Mathlib.Decide.{dec_lt}
 use mathlib.Core.Logic.{◌⊎◌, inl, inr, ⊎_elim, by_cases}
@@ -13,9 +13,9 @@ use lib.Seq.{get_or-set_same, get_or-set_other}
 use borrow.Author.Tests.{ne_eqb, eq-eqb, le-leb, lt-leb, lt-ltb, le-ltb}
 use Rattle.rules.specs.Notation.{put, ◌▹◌}
 use Rattle.rules.specs.AddressSets.{member}
-use Rattle.rules.specs.Needs.{Kind, freed}
-use Rattle.rules.specs.Frames.{Handle, held≔, kind≔, grant, let_go}
-use Rattle.rules.proofs.Tables.{by_eqb, put_same, put_other, grant-cases}
+use Rattle.rules.specs.Needs.{Kind}
+use Rattle.rules.specs.Frames.{Handle, held≔, grant, let_go}
+use Rattle.rules.proofs.Tables.{by_eqb, put_same, put_other}
 use Rattle.rules.proofs.Tells.{decided}
 use Rattle.handles.specs.Handles.{slot_in, kind_in, handle_at, Hands}
 

@@ -1,6 +1,5 @@
 -- A handle in one number: what is packed is what is unpacked, as the rules see it. Assumes nothing.
-use mathlib.Core.Path.{◌≡◌, refl, sym, ap, ◌∙◌}
-use mathlib.Core.Bool.{Bool}
+use mathlib.Core.Path.{◌≡◌, refl, ap, ◌∙◌}
 use Prim.Native.Nat.{ℕ, ◌+◌, ◌*◌, ◌/◌, ◌%◌, ◌<◌}
 use native.Mathlib.Omega.{arith}
 use lib.Dec.{eqb}
@@ -13,7 +12,7 @@ use Rattle.scopes.specs.declared.ScopeId.{ScopeId}
 use Rattle.needs.specs.Kinds.{kind_of}
 use Rattle.needs.specs.declared.AddressKind.{AddressKind}
 use Rattle.needs.specs.declared.AddressKind.TheVariants as kind
-use Rattle.handles.specs.Handles.{slot_in, id_in, kind_coded, kind_in, code_of_kind, id_of_kind, Coded, INDEXES, INDEX_PART, KINDS, KIND_PART, NUMBER_PART, SLOT_PART}
+use Rattle.handles.specs.Handles.{kind_coded, code_of_kind, id_of_kind, Coded, INDEXES, INDEX_PART, KINDS, KIND_PART, NUMBER_PART, SLOT_PART}
 use Rattle.handles.specs.declared.Handle.{Handle}
 
 kind-coded : (k : AddressKind) → kind_coded (code_of_kind k) (id_of (id_of_kind k)) ≡ kind_of k

@@ -14,7 +14,7 @@ use Rattle.rules.specs.Sizes.{Room, base, LINES}
 use Rattle.rules.specs.Frames.{constant, next_sample, Line, stores, loads, shows}
 use Rattle.rules.specs.Meaning.{Ran, obey, high, list_takes, lacking}
 use Rattle.rules.specs.Text.{Listed, listed, unlisted, read_list}
-use Rattle.rules.specs.Recordings.{Recording, recorded, malformed, reader_of, is_state, ended}
+use Rattle.rules.specs.Recordings.{Recording, recorded, malformed, reader_of, is_state}
 use Rattle.rules.specs.Entries.{RunOutcome, ran, stopped, run_sampled, run_listed, recorded_on, ran_on, loads_text, cells_of, Running, run_left, run_entry, RecordedRunning, recorded_left, recorded_entry}
 use Rattle.rules.proofs.Tells.{decided}
 use Rattle.text.proofs.Bounds.{ListIn, read-list-in}

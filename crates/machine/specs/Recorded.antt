@@ -1,6 +1,6 @@
 -- What a run with a recording answers and leaves, over the entries of a list: a refusal after the other, and then the work. The promise of
 -- `run_recorded` is over the rules' own `recorded_entry`. Assumes nothing.
-use Rattle.std.specs.Prelude.{◌≡◌, Bool, true, List, ◌++◌, ℕ, ◌+◌, ◌*◌, ◌/◌, ◌-◌, length, take, drop, eqb, ltb}
+use Rattle.std.specs.Prelude.{◌≡◌, Bool, true, List, ◌++◌, ℕ, ◌*◌, ◌/◌, ◌-◌, length, take, drop, eqb, ltb}
 use Rattle.std.specs.Borrow.{MutBor}
 use denote.Triple.Both.{Both}
 use Rattle.rules.specs.Sizes.{Room}

@@ -2,7 +2,6 @@
 use Rattle.std.specs.Prelude.{Bool, true, false, List, ℕ, zero, suc, ◌+◌, ◌-◌, length, take, drop, ltb, eqb}
 use Rattle.rules.specs.Sizes.{base}
 use Rattle.rules.specs.Entries.{translator_prints}
-use Rattle.records.specs.declared.Found.{Found}
 use Rattle.records.specs.declared.Found.TheVariants.{Broken, Record}
 use Rattle.records.specs.declared.tally.Tally.{Tally}
 use Rattle.records.specs.Records.{same_text, record_at}

@@ -1,9 +1,8 @@
 -- A scope is closed: its addresses go to the dangling list one by one, then the scope itself goes. Assumes nothing.
-use Rattle.std.proofs.Common.{◌≡◌, ℕ, zero, suc, ◌+◌, ◌/◌, ◌<◌, ◌≤◌, Bool, true, false, ◌≢◌, ◌⊎◌, List, [], ◌∷◌, length, get_or, set, sym, refl, ap, ◌∙◌, subst, inl, inr, arith, length-set, get_or-set_other, get_or-set_same, eq-eqb, ne_eqb, eqb-true}
+use Rattle.std.proofs.Common.{◌≡◌, ℕ, ◌+◌, ◌<◌, ◌≤◌, Bool, true, false, ◌≢◌, ◌⊎◌, List, [], ◌∷◌, length, get_or, set, sym, refl, ap, ◌∙◌, subst, inl, inr, arith, length-set, get_or-set_other, get_or-set_same, eq-eqb, ne_eqb, eqb-true}
 use mathlib.Core.Logic.{by_cases}
-use mathlib.Core.Option.{Option, none, some}
-use native.Mathlib.Decide.{ℕ_discrete, dec_lt}
-use lib.ListN.{get_or-eq_default}
+use mathlib.Core.Option.{Option, none}
+use native.Mathlib.Decide.{ℕ_discrete}
 use borrow.Author.Tests.{eqb-false}
 use Rattle.rules.specs.Sizes.{BINDINGS, CELLS, HALVES, LINKS, LISTS, SCOPES, SLOTS}
 use Rattle.rules.specs.Notation.{put}
@@ -12,18 +11,18 @@ use Rattle.rules.specs.Slots.{remove_all}
 use Rattle.rules.specs.Scopes as rule
 use Rattle.rules.proofs.Sets.{member-same}
 use Rattle.rules.proofs.Tells.{clash}
-use Rattle.slots.specs.Halves.{occ, slots_of}
+use Rattle.slots.specs.Halves.{occ}
 use Rattle.links.specs.Links.{Held, Ring, next_in, prev_in, leaves, gains}
 use Rattle.links.specs.Follow.{Ahead}
 use Rattle.links.proofs.Walks.{without-first}
-use Rattle.scopes.specs.View.{list_of, index, view, bindings_of, scope_of, found_at}
+use Rattle.scopes.specs.View.{list_of, index, view, bindings_of, found_at}
 use Rattle.scopes.specs.Sound.{Sound, LeadsToRoot, root, up, Each, BoundOnce, Sized}
 use Rattle.scopes.specs.Leaves.{NoChild}
 use Rattle.scopes.specs.Lent.{Whole}
 use Rattle.scopes.specs.declared.Scopes.{Scopes}
 use Rattle.scopes.proofs.Tables.{put-ext, put-again}
 use Rattle.scopes.proofs.Finds.{in-range}
-use Rattle.scopes.proofs.Marks.{leads-live, parent_live}
+use Rattle.scopes.proofs.Marks.{parent_live}
 use Rattle.scopes.proofs.Frees.{released, released-sized, removed, back-sound, back-live, back-lists}
 
 -- ---- the first of a list

@@ -1,5 +1,5 @@
 -- The bindings of a scope go; the others keep their order. Assumes nothing.
-use Rattle.std.proofs.Common.{◌≡◌, ℕ, zero, suc, ◌+◌, ◌/◌, ◌<◌, ◌≤◌, Bool, true, false, eqb, ◌≢◌, List, [], ◌∷◌, ◌++◌, map, length, get_or, take, set, sym, refl, ap, ◌∙◌, subst, append-nil, add-one, arith, length-set, get_or-set_other, take-suc, get_or-set_same, take-suc-set, eq-eqb, ne_eqb}
+use Rattle.std.proofs.Common.{◌≡◌, ℕ, ◌+◌, ◌/◌, ◌<◌, ◌≤◌, Bool, true, false, eqb, ◌≢◌, List, [], ◌∷◌, ◌++◌, map, length, get_or, take, set, refl, ap, ◌∙◌, append-nil, add-one, arith, length-set, get_or-set_other, take-suc, get_or-set_same, take-suc-set, eq-eqb, ne_eqb}
 use mathlib.Core.Logic.{by_cases}
 use native.Mathlib.Decide.{ℕ_discrete, dec_lt}
 use lib.Seq.{take-set-le}

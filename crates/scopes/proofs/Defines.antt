@@ -1,6 +1,5 @@
 -- A name is bound in the top scope. Assumes nothing.
-use Rattle.std.proofs.Common.{◌≡◌, ℕ, ◌+◌, ◌<◌, ◌≤◌, Bool, true, false, not, ◌&&◌, leb, ◌≢◌, List, [], ◌∷◌, ◌++◌, map, length, get_or, take, set, sym, refl, ap, ◌∙◌, subst, add-one, arith, length-set, length-take-le, get_or-set_other, take-suc-set, le-leb}
-use mathlib.Core.Option.{Option, none, some}
+use Rattle.std.proofs.Common.{◌≡◌, ℕ, ◌+◌, ◌<◌, ◌≤◌, Bool, true, false, not, ◌&&◌, leb, ◌≢◌, List, [], ◌∷◌, map, length, get_or, take, set, sym, ap, ◌∙◌, subst, add-one, arith, length-set, length-take-le, get_or-set_other, take-suc-set, le-leb}
 use mathlib.Core.List.{map-append}
 use lib.ListN.{length-map}
 use borrow.Author.Tests.{lt-leb}

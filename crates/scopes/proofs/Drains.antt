@@ -1,5 +1,5 @@
 -- The dangling list is handed out and emptied. Assumes nothing.
-use Rattle.std.proofs.Common.{◌≡◌, ℕ, suc, ◌+◌, ◌<◌, ◌≤◌, Bool, true, false, ◌≢◌, List, [], ◌∷◌, ◌++◌, length, get_or, take, set, sym, refl, ap, ◌∙◌, subst, append-nil, add-one, arith, length-set, get_or-set_other, take-suc-set, ne_eqb}
+use Rattle.std.proofs.Common.{◌≡◌, ℕ, suc, ◌+◌, ◌<◌, ◌≤◌, false, List, [], ◌++◌, length, get_or, take, set, sym, refl, ap, ◌∙◌, append-nil, add-one, arith, length-set, get_or-set_other, take-suc-set, ne_eqb}
 use lib.Seq.{append_snoc}
 use Rattle.rules.specs.Sizes.{LINKS, LISTS, SCOPES, SLOTS}
 use Rattle.rules.specs.Notation.{put}

@@ -1,15 +1,15 @@
 -- Which scope is meant: the top, or the one with an id, or with a number. Assumes nothing.
-use Rattle.std.proofs.Common.{◌≡◌, ℕ, ◌<◌, ◌≤◌, Bool, true, false, not, ◌&&◌, eqb, ltb, ◌≢◌, List, length, get_or, sym, refl, ap, ◌∙◌, subst, ⊎_elim, arith, ltb-true, le-ltb, lt-ltb, eq-eqb, ne_eqb, eqb-true}
+use Rattle.std.proofs.Common.{◌≡◌, ℕ, ◌<◌, ◌≤◌, Bool, true, false, ◌&&◌, ltb, ◌≢◌, List, length, get_or, sym, refl, ap, ◌∙◌, subst, ⊎_elim, arith, ltb-true, le-ltb, lt-ltb, eq-eqb, ne_eqb, eqb-true}
 use mathlib.Core.Logic.{by_cases}
 use mathlib.Core.Option.{Option, none, some}
 use native.Mathlib.Decide.{dec_lt}
 use lib.ListN.{get_or-eq_default}
-use Rattle.rules.specs.Notation.{◌>>=◌, refuse◌unless◌, is_some, first}
+use Rattle.rules.specs.Notation.{refuse◌unless◌, is_some, first}
 use Rattle.rules.specs.Sizes.{base, SCOPES}
 use Rattle.rules.specs.Scopes as rule
 use Rattle.rules.proofs.Searches.{first-none}
 use Rattle.rules.proofs.Tells.{clash}
-use Rattle.scopes.specs.View.{view, index, only_if, scope_of, found_at, opened, replied}
+use Rattle.scopes.specs.View.{view, found_at, opened, replied}
 use Rattle.scopes.specs.Sound.{Sound}
 use Rattle.scopes.specs.Leaves.{lowest, has_number, child_of, has_child, place_of, NoChild}
 use Rattle.scopes.specs.declared.Scopes.{Scopes}

@@ -1,7 +1,7 @@
 -- A slot goes back: to the dangling list, or to none. Assumes nothing.
-use Rattle.std.proofs.Common.{◌≡◌, ℕ, ◌+◌, ◌*◌, ◌/◌, ◌<◌, ◌≤◌, Bool, true, false, not, ◌≢◌, List, length, get_or, set, sym, refl, ap, ◌∙◌, subst, arith, length-set, le-ltb, lt-ltb, eq-eqb, ne_eqb}
+use Rattle.std.proofs.Common.{◌≡◌, ℕ, ◌*◌, ◌/◌, ◌<◌, ◌≤◌, Bool, true, false, ◌≢◌, List, length, get_or, set, sym, refl, ap, ◌∙◌, subst, arith, length-set, le-ltb, lt-ltb, eq-eqb, ne_eqb}
 use mathlib.Core.Logic.{by_cases}
-use mathlib.Core.Option.{Option, none, some}
+use mathlib.Core.Option.{some}
 use native.Mathlib.Decide.{dec_lt}
 use Rattle.rules.specs.Sizes.{HALVES, LINKS, LISTS, SCOPES, SLOTS}
 use Rattle.rules.specs.Notation.{◌>>=◌, refuse◌unless◌, refuse◌when◌, put}
@@ -16,7 +16,7 @@ use Rattle.slots.specs.Halves.{occ, slots_of}
 use Rattle.links.specs.Links.{Held, On, leaves, gains}
 use Rattle.links.proofs.Walks.{chains-lists}
 use Rattle.links.proofs.Moves.{Tells, told-on, leaves-tells, places-tells}
-use Rattle.scopes.specs.View.{list_of, index, view, scope_of, found_at, told_only}
+use Rattle.scopes.specs.View.{list_of, index, view, scope_of, told_only}
 use Rattle.scopes.specs.Sound.{Slotted, Ringed, Sound, Sized}
 use Rattle.scopes.specs.Lent.{Whole}
 use Rattle.scopes.specs.declared.Scopes.{Scopes}

@@ -1,7 +1,7 @@
 -- A name is looked for, scope by scope; what get and take answer. Assumes nothing.
-use Rattle.std.proofs.Common.{◌≡◌, ℕ, zero, suc, ◌+◌, ◌-◌, ◌/◌, ◌%◌, ◌<◌, ◌≤◌, Bool, true, false, ◌≢◌, List, get_or, set, sym, refl, ap, ◌∙◌, subst, arith, length-set, le-ltb, lt-ltb, eq-eqb, ne_eqb}
+use Rattle.std.proofs.Common.{◌≡◌, ℕ, zero, suc, ◌+◌, ◌-◌, ◌%◌, ◌<◌, ◌≤◌, Bool, true, false, ◌≢◌, List, get_or, set, sym, refl, ap, ◌∙◌, subst, arith, length-set, le-ltb, lt-ltb, eq-eqb, ne_eqb}
 use mathlib.Core.Option.{Option, none, some}
-use Rattle.rules.specs.Notation.{Answer, given, refused, ◌>>=◌, refuse◌unless◌, refuse◌when◌}
+use Rattle.rules.specs.Notation.{given, refused, ◌>>=◌, refuse◌unless◌, refuse◌when◌}
 use Rattle.rules.specs.Sizes.{base, BINDINGS, SCOPES}
 use Rattle.rules.specs.Scopes as rule
 use Rattle.scopes.specs.View.{list_of, view, index, only_if, scope_at, scopes_from, binding, bindings_of, bound, told}

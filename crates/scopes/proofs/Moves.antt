@@ -1,17 +1,16 @@
 -- One address changes its list and its owner: what holds of the lists, the owners, the slots and the scopes then. Assumes nothing.
-use Rattle.std.proofs.Common.{◌≡◌, ℕ, ◌+◌, ◌<◌, ◌≤◌, Bool, true, false, eqb, ltb, ◌≢◌, List, length, get_or, set, sym, refl, ap, ◌∙◌, subst, arith, get_or-set_other, get_or-set_same}
-use mathlib.Core.Option.{Option, none, some}
+use Rattle.std.proofs.Common.{◌≡◌, ℕ, ◌<◌, ◌≤◌, Bool, true, false, ltb, ◌≢◌, List, length, get_or, set, sym, refl, ap, ◌∙◌, subst, arith, get_or-set_other, get_or-set_same}
+use mathlib.Core.Option.{some}
 use native.Mathlib.Decide.{ℕ_discrete}
 use Rattle.rules.specs.Sizes.{LISTS, SCOPES, SLOTS}
 use Rattle.rules.specs.Notation.{put}
-use Rattle.rules.specs.AddressSets.{member}
 use Rattle.rules.specs.Scopes as rule
 use Rattle.rules.proofs.Tables.{put_same, put_other}
 use Rattle.slots.specs.Halves.{occ}
 use Rattle.links.specs.Links.{Held}
 use Rattle.links.proofs.Walks.{held-lists}
 use Rattle.links.proofs.Moves.{Tells, lists-tell}
-use Rattle.scopes.specs.View.{list_of, index, scope_at, scopes_from}
+use Rattle.scopes.specs.View.{list_of, scope_at, scopes_from}
 use Rattle.scopes.specs.Sound.{Ringed, Owned}
 use Rattle.scopes.proofs.Tables.{put-ext}
 

@@ -4,8 +4,7 @@ use mathlib.Core.Logic.{by_cases}
 use native.Mathlib.Decide.{dec_lt, ℕ_discrete}
 use lib.ListN.{get_or-replicate}
 use Rattle.rules.specs.Sizes.{BINDINGS, SCOPES, WORD}
-use Rattle.rules.specs.Scopes as rule
-use Rattle.scopes.specs.View.{binding, NAME_PART, SCOPE_PART}
+use Rattle.scopes.specs.View.{NAME_PART, SCOPE_PART}
 use Rattle.scopes.specs.Leaves.{Spot, Placed, binds, Earliest, Noted}
 use Rattle.scopes.proofs.Tables.{and_both, and-false}
 use Rattle.scopes.proofs.Bindings.{Missed, missed_more, spot-none, spot-some}

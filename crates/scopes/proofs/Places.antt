@@ -1,9 +1,9 @@
 -- A clear slot is given to a scope: one after another, those that a placement chose. Assumes nothing.
-use Rattle.std.proofs.Common.{◌≡◌, ℕ, ◌+◌, ◌<◌, ◌≤◌, Bool, true, false, ◌≢◌, List, length, get_or, set, sym, refl, ap, ◌∙◌, subst, arith, length-set, ltb-false, lt-ltb, ne_eqb}
-use mathlib.Core.Option.{Option, none, some}
+use Rattle.std.proofs.Common.{◌≡◌, ℕ, ◌<◌, ◌≤◌, true, false, List, length, get_or, set, sym, ap, ◌∙◌, arith, length-set, ltb-false, lt-ltb, ne_eqb}
+use mathlib.Core.Option.{some}
 use Rattle.rules.specs.Sizes.{HALVES, LINKS, LISTS, SCOPES, SLOTS}
 use Rattle.rules.specs.Notation.{put}
-use Rattle.rules.specs.AddressSets.{member, added, without}
+use Rattle.rules.specs.AddressSets.{added, without}
 use Rattle.rules.specs.Scopes as rule
 use Rattle.rules.proofs.Tables.{put_same, put_other}
 use Rattle.rules.proofs.Sets.{without-none}

@@ -1,6 +1,6 @@
 -- Clear slots are given to a scope, one after another: from here, what is left to give comes to the same. Assumes nothing.
-use Rattle.std.proofs.Common.{◌≡◌, ℕ, zero, suc, ◌+◌, ◌-◌, ◌<◌, ◌≤◌, max, Bool, true, false, ◌≢◌, List, [], ◌∷◌, length, get_or, sym, refl, ap, ◌∙◌, add-one, arith}
-use mathlib.Core.Option.{Option, none, some}
+use Rattle.std.proofs.Common.{◌≡◌, ℕ, suc, ◌+◌, ◌-◌, ◌<◌, ◌≤◌, max, Bool, true, false, List, length, get_or, sym, refl, ap, ◌∙◌, add-one, arith}
+use mathlib.Core.Option.{Option, some}
 use Rattle.rules.specs.Sizes.{HALVES, LINKS, LISTS, SCOPES, SEGMENTS, SLOTS}
 use Rattle.rules.specs.Notation.{put}
 use Rattle.rules.specs.AddressSets.{added, without, added_all, without_all, run}

@@ -1,6 +1,6 @@
 -- The fresh state. Assumes nothing.
-use Rattle.std.proofs.Common.{◌≡◌, ℕ, zero, suc, ◌<◌, ◌≤◌, Bool, true, false, List, [], ◌∷◌, length, get_or, set, replicate, sym, refl, ap, ◌∙◌, subst, inl, true≢false, arith, length-set, ne_eqb}
-use mathlib.Core.Option.{Option, none, some}
+use Rattle.std.proofs.Common.{◌≡◌, ℕ, zero, suc, ◌<◌, Bool, true, false, List, [], length, get_or, set, replicate, sym, refl, ap, ◌∙◌, inl, true≢false, arith, length-set, ne_eqb}
+use mathlib.Core.Option.{none, some}
 use lib.ListN.{get_or-replicate, length-replicate}
 use Rattle.rules.specs.Sizes.{BINDINGS, HALVES, LINKS, LISTS, SCOPES, SLOTS}
 use Rattle.rules.specs.AddressSets.{member}
@@ -11,7 +11,7 @@ use Rattle.slots.proofs.Occupied.{none-occupied}
 use Rattle.links.specs.Links.{Held}
 use Rattle.links.proofs.Walks.{chains-lists, held-lists}
 use Rattle.scopes.specs.View.{list_of, view}
-use Rattle.scopes.specs.Sound.{Sound, Sized, LeadsToRoot, root, up}
+use Rattle.scopes.specs.Sound.{Sound, Sized, LeadsToRoot, root}
 use Rattle.scopes.specs.declared.Scopes.{Scopes}
 
 abbrev pub fresh_state : List ℕ → Scopes

@@ -13,7 +13,7 @@ use Rattle.rules.specs.AddressSets.{member}
 use Rattle.rules.proofs.Tables.{by_eqb}
 use Rattle.rules.proofs.Sets.{member-cons, within-nil, no_member}
 use Rattle.rules.proofs.Tells.{clash}
-use Rattle.links.specs.Links.{Links, Link, Ring, Held, next_in, prev_in}
+use Rattle.links.specs.Links.{Links, Link, Held, next_in, prev_in}
 use Rattle.links.specs.Follow.{follow, lists}
 use Rattle.links.proofs.Lists.{Each, each-head, each_tail}
 use Rattle.links.proofs.Rings.{ring-length}

@@ -1,7 +1,7 @@
 -- An answer of one number in its two halves, which can't be mistaken for each other: below 2^32 it counts the bytes that were written;
 -- otherwise it is a refusal's number and a line. Assumes nothing.
 use mathlib.Core.Path.{◌≡◌}
-use Prim.Native.Nat.{ℕ, ◌+◌, ◌*◌, ◌/◌, ◌%◌, ◌≤◌, ◌<◌}
+use Prim.Native.Nat.{ℕ, ◌/◌, ◌%◌, ◌≤◌, ◌<◌}
 use native.Mathlib.Omega.{arith}
 use Rattle.rules.specs.Entries.{refusal_answer, REFUSAL}
 

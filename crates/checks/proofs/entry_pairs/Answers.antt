@@ -1,6 +1,5 @@
 -- `entry_pairs` meets its contract. Assumes nothing.
 use mathlib.Core.Path.{sym, subst}
-use Prim.Native.Nat.{◌-◌}
 use native.Mathlib.Omega.{arith}
 use Rattle.checks.specs.States.{Idle}
 use Rattle.checks.proofs.Pairs.{fresh-idle, not-refused}

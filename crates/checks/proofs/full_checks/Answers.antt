@@ -1,5 +1,4 @@
 -- `full_checks` meets its contract: the state is sound, so no check says no. Assumes nothing.
-use Prim.Native.Nat.{◌-◌}
 use Rattle.rules.proofs.Tells.{clash}
 use Rattle.checks.proofs.full_checks.Goals as goal
 

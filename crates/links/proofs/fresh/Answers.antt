@@ -1,6 +1,5 @@
 -- `links::fresh` meets its contract. The loop's invariant: the ends of the first i lists are set, and every address has the mark. Assumes nothing.
 use mathlib.Core.Path.{◌≡◌}
-use Prim.Native.Nat.{◌-◌}
 use Rattle.rules.specs.Sizes.{LISTS, SLOTS}
 use Rattle.links.proofs.Empty.{emptied-start, emptied-step, emptied-held}
 use borrow.Author.Rules.{rules}

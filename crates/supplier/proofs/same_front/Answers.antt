@@ -1,7 +1,6 @@
 -- Two texts that begin alike, byte by byte. Assumes nothing.
 use borrow.Author.Rules.{rules}
 use mathlib.Core.Path.{refl}
-use Prim.Native.Nat.{◌-◌}
 use native.Mathlib.Omega.{arith}
 use Rattle.rules.proofs.Tells.{tells-no, tells-yes}
 use Rattle.supplier.proofs.Texts.{front-on, front-off, front-all}

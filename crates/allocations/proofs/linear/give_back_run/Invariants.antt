@@ -1,5 +1,5 @@
 use mathlib.Core.Path.{◌≡◌}
-use Prim.Native.Nat.{◌-◌, ◌≤◌}
+use Prim.Native.Nat.{◌≤◌}
 use Rattle.scopes.specs.View.{view}
 use Rattle.scopes.specs.Sound.{Sound}
 use Rattle.allocations.specs.Inner.{down_from, back_each}

@@ -1,4 +1,4 @@
-use Rattle.std.proofs.Common.{ℕ, ◌+◌, ◌-◌, ◌%◌, ◌^◌, sym, ap, ◌∙◌, subst, arith}
+use Rattle.std.proofs.Common.{ℕ, ◌+◌, ◌%◌, ◌^◌, sym, ap, ◌∙◌, subst, arith}
 use Rattle.slots.specs.Promises.{SeenSlots}
 use Rattle.bare.specs.Bare.{address_given, pairs_sum}
 use Rattle.bare.proofs.Runs.{Sound, removed-sound, inserted-sound, pair-shown, summed-start, summed_turn, summed-end}

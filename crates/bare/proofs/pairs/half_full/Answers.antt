@@ -1,4 +1,4 @@
-use Rattle.std.proofs.Common.{ℕ, ◌-◌, sym, ap, subst, arith, rules}
+use Rattle.std.proofs.Common.{ℕ, sym, ap, subst, arith, rules}
 use Rattle.slots.specs.Promises.{SeenSlots}
 use Rattle.bare.specs.Bare.{HALF, inserts, half_full}
 use Rattle.bare.proofs.Runs.{Sound, fresh-sound, inserted-sound, unchecked, inserts-turn, inserts-end}

@@ -1,4 +1,4 @@
-use Rattle.std.proofs.Common.{ℕ, ◌+◌, ◌-◌, ◌%◌, ◌^◌, sym, refl, ap, ◌∙◌, subst, arith, rules}
+use Rattle.std.proofs.Common.{ℕ, ◌+◌, ◌%◌, ◌^◌, sym, refl, ap, ◌∙◌, subst, arith, rules}
 use Rattle.bare.proofs.Runs.{Sound, removed-sound, inserted-sound, summed-start, summed_turn, summed-end, pair-next, pair-gives}
 use Rattle.bare.proofs.pairs.run_lent.Goals as goal
 

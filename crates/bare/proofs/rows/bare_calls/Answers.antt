@@ -1,4 +1,4 @@
-use Rattle.std.proofs.Common.{◌-◌, arith, rules}
+use Rattle.std.proofs.Common.{arith, rules}
 use Rattle.bare.proofs.Runs.{rows_start, rows-turn, rows_end}
 use Rattle.bare.proofs.rows.bare_calls.Goals as goal
 

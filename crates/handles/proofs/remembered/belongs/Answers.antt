@@ -3,7 +3,6 @@ use native.Mathlib.Omega.{arith}
 use mathlib.Core.Path.{sym, ◌∙◌}
 use borrow.Author.Rules.{rules}
 use Rattle.handles.proofs.NeedTables.{belongs-all, belongs-here, belongs-next, belongs-none, belongs-nobody}
-use Prim.Native.Nat.{◌-◌}
 use Rattle.handles.proofs.remembered.belongs.Goals as goal
 
 pub returns-then-not-is_remembered : goal.returns-then-not-is_remembered

@@ -1,7 +1,7 @@
 -- `zero` meets its contract: the cells before i are 0, the others as they were. Assumes nothing.
 use mathlib.Core.Path.{◌≡◌, refl, ap, ◌∙◌}
 use mathlib.Core.List.{List, ◌++◌}
-use Prim.Native.Nat.{ℕ, ◌-◌}
+use Prim.Native.Nat.{ℕ}
 use native.Mathlib.Omega.{arith}
 use lib.ListN.{drop, replicate, set, length-set}
 use borrow.Author.Rules.{rules}

@@ -1,5 +1,4 @@
 -- `obey` meets its contract. Assumes nothing.
-use Prim.Native.Nat.{◌-◌}
 use native.Mathlib.Omega.{arith}
 use Rattle.machine.specs.Entries.{entries_of}
 use Rattle.machine.proofs.Rows.{left, took, left_end}

@@ -1,6 +1,5 @@
 -- `lacking` meets its contract: what remains gives the same answer. Assumes nothing.
 use mathlib.Core.Path.{ap, sym, ◌∙◌}
-use Prim.Native.Nat.{◌-◌}
 use native.Mathlib.Omega.{arith}
 use Rattle.machine.specs.Survey.{lacking_of}
 use Rattle.machine.proofs.Rows.{took, left-start}

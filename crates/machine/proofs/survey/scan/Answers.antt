@@ -1,6 +1,5 @@
 -- `scan` meets its contract: what remains gives the same answer. Assumes nothing.
 use mathlib.Core.Path.{ap, sym, ◌∙◌}
-use Prim.Native.Nat.{◌-◌}
 use native.Mathlib.Omega.{arith}
 use Rattle.rules.specs.Sizes.{LINES}
 use Rattle.machine.specs.Survey.{survey_of}

@@ -1,6 +1,5 @@
 -- `read_part` meets its contract. Assumes nothing.
 use mathlib.Core.Path.{refl, ◌∙◌}
-use Prim.Native.Nat.{◌-◌}
 use native.Mathlib.Omega.{arith}
 use borrow.Author.Rules.{rules}
 use Rattle.recordings.proofs.Turns.{same_here, same_then, end-fed, end_kept}

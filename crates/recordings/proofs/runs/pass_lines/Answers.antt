@@ -1,5 +1,4 @@
 -- `pass_lines` meets its contract. Assumes nothing.
-use Prim.Native.Nat.{◌-◌}
 use native.Mathlib.Omega.{arith}
 use borrow.Author.Rules.{rules}
 use Rattle.recordings.proofs.Turns.{same_here}

@@ -1,5 +1,4 @@
 -- `replayed` meets its contract. Assumes nothing.
-use Prim.Native.Nat.{◌-◌}
 use native.Mathlib.Omega.{arith}
 use Rattle.records.proofs.Counting.{count_none, count-end, count-broken, in_row, count-more}
 use Rattle.records.proofs.tally.replayed.Goals as goal

@@ -1,5 +1,5 @@
 -- Whether a scope has a live child. Assumes nothing.
-use Rattle.std.proofs.Common.{◌≡◌, ◌-◌, Bool, ◌||◌, sym, refl, ap, ◌∙◌, arith, rules}
+use Rattle.std.proofs.Common.{◌≡◌, Bool, ◌||◌, sym, refl, ap, ◌∙◌, arith, rules}
 use Rattle.rules.specs.Sizes.{SCOPES}
 use Rattle.rules.specs.Notation.{first}
 use Rattle.scopes.specs.Leaves.{child_of}

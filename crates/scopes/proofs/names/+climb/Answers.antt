@@ -1,5 +1,5 @@
 -- A name is looked for in a scope, then in its parent: `left` falls. Assumes nothing.
-use Rattle.std.proofs.Common.{sym, subst, arith, rules}
+use Rattle.std.proofs.Common.{sym, subst, arith}
 use Rattle.scopes.specs.Leaves.{Spot}
 use Rattle.scopes.proofs.Lookups.{climb-zero, climb-none, climb-dead, climb-here, climb-up}
 use Rattle.scopes.proofs.names.+climb.Goals as goal

@@ -1,5 +1,5 @@
 -- A binding's place. Assumes nothing.
-use Rattle.std.proofs.Common.{◌-◌, ◌<◌, sym, refl, ◌∙◌, arith, rules}
+use Rattle.std.proofs.Common.{◌<◌, sym, refl, ◌∙◌, arith, rules}
 use Rattle.rules.specs.Sizes.{WORD}
 use Rattle.scopes.proofs.Bindings.{hit, miss, missed_more, spot-none, spot-some}
 use Rattle.scopes.proofs.names.find.Goals as goal

@@ -1,5 +1,5 @@
 -- The bindings of a scope go. Assumes nothing.
-use Rattle.std.proofs.Common.{◌-◌, ⊎_elim, arith}
+use Rattle.std.proofs.Common.{arith}
 use Rattle.scopes.proofs.Compacts.{passed_none, passed-keep, passed-drop, bindings-left, clear-left}
 use Rattle.scopes.proofs.names.forget_names.Goals as goal
 use Rattle.scopes.proofs.names.forget_names.Goals.{then-b-i, else-b-i}

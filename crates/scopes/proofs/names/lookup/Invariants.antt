@@ -1,4 +1,4 @@
-use Rattle.std.proofs.Common.{◌≡◌, ◌-◌, ◌≤◌, length}
+use Rattle.std.proofs.Common.{◌≡◌, ◌≤◌, length}
 use Rattle.rules.specs.Sizes.{SCOPES}
 use Rattle.scopes.specs.Leaves.{Noted}
 use Rattle.scopes.proofs.names.lookup.Given as goal

@@ -1,5 +1,5 @@
 -- Eight bindings, none of which is of a name. Assumes nothing.
-use Rattle.std.proofs.Common.{◌+◌, ◌-◌, sym, ◌∙◌, ⊎_elim, arith, rules}
+use Rattle.std.proofs.Common.{◌+◌, sym, ◌∙◌, arith, rules}
 use Rattle.rules.proofs.Tells.{clash}
 use Rattle.scopes.specs.Leaves.{binds}
 use Rattle.scopes.proofs.Tables.{more}

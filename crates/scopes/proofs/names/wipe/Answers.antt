@@ -1,5 +1,5 @@
 -- The places that are left over are wiped. Assumes nothing.
-use Rattle.std.proofs.Common.{ℕ, ◌-◌, subst, arith}
+use Rattle.std.proofs.Common.{ℕ, subst, arith}
 use Rattle.scopes.specs.Leaves.{Wiped}
 use Rattle.scopes.proofs.Compacts.{wiped-none, wiped-more}
 use Rattle.scopes.proofs.names.wipe.Goals as goal

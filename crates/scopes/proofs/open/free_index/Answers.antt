@@ -1,5 +1,5 @@
 -- The lowest index that is free. Assumes nothing.
-use Rattle.std.proofs.Common.{not, ap, ◌-◌, arith, rules}
+use Rattle.std.proofs.Common.{not, ap, arith, rules}
 use Rattle.scopes.specs.Leaves.{is_free}
 use Rattle.scopes.proofs.Tables.{more, lowest-here, lowest-none}
 use Rattle.scopes.proofs.open.free_index.Goals as goal

@@ -1,5 +1,5 @@
 -- The lowest live scope with a number. Assumes nothing.
-use Rattle.std.proofs.Common.{◌-◌, ⊎_elim, arith, rules, eq-eqb, ne_eqb}
+use Rattle.std.proofs.Common.{arith, rules, eq-eqb, ne_eqb}
 use Rattle.scopes.specs.Leaves.{has_number}
 use Rattle.scopes.proofs.Tables.{more, lowest-here, lowest-none}
 use Rattle.scopes.proofs.open.with_number.Goals as goal

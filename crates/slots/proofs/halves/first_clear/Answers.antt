@@ -1,7 +1,7 @@
 -- `halves::first_clear`. The loop's invariant: every slot from segment `from` up to half i is occupied. Assumes nothing.
 use borrow.Author.Rules.{rules, Fits-under}
 use mathlib.Core.Path.{refl, sym, ap, ◌∙◌}
-use Prim.Native.Nat.{ℕ, ◌+◌, ◌*◌, ◌-◌}
+use Prim.Native.Nat.{ℕ, ◌+◌, ◌*◌}
 use native.Mathlib.Omega.{arith}
 use borrow.Author.Tests.{ltb-true, ltb-false}
 use Rattle.rules.specs.Sizes.{SLOTS}

@@ -1,6 +1,6 @@
 use mathlib.Core.Path.{◌≡◌}
 use mathlib.Core.Bool.{false}
-use Prim.Native.Nat.{ℕ, ◌-◌, ◌*◌, ◌≤◌, ◌<◌}
+use Prim.Native.Nat.{ℕ, ◌*◌, ◌≤◌, ◌<◌}
 use Rattle.rules.specs.Sizes.{HALVES, SLOTS}
 use Rattle.slots.specs.Halves.{occ}
 use Rattle.slots.proofs.halves.past_greatest.Given as goal

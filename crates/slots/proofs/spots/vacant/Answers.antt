@@ -1,7 +1,6 @@
 -- The slots of a run are clear and below the room. Assumes nothing.
 use borrow.Author.Rules.{rules}
 use mathlib.Core.Path.{sym, ◌∙◌}
-use Prim.Native.Nat.{◌-◌}
 use native.Mathlib.Omega.{arith}
 use Rattle.rules.proofs.Tells.{clash, tells-no, tells-yes}
 use Rattle.slots.specs.Halves.{occ}

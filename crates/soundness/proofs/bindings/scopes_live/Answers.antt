@@ -1,6 +1,5 @@
 -- `bindings::scopes_live` meets its contract. Assumes nothing.
 use mathlib.Core.Bool.{false}
-use Prim.Native.Nat.{◌-◌}
 use native.Mathlib.Omega.{arith}
 use lib.ListN.{get_or-eq_default}
 use borrow.Author.Rules.{rules}

@@ -1,5 +1,4 @@
 -- `owners::owned_at` meets its contract. Assumes nothing.
-use Prim.Native.Nat.{◌-◌}
 use Rattle.soundness.proofs.Tested.{no}
 use Rattle.soundness.proofs.Places.{own-none, own-clear, own-dead, own-last}
 use Rattle.soundness.proofs.owners.owned_at.Goals as goal

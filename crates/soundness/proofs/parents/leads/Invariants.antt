@@ -1,5 +1,5 @@
 use mathlib.Core.Path.{◌≡◌}
-use Prim.Native.Nat.{◌-◌, ◌≤◌}
+use Prim.Native.Nat.{◌≤◌}
 use Rattle.rules.specs.Sizes.{SCOPES}
 use Rattle.scopes.specs.Sound.{LeadsToRoot}
 use Rattle.soundness.specs.Parts.{climb}

@@ -1,5 +1,5 @@
 -- `parents::learn` meets its contract. Assumes nothing.
-use Prim.Native.Nat.{◌-◌, ◌<◌}
+use Prim.Native.Nat.{◌<◌}
 use Rattle.rules.specs.Sizes.{SCOPES}
 use Rattle.soundness.proofs.Climbs.{leads-below, nearer, known_more}
 use Rattle.soundness.proofs.parents.learn.Goals as goal

@@ -1,4 +1,3 @@
-use Prim.Native.Nat.{◌-◌}
 use Rattle.scopes.specs.Sound.{LeadsToRoot}
 use Rattle.soundness.specs.Parts.{Known}
 use Rattle.soundness.proofs.parents.learn.Given as goal

@@ -1,5 +1,4 @@
 -- `parents::rooted` meets its contract. Assumes nothing.
-use Prim.Native.Nat.{◌-◌}
 use native.Mathlib.Omega.{arith}
 use borrow.Author.Rules.{rules}
 use Rattle.soundness.specs.Parts.{RootedAt}

@@ -1,5 +1,4 @@
 -- `parents::topped` meets its contract. Assumes nothing.
-use Prim.Native.Nat.{◌-◌}
 use Rattle.soundness.proofs.Tested.{no}
 use Rattle.soundness.proofs.Places.{top_in, top-out, top-none}
 use Rattle.soundness.proofs.parents.topped.Goals as goal

@@ -1,6 +1,5 @@
 -- `rings::marked_at` meets its contract. Assumes nothing.
 use mathlib.Core.Path.{◌∙◌}
-use Prim.Native.Nat.{◌-◌}
 use Rattle.rules.specs.Sizes.{LISTS, SLOTS}
 use Rattle.soundness.proofs.Tested.{no}
 use Rattle.soundness.proofs.Marked.{mark-wrong, mark-next, mark-last}

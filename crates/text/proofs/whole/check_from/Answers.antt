@@ -1,6 +1,5 @@
 -- `check_from` meets its contract: what remains gives the same answer. Assumes nothing.
 use mathlib.Core.Path.{refl, sym, ◌∙◌}
-use Prim.Native.Nat.{◌-◌}
 use native.Mathlib.Omega.{arith}
 use Rattle.rules.specs.Sizes.{base}
 use Rattle.text.proofs.Texts.{script-end, script-late, script-bad, script-on}

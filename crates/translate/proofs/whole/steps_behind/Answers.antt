@@ -1,6 +1,5 @@
 -- `steps_behind` meets its contract: `Going` holds before each frame, of the state that is made of the local arrays. Assumes nothing.
 use mathlib.Core.Path.{refl, sym, ◌∙◌}
-use Prim.Native.Nat.{◌-◌}
 use native.Mathlib.Omega.{arith}
 use borrow.Author.Rules.{rules}
 use Rattle.rules.specs.Sizes.{base}

@@ -1,5 +1,5 @@
 -- Clear slots go to a scope. Assumes nothing.
-use Rattle.std.proofs.Common.{◌+◌, ◌-◌, ◌<◌, max, refl, arith}
+use Rattle.std.proofs.Common.{◌+◌, ◌<◌, max, refl, arith}
 use Rattle.rules.specs.Sizes.{SLOTS}
 use Rattle.scopes.specs.View.{list_of}
 use Rattle.scopes.specs.Lent.{with_slots, numbers_of, roomy}
