@@ -3,7 +3,8 @@
 #![tactic(auto)]
 
 use programs::checking::respond_checking;
+use std::io;
 
-fn main() {
-    respond_checking();
+fn main(rt: HostRuntime) -> io::Result<()> {
+    respond_checking(&rt)
 }

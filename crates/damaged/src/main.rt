@@ -5,6 +5,7 @@
 use rules::{BINDINGS, CELLS, DANGLING, HALVES, SCOPES, SLOTS};
 use scopes::names::{ADDRESS_PART, NAME_PART, SCOPE_PART};
 use scopes::{NO_PARENT, OF_DANGLING, OF_NOBODY, Scopes};
+use std::io;
 
 // The ends of lists: root's, those of scopes 1, 2 and 9, the dangling one. Cells of `prev` are CELLS behind those of `next`.
 const ROOT: usize = SLOTS;
@@ -27,13 +28,14 @@ const TO_LOOSE: u16 = LOOSE as u16;
 
 const TO_NO_CELL: u16 = CELLS as u16;
 
-fn say(case: &[u8], s: Scopes) {
-    io::write_all(1, case);
+fn say(rt: &HostRuntime, case: &[u8], s: Scopes) -> io::Result<()> {
+    rt.write_all(case)?;
     if soundness::is_sound(s) {
-        io::write_all(1, b": sound\n");
+        rt.write_all(b": sound\n")?;
     } else {
-        io::write_all(1, b": 29\n");
+        rt.write_all(b": 29\n")?;
     }
+    Ok(())
 }
 
 // Root was closed: nothing is live.
@@ -108,118 +110,118 @@ fn listed(s: Scopes) -> Scopes {
 
 // ---- one place each
 
-fn half(case: &[u8], at: usize, to: u64) {
+fn half(rt: &HostRuntime, case: &[u8], at: usize, to: u64) -> io::Result<()> {
     let mut s = whole();
     if at < HALVES {
         s.halves[at] = to;
     }
-    say(case, s);
+    say(rt, case, s)
 }
 
-fn next(case: &[u8], at: usize, to: u16) {
+fn next(rt: &HostRuntime, case: &[u8], at: usize, to: u16) -> io::Result<()> {
     let mut s = whole();
     if at < CELLS {
         s.links[at] = to;
     }
-    say(case, s);
+    say(rt, case, s)
 }
 
-fn prev(case: &[u8], at: usize, to: u16) {
+fn prev(rt: &HostRuntime, case: &[u8], at: usize, to: u16) -> io::Result<()> {
     let mut s = whole();
     if at < CELLS {
         s.links[CELLS + at] = to;
     }
-    say(case, s);
+    say(rt, case, s)
 }
 
-fn owner(case: &[u8], at: usize, to: u8) {
+fn owner(rt: &HostRuntime, case: &[u8], at: usize, to: u8) -> io::Result<()> {
     let mut s = whole();
     if at < SLOTS {
         s.owner[at] = to;
     }
-    say(case, s);
+    say(rt, case, s)
 }
 
-fn live(case: &[u8], at: usize, to: bool) {
+fn live(rt: &HostRuntime, case: &[u8], at: usize, to: bool) -> io::Result<()> {
     let mut s = whole();
     if at < SCOPES {
         s.live[at] = to;
     }
-    say(case, s);
+    say(rt, case, s)
 }
 
-fn marked(case: &[u8], at: usize, to: bool) {
+fn marked(rt: &HostRuntime, case: &[u8], at: usize, to: bool) -> io::Result<()> {
     let mut s = whole();
     if at < SCOPES {
         s.dangled[at] = to;
     }
-    say(case, s);
+    say(rt, case, s)
 }
 
-fn parent(case: &[u8], at: usize, to: u8) {
+fn parent(rt: &HostRuntime, case: &[u8], at: usize, to: u8) -> io::Result<()> {
     let mut s = whole();
     if at < SCOPES {
         s.parent[at] = to;
     }
-    say(case, s);
+    say(rt, case, s)
 }
 
-fn number(case: &[u8], at: usize, to: u32) {
+fn number(rt: &HostRuntime, case: &[u8], at: usize, to: u32) -> io::Result<()> {
     let mut s = whole();
     if at < SCOPES {
         s.number[at] = to;
     }
-    say(case, s);
+    say(rt, case, s)
 }
 
-fn binding(case: &[u8], at: usize, to: u64) {
+fn binding(rt: &HostRuntime, case: &[u8], at: usize, to: u64) -> io::Result<()> {
     let mut s = whole();
     if at < BINDINGS {
         s.bindings[at] = to;
     }
-    say(case, s);
+    say(rt, case, s)
 }
 
-fn count(case: &[u8], to: usize) {
+fn count(rt: &HostRuntime, case: &[u8], to: usize) -> io::Result<()> {
     let mut s = whole();
     s.count = to;
-    say(case, s);
+    say(rt, case, s)
 }
 
-fn segments(case: &[u8], to: usize) {
+fn segments(rt: &HostRuntime, case: &[u8], to: usize) -> io::Result<()> {
     let mut s = whole();
     s.segments = to;
-    say(case, s);
+    say(rt, case, s)
 }
 
-fn head(case: &[u8], to: usize) {
+fn head(rt: &HostRuntime, case: &[u8], to: usize) -> io::Result<()> {
     let mut s = whole();
     s.head = to;
-    say(case, s);
+    say(rt, case, s)
 }
 
-fn top(case: &[u8], to: usize) {
+fn top(rt: &HostRuntime, case: &[u8], to: usize) -> io::Result<()> {
     let mut s = whole();
     s.top = to;
-    say(case, s);
+    say(rt, case, s)
 }
 
-fn size(case: &[u8], to: usize) {
+fn size(rt: &HostRuntime, case: &[u8], to: usize) -> io::Result<()> {
     let mut s = whole();
     s.size = to;
-    say(case, s);
+    say(rt, case, s)
 }
 
-fn counter(case: &[u8], to: u32) {
+fn counter(rt: &HostRuntime, case: &[u8], to: u32) -> io::Result<()> {
     let mut s = whole();
     s.counter = to;
-    say(case, s);
+    say(rt, case, s)
 }
 
 // ---- a few places
 
 // Slot 128 too is root's.
-fn past_segment(case: &[u8], segments: usize, size: usize) {
+fn past_segment(rt: &HostRuntime, case: &[u8], segments: usize, size: usize) -> io::Result<()> {
     let mut s = whole();
     s.halves[2] = 1;
     s.owner[128] = 0;
@@ -229,11 +231,11 @@ fn past_segment(case: &[u8], segments: usize, size: usize) {
     s.links[CELLS + ROOT] = 128;
     s.segments = segments;
     s.size = size;
-    say(case, s);
+    say(rt, case, s)
 }
 
 // Slots 8 and 9 of scope 2 lead to each other, and no list leads to them.
-fn apart(case: &[u8]) {
+fn apart(rt: &HostRuntime, case: &[u8]) -> io::Result<()> {
     let mut s = whole();
     s.halves[0] = 775;
     s.size = 10;
@@ -243,11 +245,11 @@ fn apart(case: &[u8]) {
     s.links[9] = 8;
     s.links[CELLS + 8] = 9;
     s.links[CELLS + 9] = 8;
-    say(case, s);
+    say(rt, case, s)
 }
 
 // Slot 0 goes over from root's list to the end of scope 2's.
-fn crosses(case: &[u8], to: u8) {
+fn crosses(rt: &HostRuntime, case: &[u8], to: u8) -> io::Result<()> {
     let mut s = whole();
     s.owner[0] = to;
     s.links[ROOT] = TO_ROOT;
@@ -256,44 +258,44 @@ fn crosses(case: &[u8], to: u8) {
     s.links[CELLS] = 2;
     s.links[0] = TO_SECOND;
     s.links[CELLS + SECOND] = 0;
-    say(case, s);
+    say(rt, case, s)
 }
 
 // Slot 0 is on root's list and on scope 2's.
-fn both(case: &[u8]) {
+fn both(rt: &HostRuntime, case: &[u8]) -> io::Result<()> {
     let mut s = whole();
     s.links[2] = 0;
     s.links[0] = TO_SECOND;
     s.links[CELLS + SECOND] = 0;
-    say(case, s);
+    say(rt, case, s)
 }
 
 // The dangling list holds 3, 4 and 3 again.
-fn repeats(case: &[u8]) {
+fn repeats(rt: &HostRuntime, case: &[u8]) -> io::Result<()> {
     let mut s = whole();
     s.links[3] = 4;
     s.links[4] = 3;
     s.links[CELLS + 4] = 3;
     s.links[CELLS + 3] = 4;
     s.owner[4] = OF_DANGLING;
-    say(case, s);
+    say(rt, case, s)
 }
 
 // Scope 4 is live, under this parent.
-fn scope_more(case: &[u8], under: u8) {
+fn scope_more(rt: &HostRuntime, case: &[u8], under: u8) -> io::Result<()> {
     let mut s = whole();
     s.live[4] = true;
     s.parent[4] = under;
-    say(case, s);
+    say(rt, case, s)
 }
 
-fn circle(case: &[u8]) {
+fn circle(rt: &HostRuntime, case: &[u8]) -> io::Result<()> {
     let mut s = whole();
     s.live[4] = true;
     s.live[5] = true;
     s.parent[4] = 5;
     s.parent[5] = 4;
-    say(case, s);
+    say(rt, case, s)
 }
 
 // Scope 2 is closed, but for what it owns and what it binds.
@@ -307,21 +309,21 @@ fn half_closed() -> Scopes {
 }
 
 // .. and but for what it owns.
-fn owns_closed(case: &[u8]) {
+fn owns_closed(rt: &HostRuntime, case: &[u8]) -> io::Result<()> {
     let mut s = half_closed();
     s.bindings[1] = 0;
     s.count = 1;
-    say(case, s);
+    say(rt, case, s)
 }
 
-fn closed_top(case: &[u8], to: usize) {
+fn closed_top(rt: &HostRuntime, case: &[u8], to: usize) -> io::Result<()> {
     let mut s = closed();
     s.top = to;
-    say(case, s);
+    say(rt, case, s)
 }
 
 // 64 scopes, each the child of the one before; the first has this parent.
-fn chain(case: &[u8], first: u8) {
+fn chain(rt: &HostRuntime, case: &[u8], first: u8) -> io::Result<()> {
     let mut s = closed();
     let mut i: usize = 1;
     while i < SCOPES {
@@ -332,132 +334,147 @@ fn chain(case: &[u8], first: u8) {
     s.live[0] = true;
     s.parent[0] = first;
     s.top = 63;
-    say(case, s);
+    say(rt, case, s)
 }
 
 // ---- 01's sentence, part by part
 
-fn slots() {
-    segments(b"L 32", 32);
-    segments(b"L 33", 33);
-    segments(b"L 0, slot 0 is occupied", 0);
-    segments(b"L 18446744073709551615", 18446744073709551615);
-    head(b"H 31", 31);
-    head(b"H 32", 32);
-    past_segment(b"slot 128 is occupied, L 2", 2, 129);
-    past_segment(b"slot 128 is occupied, L 1", 1, 129);
-    past_segment(b"slot 128 is occupied, size 128", 2, 128);
-    half(b"slot 4 is occupied and on no list", 0, 23);
+fn slots(rt: &HostRuntime) -> io::Result<()> {
+    segments(rt, b"L 32", 32)?;
+    segments(rt, b"L 33", 33)?;
+    segments(rt, b"L 0, slot 0 is occupied", 0)?;
+    segments(rt, b"L 18446744073709551615", 18446744073709551615)?;
+    head(rt, b"H 31", 31)?;
+    head(rt, b"H 32", 32)?;
+    past_segment(rt, b"slot 128 is occupied, L 2", 2, 129)?;
+    past_segment(rt, b"slot 128 is occupied, L 1", 1, 129)?;
+    past_segment(rt, b"slot 128 is occupied, size 128", 2, 128)?;
+    half(rt, b"slot 4 is occupied and on no list", 0, 23)?;
     half(
+        rt,
         b"slot 4095 is occupied and on no list",
         63,
         9223372036854775808,
-    );
-    half(b"slot 2 is on a list and clear", 0, 3);
-    half(b"slot 3 is dangling and occupied", 0, 15);
+    )?;
+    half(rt, b"slot 2 is on a list and clear", 0, 3)?;
+    half(rt, b"slot 3 is dangling and occupied", 0, 15)
 }
 
-fn lists() {
-    next(b"next of 0 is no cell", 0, TO_NO_CELL);
-    next(b"next of 0 is 65535", 0, 65535);
-    next(b"next of 0 is an end of another list", 0, TO_SECOND);
-    next(b"next of 0 is on another list", 0, 1);
-    next(b"next of 1 passes over 2", 1, TO_SECOND);
-    next(b"next of 2 is 1 again", 2, 1);
-    next(b"next of 2 is itself", 2, 2);
-    prev(b"prev of 2 is no cell", 2, TO_NO_CELL);
-    prev(b"prev of 2 is itself", 2, 2);
-    prev(b"prev of 0 is an end of another list", 0, TO_SECOND);
-    prev(b"last of scope 2 is 1", SECOND, 1);
-    next(b"first of scope 2 is 2", SECOND, 2);
-    next(b"first of scope 1 is 0", FIRST, 0);
-    next(b"first of scope 1 is the end of scope 9", FIRST, TO_NINTH);
-    prev(b"last of scope 9 is 9", NINTH, 9);
-    next(b"first of the dangling list is 0", LOOSE, 0);
-    next(b"slot 9 is on no list and has a next", 9, 10);
-    prev(b"slot 9 is on no list and has a prev", 9, 0);
-    apart(b"slots 8 and 9 lead to each other alone");
-    crosses(b"slot 0 is on scope 2's list", 2);
-    crosses(b"slot 0 is on scope 2's list, and root's by its owner", 0);
-    both(b"slot 0 is on root's list and on scope 2's");
-    repeats(b"the dangling list repeats");
+fn lists(rt: &HostRuntime) -> io::Result<()> {
+    next(rt, b"next of 0 is no cell", 0, TO_NO_CELL)?;
+    next(rt, b"next of 0 is 65535", 0, 65535)?;
+    next(rt, b"next of 0 is an end of another list", 0, TO_SECOND)?;
+    next(rt, b"next of 0 is on another list", 0, 1)?;
+    next(rt, b"next of 1 passes over 2", 1, TO_SECOND)?;
+    next(rt, b"next of 2 is 1 again", 2, 1)?;
+    next(rt, b"next of 2 is itself", 2, 2)?;
+    prev(rt, b"prev of 2 is no cell", 2, TO_NO_CELL)?;
+    prev(rt, b"prev of 2 is itself", 2, 2)?;
+    prev(rt, b"prev of 0 is an end of another list", 0, TO_SECOND)?;
+    prev(rt, b"last of scope 2 is 1", SECOND, 1)?;
+    next(rt, b"first of scope 2 is 2", SECOND, 2)?;
+    next(rt, b"first of scope 1 is 0", FIRST, 0)?;
+    next(
+        rt,
+        b"first of scope 1 is the end of scope 9",
+        FIRST,
+        TO_NINTH,
+    )?;
+    prev(rt, b"last of scope 9 is 9", NINTH, 9)?;
+    next(rt, b"first of the dangling list is 0", LOOSE, 0)?;
+    next(rt, b"slot 9 is on no list and has a next", 9, 10)?;
+    prev(rt, b"slot 9 is on no list and has a prev", 9, 0)?;
+    apart(rt, b"slots 8 and 9 lead to each other alone")?;
+    crosses(rt, b"slot 0 is on scope 2's list", 2)?;
+    crosses(
+        rt,
+        b"slot 0 is on scope 2's list, and root's by its owner",
+        0,
+    )?;
+    both(rt, b"slot 0 is on root's list and on scope 2's")?;
+    repeats(rt, b"the dangling list repeats")
 }
 
-fn owners() {
-    owner(b"owner of 0 is another scope", 0, 1);
-    owner(b"owner of 0 is a closed scope", 0, 9);
-    owner(b"owner of 0 is the dangling list", 0, 64);
-    owner(b"owner of 0 is none", 0, 65);
-    owner(b"owner of 0 is 255", 0, 255);
-    owner(b"owner of 3 is none", 3, 65);
-    owner(b"owner of 9 is root", 9, 0);
-    owner(b"owner of 9 is the dangling list", 9, 64);
-    owner(b"owner of 9 is 66", 9, 66);
-    say(b"scope 2 is closed, owns and binds", half_closed());
-    owns_closed(b"scope 2 is closed and owns");
+fn owners(rt: &HostRuntime) -> io::Result<()> {
+    owner(rt, b"owner of 0 is another scope", 0, 1)?;
+    owner(rt, b"owner of 0 is a closed scope", 0, 9)?;
+    owner(rt, b"owner of 0 is the dangling list", 0, 64)?;
+    owner(rt, b"owner of 0 is none", 0, 65)?;
+    owner(rt, b"owner of 0 is 255", 0, 255)?;
+    owner(rt, b"owner of 3 is none", 3, 65)?;
+    owner(rt, b"owner of 9 is root", 9, 0)?;
+    owner(rt, b"owner of 9 is the dangling list", 9, 64)?;
+    owner(rt, b"owner of 9 is 66", 9, 66)?;
+    say(rt, b"scope 2 is closed, owns and binds", half_closed())?;
+    owns_closed(rt, b"scope 2 is closed and owns")
 }
 
-fn parents() {
-    live(b"scope 1 isn't live, scope 2 is its child", 1, false);
-    live(b"root isn't live", 0, false);
-    live(b"scope 4 is live and has no parent", 4, true);
-    scope_more(b"scope 4 is live under root", 0);
-    scope_more(b"scope 4 is live under itself", 4);
-    scope_more(b"scope 4 is live under a closed scope", 9);
-    scope_more(b"scope 4 is live under 255", 255);
-    circle(b"scopes 4 and 5 are each other's parent");
-    parent(b"parent of 1 is 2, its child", 1, 2);
-    parent(b"root has a parent", 0, 1);
-    parent(b"root's parent is 65", 0, 65);
-    chain(b"64 scopes in one line", 64);
-    chain(b"64 scopes in a circle", 63);
-    number(b"root's number is 1", 0, 1);
-    number(b"two live scopes with one number", 1, 5);
-    marked(b"root is dangled", 0, true);
-    marked(b"scope 9 is closed and dangled", 9, true);
-    parent(b"scope 9 is closed and has a parent", 9, 0);
-    number(b"scope 9 is closed and has a number", 9, 1);
+fn parents(rt: &HostRuntime) -> io::Result<()> {
+    live(rt, b"scope 1 isn't live, scope 2 is its child", 1, false)?;
+    live(rt, b"root isn't live", 0, false)?;
+    live(rt, b"scope 4 is live and has no parent", 4, true)?;
+    scope_more(rt, b"scope 4 is live under root", 0)?;
+    scope_more(rt, b"scope 4 is live under itself", 4)?;
+    scope_more(rt, b"scope 4 is live under a closed scope", 9)?;
+    scope_more(rt, b"scope 4 is live under 255", 255)?;
+    circle(rt, b"scopes 4 and 5 are each other's parent")?;
+    parent(rt, b"parent of 1 is 2, its child", 1, 2)?;
+    parent(rt, b"root has a parent", 0, 1)?;
+    parent(rt, b"root's parent is 65", 0, 65)?;
+    chain(rt, b"64 scopes in one line", 64)?;
+    chain(rt, b"64 scopes in a circle", 63)?;
+    number(rt, b"root's number is 1", 0, 1)?;
+    number(rt, b"two live scopes with one number", 1, 5)?;
+    marked(rt, b"root is dangled", 0, true)?;
+    marked(rt, b"scope 9 is closed and dangled", 9, true)?;
+    parent(rt, b"scope 9 is closed and has a parent", 9, 0)?;
+    number(rt, b"scope 9 is closed and has a number", 9, 1)
 }
 
-fn tops() {
-    top(b"top 1", 1);
-    top(b"top is a closed scope", 9);
-    top(b"no top, scopes are live", 64);
-    top(b"top 65", 65);
-    closed_top(b"no top, nothing is live", 64);
-    closed_top(b"top 0, nothing is live", 0);
-    closed_top(b"top 65, nothing is live", 65);
+fn tops(rt: &HostRuntime) -> io::Result<()> {
+    top(rt, b"top 1", 1)?;
+    top(rt, b"top is a closed scope", 9)?;
+    top(rt, b"no top, scopes are live", 64)?;
+    top(rt, b"top 65", 65)?;
+    closed_top(rt, b"no top, nothing is live", 64)?;
+    closed_top(rt, b"top 0, nothing is live", 0)?;
+    closed_top(rt, b"top 65, nothing is live", 65)
 }
 
-fn names() {
-    binding(b"scope 3 binds 7", 1, 3 * SCOPE_PART + 7 * NAME_PART);
-    binding(b"root binds 7 twice", 1, 7 * NAME_PART + ADDRESS_PART);
-    binding(b"a closed scope binds", 1, 9 * SCOPE_PART + 7 * NAME_PART);
-    binding(b"scope 64 binds", 1, 64 * SCOPE_PART + 7 * NAME_PART);
-    binding(b"place 2 isn't empty, 2 bindings", 2, 1);
-    binding(b"place 255 isn't empty, 2 bindings", 255, NAME_PART);
-    count(b"1 binding, place 1 isn't empty", 1);
-    count(b"3 bindings, root binds 0", 3);
-    count(b"4 bindings, root binds 0 twice", 4);
-    count(b"257 bindings", 257);
-    count(b"18446744073709551615 bindings", 18446744073709551615);
+fn names(rt: &HostRuntime) -> io::Result<()> {
+    binding(rt, b"scope 3 binds 7", 1, 3 * SCOPE_PART + 7 * NAME_PART)?;
+    binding(rt, b"root binds 7 twice", 1, 7 * NAME_PART + ADDRESS_PART)?;
+    binding(
+        rt,
+        b"a closed scope binds",
+        1,
+        9 * SCOPE_PART + 7 * NAME_PART,
+    )?;
+    binding(rt, b"scope 64 binds", 1, 64 * SCOPE_PART + 7 * NAME_PART)?;
+    binding(rt, b"place 2 isn't empty, 2 bindings", 2, 1)?;
+    binding(rt, b"place 255 isn't empty, 2 bindings", 255, NAME_PART)?;
+    count(rt, b"1 binding, place 1 isn't empty", 1)?;
+    count(rt, b"3 bindings, root binds 0", 3)?;
+    count(rt, b"4 bindings, root binds 0 twice", 4)?;
+    count(rt, b"257 bindings", 257)?;
+    count(rt, b"18446744073709551615 bindings", 18446744073709551615)
 }
 
-fn sizes() {
-    size(b"size 3, below the dangling slot 3", 3);
-    size(b"size 2, slot 2 is occupied", 2);
-    size(b"size 4096", 4096);
-    size(b"size 4097", 4097);
-    counter(b"counter 4294967295", 4294967295);
+fn sizes(rt: &HostRuntime) -> io::Result<()> {
+    size(rt, b"size 3, below the dangling slot 3", 3)?;
+    size(rt, b"size 2, slot 2 is occupied", 2)?;
+    size(rt, b"size 4096", 4096)?;
+    size(rt, b"size 4097", 4097)?;
+    counter(rt, b"counter 4294967295", 4294967295)
 }
 
-fn main() {
-    say(b"the whole state", whole());
-    slots();
-    lists();
-    owners();
-    parents();
-    tops();
-    names();
-    sizes();
+fn main(rt: HostRuntime) -> io::Result<()> {
+    say(&rt, b"the whole state", whole())?;
+    slots(&rt)?;
+    lists(&rt)?;
+    owners(&rt)?;
+    parents(&rt)?;
+    tops(&rt)?;
+    names(&rt)?;
+    sizes(&rt)
 }

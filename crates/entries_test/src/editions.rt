@@ -4,124 +4,131 @@ use allocator::{addresses, any, linear};
 use needs::{AddressKind, Need};
 use scopes::{ScopeId, Scopes};
 use slots::{Place, SlotAddress};
+use std::io;
 
-fn called(words: &[u8], place: Place) {
-    show::text(words);
+fn called(rt: &HostRuntime, words: &[u8], place: Place) -> io::Result<()> {
+    show::text(rt, words)?;
     match place {
-        Place::ByHead => show::text(b", by head:"),
-        Place::Lowest => show::text(b", lowest:"),
-        Place::ExactlyAt(_) => show::text(b", exactly:"),
+        Place::ByHead => show::text(rt, b", by head:")?,
+        Place::Lowest => show::text(rt, b", lowest:")?,
+        Place::ExactlyAt(_) => show::text(rt, b", exactly:")?,
     }
+    Ok(())
 }
 
-fn alloc(s: Scopes, place: Place) -> Scopes {
+fn alloc(rt: &HostRuntime, s: Scopes, place: Place) -> io::Result<Scopes> {
     let o = addresses::alloc_by(s, place);
     let r = o.answer;
     let t = o.state;
-    called(b"alloc", place);
-    show::address(r);
-    call::state(t)
+    called(rt, b"alloc", place)?;
+    show::address(rt, r)?;
+    call::state(rt, t)
 }
 
-fn alloc_in(s: Scopes, i: ScopeId, place: Place) -> Scopes {
+fn alloc_in(rt: &HostRuntime, s: Scopes, i: ScopeId, place: Place) -> io::Result<Scopes> {
     let o = addresses::alloc_in_by(s, i, place);
     let r = o.answer;
     let t = o.state;
-    called(b"alloc in", place);
-    show::address(r);
-    call::state(t)
+    called(rt, b"alloc in", place)?;
+    show::address(rt, r)?;
+    call::state(rt, t)
 }
 
-fn linear(s: Scopes, n: u16, place: Place) -> Scopes {
+fn linear(rt: &HostRuntime, s: Scopes, n: u16, place: Place) -> io::Result<Scopes> {
     let o = linear::linear_by(s, n, place);
     let r = o.answer;
     let t = o.state;
-    called(b"linear", place);
-    show::run(r);
-    call::state(t)
+    called(rt, b"linear", place)?;
+    show::run(rt, r)?;
+    call::state(rt, t)
 }
 
-fn allocate(s: Scopes, need: Need, place: Place) -> Scopes {
+fn allocate(rt: &HostRuntime, s: Scopes, need: Need, place: Place) -> io::Result<Scopes> {
     let o = any::allocate_by(s, need, place);
     let r = o.answer;
     let d = o.need;
     let t = o.state;
-    called(b"allocate", place);
-    show::slot(r);
-    show::need(d);
-    call::state(t)
+    called(rt, b"allocate", place)?;
+    show::slot(rt, r)?;
+    show::need(rt, d)?;
+    call::state(rt, t)
 }
 
-fn allocate_output(s: Scopes, need: Need, place: Place) -> Scopes {
+fn allocate_output(rt: &HostRuntime, s: Scopes, need: Need, place: Place) -> io::Result<Scopes> {
     let o = any::allocate_output_by(s, need, place);
     let r = o.answer;
     let d = o.need;
     let t = o.state;
-    called(b"allocate output", place);
-    show::output(r);
-    show::need(d);
-    call::state(t)
+    called(rt, b"allocate output", place)?;
+    show::output(rt, r)?;
+    show::need(rt, d)?;
+    call::state(rt, t)
 }
 
 // Of slots 0 to 199 three are clear: 0, 1 and 130, which went back last. So L is 2 and H is 1.
-fn gaps() -> Scopes {
-    let mut t = call::linear(scopes::fresh(), 200);
-    t = call::free_run(t, 0, 2, AddressKind::Dangling, false);
-    call::free(t, 130, AddressKind::Dangling, false)
+fn gaps(rt: &HostRuntime) -> io::Result<Scopes> {
+    let mut t = call::linear(rt, scopes::fresh(), 200)?;
+    t = call::free_run(rt, t, 0, 2, AddressKind::Dangling, false)?;
+    call::free(rt, t, 130, AddressKind::Dangling, false)
 }
 
 // Each entry, from the same state.
-fn each(s: Scopes, place: Place) {
+fn each(rt: &HostRuntime, s: Scopes, place: Place) -> io::Result<()> {
     let root = call::id(0, 0);
-    let mut t = alloc(s, place);
-    t = alloc_in(s, root, place);
-    t = linear(s, 1, place);
-    t = linear(s, 2, place);
-    t = allocate(s, Need::Defer(root), place);
-    t = allocate_output(s, Need::Defer(root), place);
+    let mut t = alloc(rt, s, place)?;
+    t = alloc_in(rt, s, root, place)?;
+    t = linear(rt, s, 1, place)?;
+    t = linear(rt, s, 2, place)?;
+    t = allocate(rt, s, Need::Defer(root), place)?;
+    t = allocate_output(rt, s, Need::Defer(root), place)?;
+    Ok(())
 }
 
 // H becomes the segment of the lowest clear slot: the next one by the head is in it too.
-fn by_turns(s: Scopes) {
-    let mut t = alloc(s, Place::Lowest);
-    t = alloc(t, Place::ByHead);
-    t = alloc(t, Place::Lowest);
+fn by_turns(rt: &HostRuntime, s: Scopes) -> io::Result<()> {
+    let mut t = alloc(rt, s, Place::Lowest)?;
+    t = alloc(rt, t, Place::ByHead)?;
+    t = alloc(rt, t, Place::Lowest)?;
+    Ok(())
 }
 
 // Slots 0 and 4,095 are clear. Past slot 0 the head finds none; the lowest clear slot is missing only where all are held.
-fn full() {
-    let mut t = call::linear(scopes::fresh(), 4096);
-    t = call::free(t, 0, AddressKind::Dangling, false);
-    t = call::free(t, 4095, AddressKind::Dangling, false);
-    t = alloc(t, Place::ByHead);
-    t = alloc(t, Place::ByHead);
-    t = alloc(t, Place::Lowest);
-    t = alloc(t, Place::Lowest);
-    t = alloc_in(t, call::id(1, 1), Place::Lowest);
+fn full(rt: &HostRuntime) -> io::Result<()> {
+    let mut t = call::linear(rt, scopes::fresh(), 4096)?;
+    t = call::free(rt, t, 0, AddressKind::Dangling, false)?;
+    t = call::free(rt, t, 4095, AddressKind::Dangling, false)?;
+    t = alloc(rt, t, Place::ByHead)?;
+    t = alloc(rt, t, Place::ByHead)?;
+    t = alloc(rt, t, Place::Lowest)?;
+    t = alloc(rt, t, Place::Lowest)?;
+    t = alloc_in(rt, t, call::id(1, 1), Place::Lowest)?;
+    Ok(())
 }
 
 // Slot 2 is held, and so is 131, the second of a run from 130 on; there is no slot 4,096.
-fn no_room(s: Scopes) {
-    let mut t = alloc(s, Place::ExactlyAt(SlotAddress(2)));
-    t = linear(s, 2, Place::ExactlyAt(SlotAddress(130)));
-    t = alloc(s, Place::ExactlyAt(SlotAddress(4096)));
+fn no_room(rt: &HostRuntime, s: Scopes) -> io::Result<()> {
+    let mut t = alloc(rt, s, Place::ExactlyAt(SlotAddress(2)))?;
+    t = linear(rt, s, 2, Place::ExactlyAt(SlotAddress(130)))?;
+    t = alloc(rt, s, Place::ExactlyAt(SlotAddress(4096)))?;
+    Ok(())
 }
 
-pub fn all() {
-    let s = gaps();
-    each(s, Place::ByHead);
-    each(s, Place::Lowest);
-    each(s, Place::ExactlyAt(SlotAddress(0)));
-    by_turns(s);
-    no_room(s);
-    full();
+pub fn all(rt: &HostRuntime) -> io::Result<()> {
+    let s = gaps(rt)?;
+    each(rt, s, Place::ByHead)?;
+    each(rt, s, Place::Lowest)?;
+    each(rt, s, Place::ExactlyAt(SlotAddress(0)))?;
+    by_turns(rt, s)?;
+    no_room(rt, s)?;
+    full(rt)
 }
 
 // An unsound state, to each.
-pub fn turned_away(s: Scopes) {
-    let mut t = alloc(s, Place::Lowest);
-    t = alloc_in(t, call::id(0, 0), Place::Lowest);
-    t = linear(t, 0, Place::Lowest);
-    t = allocate(t, Need::Ignore, Place::Lowest);
-    t = allocate_output(t, Need::Ignore, Place::ByHead);
+pub fn turned_away(rt: &HostRuntime, s: Scopes) -> io::Result<()> {
+    let mut t = alloc(rt, s, Place::Lowest)?;
+    t = alloc_in(rt, t, call::id(0, 0), Place::Lowest)?;
+    t = linear(rt, t, 0, Place::Lowest)?;
+    t = allocate(rt, t, Need::Ignore, Place::Lowest)?;
+    t = allocate_output(rt, t, Need::Ignore, Place::ByHead)?;
+    Ok(())
 }

@@ -4,6 +4,7 @@ use allocator::{addresses, any, linear};
 use needs::{Address, AddressKind, Need, Run};
 use scopes::Scopes;
 use slots::SlotAddress;
+use std::io;
 
 fn at(a: u16, kind: AddressKind) -> Address {
     let slot = SlotAddress(a);
@@ -11,77 +12,78 @@ fn at(a: u16, kind: AddressKind) -> Address {
 }
 
 // What a need answers.
-fn asked(need: Need) {
-    show::text(b"output:");
-    show::output(any::output(need));
-    show::text(b"; addr:");
-    show::address(any::addr(need));
-    show::text(b"; try as addr:");
-    show::tried(any::try_as_addr(need));
-    show::text(b"\n");
+fn asked(rt: &HostRuntime, need: Need) -> io::Result<()> {
+    show::text(rt, b"output:")?;
+    show::output(rt, any::output(need))?;
+    show::text(rt, b"; addr:")?;
+    show::address(rt, any::addr(need))?;
+    show::text(rt, b"; try as addr:")?;
+    show::tried(rt, any::try_as_addr(need))?;
+    show::text(rt, b"\n")
 }
 
-fn taken(need: Need) {
+fn taken(rt: &HostRuntime, need: Need) -> io::Result<()> {
     let t = any::into_addr(need);
     let a = t.answer;
     let d = t.need;
-    show::text(b"into addr:");
-    show::address(a);
-    show::need(d);
-    show::text(b"\n");
+    show::text(rt, b"into addr:")?;
+    show::address(rt, a)?;
+    show::need(rt, d)?;
+    show::text(rt, b"\n")
 }
 
-fn assigned(need: Need, x: u16) {
+fn assigned(rt: &HostRuntime, need: Need, x: u16) -> io::Result<()> {
     let r = any::assign_from(need, SlotAddress(x));
     let c = r.copy;
     let d = r.need;
-    show::text(b"assign:");
-    show::copying(c);
-    show::need(d);
-    show::text(b"\n");
+    show::text(rt, b"assign:")?;
+    show::copying(rt, c)?;
+    show::need(rt, d)?;
+    show::text(rt, b"\n")
 }
 
-fn records() {
+fn records(rt: &HostRuntime) -> io::Result<()> {
     let first = SlotAddress(4);
     let kind = AddressKind::Dangling;
-    show::text(b"allocated:");
-    show::record(addresses::allocated(at(4, kind)));
-    show::text(b"; forget:");
-    show::record(addresses::forget(at(4, kind)));
+    show::text(rt, b"allocated:")?;
+    show::record(rt, addresses::allocated(at(4, kind)))?;
+    show::text(rt, b"; forget:")?;
+    show::record(rt, addresses::forget(at(4, kind)))?;
     let count = 3;
-    show::text(b"; forget run:");
-    show::run_record(linear::forget_run(Run { first, count, kind }));
-    show::text(b"\n");
+    show::text(rt, b"; forget run:")?;
+    show::run_record(rt, linear::forget_run(Run { first, count, kind }))?;
+    show::text(rt, b"\n")
 }
 
-pub fn alone() {
-    asked(Need::Defer(call::id(0, 0)));
-    asked(Need::Ignore);
-    asked(Need::Freed);
-    asked(Need::Address(at(4, AddressKind::Local)));
-    asked(Need::Address(at(4, AddressKind::Dangling)));
-    taken(Need::Address(at(4, AddressKind::Local)));
-    taken(Need::Ignore);
-    assigned(Need::Defer(call::id(0, 0)), 5);
-    assigned(Need::Address(at(4, AddressKind::Local)), 5);
-    assigned(Need::Address(at(4, AddressKind::Local)), 4);
-    assigned(Need::Ignore, 5);
-    records();
+pub fn alone(rt: &HostRuntime) -> io::Result<()> {
+    asked(rt, Need::Defer(call::id(0, 0)))?;
+    asked(rt, Need::Ignore)?;
+    asked(rt, Need::Freed)?;
+    asked(rt, Need::Address(at(4, AddressKind::Local)))?;
+    asked(rt, Need::Address(at(4, AddressKind::Dangling)))?;
+    taken(rt, Need::Address(at(4, AddressKind::Local)))?;
+    taken(rt, Need::Ignore)?;
+    assigned(rt, Need::Defer(call::id(0, 0)), 5)?;
+    assigned(rt, Need::Address(at(4, AddressKind::Local)), 5)?;
+    assigned(rt, Need::Address(at(4, AddressKind::Local)), 4)?;
+    assigned(rt, Need::Ignore, 5)?;
+    records(rt)
 }
 
-pub fn with_state(s: Scopes) {
+pub fn with_state(rt: &HostRuntime, s: Scopes) -> io::Result<()> {
     let root = call::id(0, 0);
-    let mut t = call::allocate(s, Need::Defer(root));
-    t = call::allocate_output(t, Need::Defer(call::id(1, 1)));
-    t = call::allocate(t, Need::Address(at(0, AddressKind::Dangling)));
-    t = call::allocate(t, Need::Freed);
-    t = call::allocate_output(t, Need::Ignore);
-    t = call::free_need(t, Need::Address(at(0, AddressKind::Scope(root))));
-    t = call::free_need(t, Need::Address(at(0, AddressKind::Local)));
-    t = call::free_need(t, Need::Address(at(0, AddressKind::Assigned)));
-    t = call::free_need(t, Need::Defer(root));
-    t = call::linear(t, 4096);
-    t = call::alloc(t);
-    t = call::free_run(t, 0, 4096, AddressKind::Dangling, true);
-    t = call::drain_four(t);
+    let mut t = call::allocate(rt, s, Need::Defer(root))?;
+    t = call::allocate_output(rt, t, Need::Defer(call::id(1, 1)))?;
+    t = call::allocate(rt, t, Need::Address(at(0, AddressKind::Dangling)))?;
+    t = call::allocate(rt, t, Need::Freed)?;
+    t = call::allocate_output(rt, t, Need::Ignore)?;
+    t = call::free_need(rt, t, Need::Address(at(0, AddressKind::Scope(root))))?;
+    t = call::free_need(rt, t, Need::Address(at(0, AddressKind::Local)))?;
+    t = call::free_need(rt, t, Need::Address(at(0, AddressKind::Assigned)))?;
+    t = call::free_need(rt, t, Need::Defer(root))?;
+    t = call::linear(rt, t, 4096)?;
+    t = call::alloc(rt, t)?;
+    t = call::free_run(rt, t, 0, 4096, AddressKind::Dangling, true)?;
+    t = call::drain_four(rt, t)?;
+    Ok(())
 }

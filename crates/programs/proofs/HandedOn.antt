@@ -9,7 +9,7 @@ use lib.ListN.{length, take, length-append}
 use Rattle.rules.specs.Sizes.{base, TEXT, LONGER}
 use Rattle.rules.specs.Entries.{ee_text}
 use Rattle.rules.specs.Suppliers.{checker_prints}
-use Rattle.io.specs.Counts.{IsPrefixLen}
+use Rattle.input.specs.Counts.{IsPrefixLen}
 use Rattle.input.specs.declared.Input.{Input}
 use Rattle.input.specs.declared.Input.TheVariants.{Whole, Full, Failed}
 use Rattle.answers.specs.Prints.{Prints}

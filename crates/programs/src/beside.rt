@@ -1,12 +1,16 @@
 // The running program beside a recording: its first argument names the list, its second the recording.
-ghost use Rattle.io.specs.Counts.{IsPrefixLen};
+ghost use Rattle.std.specs.Prelude.{IfOk};
+ghost use Rattle.input.specs.Counts.{IsPrefixLen};
 ghost use Rattle.programs.specs.Printed.{ReadInto, Answers};
 ghost use Rattle.programs.specs.Recorded.{ReadBy, with_samples, AnswersBeside};
 
 use answers::recorded;
-use input::{Input, open_argument, read_argument};
+use input::{Input, fail, open_argument, read_argument};
 use recordings::read_recording;
 use rules::{LINES, LONGER, TEXT};
+use std::fs::File;
+use std::io;
+use std::io::Read;
 
 // Bytes of as many samples as the longest list takes.
 const ROOM: usize = 2 * LINES;
@@ -25,55 +29,50 @@ pub enum Recorded {
 }
 
 // Reads part after part, whatever the recording's size.
-fn read_parts(fd: i32, samples: &mut [u8]) -> Recorded
-    ensures { ReadBy result samples.old samples.new }
+fn read_parts(file: &mut File, samples: &mut [u8]) -> io::Result<Recorded>
+    ensures { IfOk result (λ r. ReadBy r samples.old samples.new) }
 {
     let mut part = [0u8; 65536];
     let mut state: u64 = 0;
     let mut bytes: u64 = 0;
     while bytes < BYTES {
-        let got = libc::read(fd, &mut part);
-        if got < 0 {
-            return Recorded::Failed;
-        }
-        let n = io::count(got, &part);
+        let n = file.read(&mut part)?;
         if n == 0 {
-            return Recorded::State(state);
+            return Ok(Recorded::State(state));
         }
         state = read_recording(state, samples, &part[..n]);
         if MALFORMED <= state {
-            return Recorded::State(state);
+            return Ok(Recorded::State(state));
         }
         bytes += n as u64;
     }
-    Recorded::State(state)
+    Ok(Recorded::State(state))
 }
 
 // The recording that the second argument names, and a word on standard error where it can't be read.
-fn read_file(samples: &mut [u8]) -> Recorded
+fn read_file(rt: &HostRuntime, samples: &mut [u8]) -> Recorded
     ensures { ReadBy result samples.old samples.new }
 {
-    let fd = open_argument(2);
-    if fd < 0 {
+    let Some(mut file) = open_argument(rt, 2) else {
         return Recorded::Failed;
+    };
+    match read_parts(&mut file, samples) {
+        Ok(r) => r,
+        Err(e) => {
+            fail(rt, b"recording", e);
+            Recorded::Failed
+        }
     }
-    let r = read_parts(fd, samples);
-    match r {
-        Recorded::Failed => os::fail(b"recording"),
-        Recorded::State(_) => {}
-    }
-    libc::close(fd);
-    r
 }
 
 // The recording, but where the list could not be read: it may be long, and nothing is printed.
-fn read_beside(list: Input, samples: &mut [u8]) -> Recorded
+fn read_beside(rt: &HostRuntime, list: Input, samples: &mut [u8]) -> Recorded
     ensures { ReadBy result samples.old samples.new }
 {
     match list {
         Input::Failed => Recorded::Failed,
-        Input::Full => read_file(samples),
-        Input::Whole(_) => read_file(samples),
+        Input::Full => read_file(rt, samples),
+        Input::Whole(_) => read_file(rt, samples),
     }
 }
 
@@ -117,12 +116,12 @@ fn answered(
     }
 }
 
-pub fn respond_beside() {
+pub fn respond_beside(rt: &HostRuntime) -> io::Result<()> {
     let mut list = [0u8; LONGER];
-    let read = read_argument(1, &mut list);
+    let read = read_argument(rt, 1, &mut list);
     let mut samples = [0u8; ROOM];
-    let recording = read_beside(read, &mut samples);
+    let recording = read_beside(rt, read, &mut samples);
     let mut out = [0u8; TEXT];
     let n = answered(&list, read, recording, &samples, &mut out);
-    io::write_all(1, &out[..n]);
+    rt.write_all(&out[..n])
 }

@@ -1,12 +1,13 @@
 // The checking program: its first argument names the script, its second the list.
 ghost use Rattle.rules.specs.Sizes.{base};
 ghost use Rattle.rules.specs.Suppliers.{checker_prints};
-ghost use Rattle.io.specs.Counts.{IsPrefixLen};
+ghost use Rattle.input.specs.Counts.{IsPrefixLen};
 ghost use Rattle.programs.specs.Printed.{ReadInto, Answers, AnswersBoth};
 
 use answers::verdict::checked;
 use input::{Input, read_argument};
 use rules::{LONGER, TEXT};
+use std::io;
 
 // What is printed beside a script that was read, by what was read of the list.
 fn beside_script(script: &[u8], list: &[u8; LONGER], read: Input, out: &mut [u8; TEXT]) -> usize
@@ -47,12 +48,12 @@ fn answered(
     }
 }
 
-pub fn respond_checking() {
+pub fn respond_checking(rt: &HostRuntime) -> io::Result<()> {
     let mut script = [0u8; LONGER];
-    let first = read_argument(1, &mut script);
+    let first = read_argument(rt, 1, &mut script);
     let mut list = [0u8; LONGER];
-    let second = read_argument(2, &mut list);
+    let second = read_argument(rt, 2, &mut list);
     let mut out = [0u8; TEXT];
     let n = answered(&script, first, &list, second, &mut out);
-    io::write_all(1, &out[..n]);
+    rt.write_all(&out[..n])
 }

@@ -2,12 +2,13 @@
 #![tactic(auto)]
 
 ghost use Rattle.answers.specs.Prints.{Prints};
-ghost use Rattle.io.specs.Counts.{IsPrefixLen};
+ghost use Rattle.input.specs.Counts.{IsPrefixLen};
 ghost use Rattle.programs.specs.Printed.{printed_by, ReadInto, Answers};
 
 use answers::{ran, translated};
 use input::{Input, read_input};
 use rules::{LONGER, TEXT};
+use std::io;
 
 pub mod beside; // the running program with a recording
 pub mod checking; // the checking program
@@ -43,10 +44,10 @@ fn answered(program: Program, text: &[u8; LONGER], read: Input, out: &mut [u8; T
     }
 }
 
-pub fn respond(program: Program) {
+pub fn respond(rt: &HostRuntime, program: Program) -> io::Result<()> {
     let mut text = [0u8; LONGER];
-    let read = read_input(&mut text);
+    let read = read_input(rt, &mut text);
     let mut out = [0u8; TEXT];
     let n = answered(program, &text, read, &mut out);
-    io::write_all(1, &out[..n]);
+    rt.write_all(&out[..n])
 }

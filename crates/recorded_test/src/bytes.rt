@@ -1,28 +1,31 @@
 // Bytes shown, held against each other, and mixed into one number; numbers that look like chance.
 
-fn show_byte(b: u8) {
-    io::print_hex(1, b as u64, 2);
+use std::io;
+
+fn show_byte(rt: &HostRuntime, b: u8) -> io::Result<()> {
+    print!(rt; "{:02x}", b as u64)
 }
 
 // After a blank.
-pub fn show_hex(bytes: &[u8]) {
-    io::write_all(1, b" ");
+pub fn show_hex(rt: &HostRuntime, bytes: &[u8]) -> io::Result<()> {
+    rt.write_all(b" ")?;
     let mut i: usize = 0;
     while i < bytes.len() {
-        show_byte(bytes[i]);
+        show_byte(rt, bytes[i])?;
         i += 1;
     }
+    Ok(())
 }
 
 // After a blank, in sixteen digits: of a state four for the column, four for the value, eight for the line.
-pub fn show_state(n: u64) {
-    io::write_all(1, b" ");
-    io::print_hex(1, n, 16);
+pub fn show_state(rt: &HostRuntime, n: u64) -> io::Result<()> {
+    rt.write_all(b" ")?;
+    print!(rt; "{n:016x}")
 }
 
-pub fn show_count(words: &[u8], n: u64) {
-    io::write_all(1, words);
-    io::print_decimal(1, n);
+pub fn show_count(rt: &HostRuntime, words: &[u8], n: u64) -> io::Result<()> {
+    rt.write_all(words)?;
+    rt.print(n)
 }
 
 pub fn same(a: &[u8], b: &[u8]) -> bool {

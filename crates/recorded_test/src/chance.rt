@@ -4,6 +4,7 @@ ghost use Rattle.std.specs.Prelude.{◌<◌, ◌≤◌};
 use crate::bytes::{draw, mix_bytes, same, show_count, show_state};
 use crate::cuts::read_between;
 use recordings::read_recording;
+use std::io;
 use std::num::wrapping_add_u64;
 use text::writing::put_line;
 
@@ -59,37 +60,38 @@ fn read_parts(samples: &mut [u8], recording: &[u8], seed: u64) -> Parts {
     Parts { state, count }
 }
 
-fn show_parts(label: &[u8], seed: u64, recording: &[u8]) {
+fn show_parts(rt: &HostRuntime, label: &[u8], seed: u64, recording: &[u8]) -> io::Result<()> {
     let mut whole = [0x55u8; 1501];
     let mut kept = [0x55u8; 1501];
     let state = read_recording(0, &mut whole, recording);
     let parts = read_parts(&mut kept, recording, seed);
-    show_count(label, seed);
-    show_state(state);
-    show_state(mix_bytes(1, &whole));
-    show_count(b" parts ", parts.count);
+    show_count(rt, label, seed)?;
+    show_state(rt, state)?;
+    show_state(rt, mix_bytes(1, &whole))?;
+    show_count(rt, b" parts ", parts.count)?;
     if state == parts.state {
         if same(&whole, &kept) {
-            io::write_all(1, b" agree\n");
-            return;
+            rt.write_all(b" agree\n")?;
+            return Ok(());
         }
     }
-    io::write_all(1, b" differ\n");
+    rt.write_all(b" differ\n")
 }
 
 // Whole, and with a byte damaged.
-fn long_recording(seed: u64) {
+fn long_recording(rt: &HostRuntime, seed: u64) -> io::Result<()> {
     let mut recording = [0u8; 7000];
     fill(&mut recording, seed);
-    show_parts(b"whole ", seed, &recording);
+    show_parts(rt, b"whole ", seed, &recording)?;
     damage(&mut recording, seed);
-    show_parts(b"damaged ", seed, &recording);
+    show_parts(rt, b"damaged ", seed, &recording)
 }
 
-pub fn long_recordings() {
+pub fn long_recordings(rt: &HostRuntime) -> io::Result<()> {
     let mut seed: u64 = 1;
     while seed < 9 {
-        long_recording(seed);
+        long_recording(rt, seed)?;
         seed += 1;
     }
+    Ok(())
 }

@@ -7,6 +7,7 @@ use crate::tally::{Outcome, Tally, counted, none, show_tally};
 use cases::put;
 use machine::recorded::run_recorded;
 use recordings::read_recording;
+use std::io;
 
 // 24 at line 1, as `run_recorded` answers it.
 const MALFORMED: u64 = 24 * 4294967296 + 1;
@@ -63,13 +64,14 @@ fn all_bytes(column: usize) -> Tally
     t
 }
 
-pub fn every_column() {
+pub fn every_column(rt: &HostRuntime) -> io::Result<()> {
     let mut column: usize = 0;
     while column < 7 {
         let t = all_bytes(column);
-        show_count(b"column ", column as u64);
-        show_tally(t);
-        io::write_all(1, b"\n");
+        show_count(rt, b"column ", column as u64)?;
+        show_tally(rt, t)?;
+        rt.write_all(b"\n")?;
         column += 1;
     }
+    Ok(())
 }

@@ -3,6 +3,7 @@ ghost use Rattle.std.specs.Prelude.{◌≤◌, length};
 
 use crate::bytes::{same, show_count, show_hex, show_state};
 use recordings::read_recording;
+use std::io;
 use std::num::wrapping_add_u64;
 
 #[derive(Clone, Copy)]
@@ -101,28 +102,28 @@ fn all_cuts(recording: &[u8]) -> Ways {
 }
 
 // What one part comes to, and how many ways come to the same.
-fn cut(label: &[u8], recording: &[u8]) {
+fn cut(rt: &HostRuntime, label: &[u8], recording: &[u8]) -> io::Result<()> {
     let mut whole = [0x55u8; 5];
     let state = read_recording(0, &mut whole, recording);
     let t = all_cuts(recording);
-    io::write_all(1, label);
-    show_state(state);
-    show_hex(&whole);
-    show_count(b" agree ", t.agree);
-    show_count(b" differ ", t.differ);
-    io::write_all(1, b"\n");
+    rt.write_all(label)?;
+    show_state(rt, state)?;
+    show_hex(rt, &whole)?;
+    show_count(rt, b" agree ", t.agree)?;
+    show_count(rt, b" differ ", t.differ)?;
+    rt.write_all(b"\n")
 }
 
-pub fn every_cut() {
-    cut(b"none   ", b"");
-    cut(b"one    ", b"30beef\n");
-    cut(b"two    ", b"300001\n30beef\n");
-    cut(b"three  ", b"300001\n30beef\n30a2c9\n");
-    cut(b"torn   ", b"300001\n30be");
-    cut(b"no LF  ", b"300001\n30beef");
-    cut(b"upper  ", b"300001\n30beEf\n300002\n");
-    cut(b"CR LF  ", b"300001\r\n300002\r\n");
-    cut(b"blank  ", b"300001\n\n300002\n");
-    cut(b"long   ", b"3000010\n300002\n");
-    cut(b"opcode ", b"300001\n310001\n300002\n");
+pub fn every_cut(rt: &HostRuntime) -> io::Result<()> {
+    cut(rt, b"none   ", b"")?;
+    cut(rt, b"one    ", b"30beef\n")?;
+    cut(rt, b"two    ", b"300001\n30beef\n")?;
+    cut(rt, b"three  ", b"300001\n30beef\n30a2c9\n")?;
+    cut(rt, b"torn   ", b"300001\n30be")?;
+    cut(rt, b"no LF  ", b"300001\n30beef")?;
+    cut(rt, b"upper  ", b"300001\n30beEf\n300002\n")?;
+    cut(rt, b"CR LF  ", b"300001\r\n300002\r\n")?;
+    cut(rt, b"blank  ", b"300001\n\n300002\n")?;
+    cut(rt, b"long   ", b"3000010\n300002\n")?;
+    cut(rt, b"opcode ", b"300001\n310001\n300002\n")
 }

@@ -7,6 +7,7 @@ use cuts::every_cut;
 use many::long_lists;
 use rows::all_runs;
 use states::all_states;
+use std::io;
 
 pub mod bytes; // bytes shown, held against each other, and mixed into one number
 pub mod tally; // how many came to what
@@ -18,11 +19,11 @@ pub mod columns; // each byte in each column of a line
 pub mod chance; // long recordings in parts by chance
 pub mod states; // numbers handed in as states
 
-fn main() {
-    all_runs();
-    long_lists();
-    every_cut();
-    every_column();
-    long_recordings();
-    all_states();
+fn main(rt: HostRuntime) -> io::Result<()> {
+    all_runs(&rt)?;
+    long_lists(&rt)?;
+    every_cut(&rt)?;
+    every_column(&rt)?;
+    long_recordings(&rt)?;
+    all_states(&rt)
 }

@@ -5,9 +5,18 @@ use crate::bytes::{show_hex, show_state};
 use crate::cuts::read_between;
 use cases::{put, put_lines, say};
 use machine::recorded::run_recorded;
+use std::io;
 
 // The list's first bytes.
-fn run_front(label: &[u8], list: &[u8], end: usize, state: u64, samples: &[u8], m: usize)
+fn run_front(
+    rt: &HostRuntime,
+    label: &[u8],
+    list: &[u8],
+    end: usize,
+    state: u64,
+    samples: &[u8],
+    m: usize,
+) -> io::Result<()>
     requires { (end ≤ length list.now) × (m ≤ length samples.now) }
 {
     let mut cells = [0x55u8; 2];
@@ -22,17 +31,25 @@ fn run_front(label: &[u8], list: &[u8], end: usize, state: u64, samples: &[u8], 
         &mut out,
         &mut left,
     );
-    io::write_all(1, label);
-    say(r, &out, 7);
-    io::write_all(1, b" >");
-    show_state(state);
-    show_hex(&cells);
-    show_hex(&left);
-    io::write_all(1, b"\n");
+    rt.write_all(label)?;
+    say(rt, r, &out, 7)?;
+    rt.write_all(b" >")?;
+    show_state(rt, state)?;
+    show_hex(rt, &cells)?;
+    show_hex(rt, &left)?;
+    rt.write_all(b"\n")
 }
 
 // 2,048 lines and a tail, beside n samples 0001 and a last one; m bytes of samples are lent.
-fn many(label: &[u8], line: &[u8], tail: &[u8], n: usize, last: &[u8], m: usize)
+fn many(
+    rt: &HostRuntime,
+    label: &[u8],
+    line: &[u8],
+    tail: &[u8],
+    n: usize,
+    last: &[u8],
+    m: usize,
+) -> io::Result<()>
     requires { m ≤ 4096 }
 {
     let mut list = [0u8; 14400];
@@ -43,13 +60,45 @@ fn many(label: &[u8], line: &[u8], tail: &[u8], n: usize, last: &[u8], m: usize)
     let v = put_lines(&mut recording, 0, b"300001\n", n);
     let e = put(&mut recording, v, last);
     let state = read_between(0, &mut samples, &recording, 0, e);
-    run_front(label, &list, end, state, &samples, m);
+    run_front(rt, label, &list, end, state, &samples, m)
 }
 
-pub fn long_lists() {
-    many(b"2048  ", b"140000\n", b"900001\n", 2047, b"30beef\n", 4096);
-    many(b"2048+ ", b"140000\n", b"900001\n", 2048, b"30beef\n", 4096);
-    many(b"2048- ", b"140000\n", b"900001\n", 2046, b"30beef\n", 4096);
-    many(b"2048s ", b"140000\n", b"900001\n", 2047, b"30beef\n", 4095);
-    many(b"2,20  ", b"140001\n", b"0f0000\n900001\n", 0, b"x", 0);
+pub fn long_lists(rt: &HostRuntime) -> io::Result<()> {
+    many(
+        rt,
+        b"2048  ",
+        b"140000\n",
+        b"900001\n",
+        2047,
+        b"30beef\n",
+        4096,
+    )?;
+    many(
+        rt,
+        b"2048+ ",
+        b"140000\n",
+        b"900001\n",
+        2048,
+        b"30beef\n",
+        4096,
+    )?;
+    many(
+        rt,
+        b"2048- ",
+        b"140000\n",
+        b"900001\n",
+        2046,
+        b"30beef\n",
+        4096,
+    )?;
+    many(
+        rt,
+        b"2048s ",
+        b"140000\n",
+        b"900001\n",
+        2047,
+        b"30beef\n",
+        4095,
+    )?;
+    many(rt, b"2,20  ", b"140001\n", b"0f0000\n900001\n", 0, b"x", 0)
 }

@@ -5,6 +5,7 @@ use crate::bytes::{show_hex, show_state};
 use cases::{say, show};
 use machine::recorded::run_recorded;
 use recordings::read_recording;
+use std::io;
 
 // Lends the first m bytes of samples.
 fn read(state: u64, samples: &mut [u8], m: usize, recording: &[u8]) -> u64
@@ -44,6 +45,7 @@ fn run(
 // The state before the recording, and so many bytes lent: m of 9 of samples, c of 9 of cells and l of 5 for the number left over, which hold
 // 55, and o of 17 of output, which hold dots.
 pub fn beside(
+    rt: &HostRuntime,
     label: &[u8],
     list: &[u8],
     state: u64,
@@ -52,7 +54,7 @@ pub fn beside(
     c: usize,
     o: usize,
     l: usize,
-)
+) -> io::Result<()>
     requires { (m ≤ 9) × (c ≤ 9) × (o ≤ 17) × (l ≤ 5) }
 {
     let mut samples = [0x55u8; 9];
@@ -63,14 +65,14 @@ pub fn beside(
     let r = run(
         list, next, &samples, m, &mut cells, c, &mut out, o, &mut left, l,
     );
-    io::write_all(1, label);
-    say(r, &out, 17);
-    io::write_all(1, b" >");
-    show_state(next);
-    show_hex(&samples);
-    show_hex(&cells);
-    io::write_all(1, b" ");
-    show(&out, 0, 17);
-    show_hex(&left);
-    io::write_all(1, b"\n");
+    rt.write_all(label)?;
+    say(rt, r, &out, 17)?;
+    rt.write_all(b" >")?;
+    show_state(rt, next)?;
+    show_hex(rt, &samples)?;
+    show_hex(rt, &cells)?;
+    rt.write_all(b" ")?;
+    show(rt, &out, 0, 17)?;
+    show_hex(rt, &left)?;
+    rt.write_all(b"\n")
 }

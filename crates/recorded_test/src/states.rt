@@ -4,6 +4,7 @@ ghost use Rattle.std.specs.Prelude.{◌<◌};
 use crate::bytes::{draw, mix, mix_bytes, same, show_count, show_state};
 use crate::tally::{Outcome, Tally, counted, none, show_tally};
 use recordings::read_recording;
+use std::io;
 
 // What they came to, and all answers and samples, mixed.
 #[derive(Clone, Copy)]
@@ -56,12 +57,12 @@ fn handed_in(before: Answers, n: u64) -> Answers {
     }
 }
 
-fn show_answers(a: Answers) {
+fn show_answers(rt: &HostRuntime, a: Answers) -> io::Result<()> {
     let tally = a.tally;
     let digest = a.digest;
-    show_tally(tally);
-    show_state(digest);
-    io::write_all(1, b"\n");
+    show_tally(rt, tally)?;
+    show_state(rt, digest)?;
+    rt.write_all(b"\n")
 }
 
 fn state(column: u64, value: u64, line: u64) -> u64
@@ -71,7 +72,7 @@ fn state(column: u64, value: u64, line: u64) -> u64
 }
 
 // Of three numbers one is any, one has a low column, and one a low column, a low value and a low line.
-fn by_chance() {
+fn by_chance(rt: &HostRuntime) -> io::Result<()> {
     let mut t = no_answers();
     let mut x: u64 = 29;
     let mut i: usize = 0;
@@ -84,8 +85,8 @@ fn by_chance() {
         t = handed_in(t, state(x % 9, (x >> 16) % 300, (x >> 32) % 10));
         i += 1;
     }
-    io::write_all(1, b"by chance");
-    show_answers(t);
+    rt.write_all(b"by chance")?;
+    show_answers(rt, t)
 }
 
 // The first two lines and the last two.
@@ -109,16 +110,17 @@ fn of_column(column: u64) -> Answers
     of_value(three, column, 65535)
 }
 
-fn near_bounds() {
+fn near_bounds(rt: &HostRuntime) -> io::Result<()> {
     let mut column: u64 = 0;
     while column < 10 {
-        show_count(b"bounds of column ", column);
-        show_answers(of_column(column));
+        show_count(rt, b"bounds of column ", column)?;
+        show_answers(rt, of_column(column))?;
         column += 1;
     }
+    Ok(())
 }
 
-pub fn all_states() {
-    near_bounds();
-    by_chance();
+pub fn all_states(rt: &HostRuntime) -> io::Result<()> {
+    near_bounds(rt)?;
+    by_chance(rt)
 }

@@ -1,5 +1,6 @@
 // How many were refused as they have to be, how many were accepted, and how many came to something else.
 use crate::bytes::show_count;
+use std::io;
 use std::num::wrapping_add_u64;
 
 #[derive(Clone, Copy)]
@@ -47,8 +48,8 @@ pub fn counted(t: Tally, outcome: Outcome) -> Tally {
     }
 }
 
-pub fn show_tally(t: Tally) {
-    show_count(b" refused ", t.refused);
-    show_count(b" accepted ", t.accepted);
-    show_count(b" other ", t.other);
+pub fn show_tally(rt: &HostRuntime, t: Tally) -> io::Result<()> {
+    show_count(rt, b" refused ", t.refused)?;
+    show_count(rt, b" accepted ", t.accepted)?;
+    show_count(rt, b" other ", t.other)
 }

@@ -2,40 +2,41 @@
 // how many differ.
 #![tactic(auto)]
 
-use input::{Input, read_argument};
+use input::{Input, has_argument, read_argument};
 use records::tally::{Tally, replayed};
+use std::io;
 
-fn say(t: Tally) {
-    io::print_decimal(1, t.records as u64);
-    io::write_all(1, b" replayed, ");
-    io::print_decimal(1, t.differ as u64);
-    io::write_all(1, b" differ\n");
+fn say(rt: &HostRuntime, t: Tally) -> io::Result<()> {
+    rt.print(t.records)?;
+    rt.write_all(b" replayed, ")?;
+    rt.print(t.differ)?;
+    rt.write_all(b" differ\n")?;
     if t.first > 0 {
-        io::write_all(1, b"the first that differs is record ");
-        io::print_decimal(1, t.first as u64);
-        io::write_all(1, b"\n");
+        rt.write_all(b"the first that differs is record ")?;
+        rt.print(t.first)?;
+        rt.write_all(b"\n")?;
     }
     if t.broken {
-        io::write_all(1, b"the record after these is broken\n");
+        rt.write_all(b"the record after these is broken\n")?;
     }
+    Ok(())
 }
 
-fn replay(k: usize) {
+fn replay(rt: &HostRuntime, k: usize) -> io::Result<()> {
     let mut text = [0u8; 262144];
-    match read_argument(k, &mut text) {
-        Input::Failed => {}
-        Input::Full => {
-            io::write_all(1, b"no room for the file\n");
-        }
-        Input::Whole(n) => say(replayed(&text[..n])),
+    match read_argument(rt, k, &mut text) {
+        Input::Failed => Ok(()),
+        Input::Full => rt.write_all(b"no room for the file\n"),
+        Input::Whole(n) => say(rt, replayed(&text[..n])),
     }
 }
 
-fn main() {
-    let n = os::arg_count();
-    let mut k: usize = 1;
-    while k < n {
-        replay(k);
-        k += 1;
+fn main(rt: HostRuntime) -> io::Result<()> {
+    for k in 1..usize::MAX {
+        if !has_argument(&rt, k) {
+            break;
+        }
+        replay(&rt, k)?;
     }
+    Ok(())
 }

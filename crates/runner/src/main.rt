@@ -2,13 +2,14 @@
 // number and the line of a refusal. With a second argument it runs the list beside the recording which that names.
 #![tactic(auto)]
 
+use input::has_argument;
 use programs::beside::respond_beside;
 use programs::{Program, respond};
+use std::io;
 
-fn main() {
-    if os::arg_count() < 3 {
-        respond(Program::Runner);
-        return;
+fn main(rt: HostRuntime) -> io::Result<()> {
+    if !has_argument(&rt, 2) {
+        return respond(&rt, Program::Runner);
     }
-    respond_beside();
+    respond_beside(&rt)
 }

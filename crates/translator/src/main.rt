@@ -3,7 +3,8 @@
 #![tactic(auto)]
 
 use programs::{Program, respond};
+use std::io;
 
-fn main() {
-    respond(Program::Translator);
+fn main(rt: HostRuntime) -> io::Result<()> {
+    respond(&rt, Program::Translator)
 }
