@@ -1,7 +1,7 @@
 # What a promise makes its reader believe: the closure of the definitions in specs/ that its `ensures` cites, definition by definition. bin/believed runs it.
 # Reads crates/*/specs/*.antt and crates/*/src/*.rt. -v entries: the public entries, each CRATE::[MODULE::]NAME; -v statements: what theorems state, each
 # CRATE/FILE/DEFINITION,DEFINITION..; -v want: table, numbers, or the entry or statement whose definitions are listed.
-# Leaves, not counted: what the kit's libraries define (Prim, lib, mathlib, denote), and the structs and enums that the code declares (specs.declared).
+# Leaves, not counted: what the kit's libraries define (std, core, io, Prim, lib, mathlib, native, denote), and the structs and enums that the code declares (specs.declared).
 # A name that is neither bound nor in sight is an error, never passed over. Any POSIX awk, in the C locale: names are bytes.
 
 function fail(text) {
@@ -22,8 +22,6 @@ function words(line, comment,    s) {
     gsub(/[(){}|,;]/, " & ", s)
     gsub(/\[/, " [ ", s)
     gsub(/\]/, " ] ", s)
-    gsub("\342\214\234", " ( ", s) # the corners of a contract
-    gsub("\342\214\235", " ) ", s)
     gsub("\002", "[]", s)
     gsub("\003", "||", s)
     sub(/^[ \t]+/, "", s)
@@ -36,14 +34,13 @@ function words(line, comment,    s) {
 
 # A module by its path: the file in specs/ that it is, or leaf; else ? and the path, an error only where a promise leads there.
 function module_of(path,    p, crate) {
-    if (path ~ /^(Prim|lib|mathlib|denote)\./) return "leaf"
-    if (path ~ /^Rattle\302\267(io|os|libc|bytes|check|std)\./) return "leaf" # the kit's
-    if (path !~ /^Rattle\302\267/) return "?" path
-    p = substr(path, 9)
+    if (path ~ /^(Prim|lib|mathlib|native|denote)\./) return "leaf"
+    if (path ~ /^Rattle\.(core|io|std)\./) return "leaf" # the kit's
+    if (path !~ /^Rattle\./) return "?" path
+    p = substr(path, 8)
     crate = p
     sub(/\..*$/, "", crate)
     p = substr(p, length(crate) + 2)
-    sub(/\302\267specs$/, "", crate)
     if (p ~ /^specs\.declared\./) return "leaf"
     if (p !~ /^specs\.[A-Za-z0-9]+$/) return "?" path # in proofs/, say
     sub(/^specs\./, "", p)
@@ -76,11 +73,11 @@ function note_use(file, text,    path, names, n, i, a, pair) {
     }
 }
 
-# A name with places, as refuse_when_, is seen by its words: the last of them cites it.
+# A name with places, as refuse◌when◌, is seen by its words: the last of them cites it.
 function see(file, name, key,    n, i, part, last) {
     sight[file, name] = key
-    if (name !~ /_/ || name == "_") return
-    n = split(name, part, "_")
+    if (name !~ PLACE) return
+    n = split(name, part, PLACE)
     for (i = 1; i <= n; i++) if (part[i] != "") {
         if (!((file, part[i]) in sight)) sight[file, part[i]] = "part"
         last = part[i]
@@ -206,21 +203,35 @@ function spec_line(file, line,    s, w, n, i, indent, head, rest) {
 
 # ---- src/: the contract of each function, and what pub use names again
 
+# use PATH::name, and use PATH::{name, name}; text goes to its semicolon.
+function code_use(file, text,    front, n, i, name) {
+    sub(/;.*$/, "", text)
+    sub(/^(pub )?use /, "", text)
+    front = text
+    if (!sub(/[{].*$/, "", front)) sub(/[A-Za-z0-9_]+$/, "", front)
+    gsub(/[{}]/, ",", text)
+    n = split(text, name, ",")
+    for (i = 1; i <= n; i++) {
+        sub(/^.*(::| )/, "", name[i])
+        if (name[i] == "") continue
+        code_name[file, name[i]] = 1
+        if (again_too) again[file, name[i]] = front name[i]
+    }
+}
+
 function code_line(file, line,    s, w, n, path, name) {
     if (line ~ /^ghost use /) { note_use(file, line); return }
-    if (line ~ /^pub use /) {
-        path = line
-        sub(/^pub use /, "", path)
-        sub(/;.*$/, "", path)
-        name = path
-        sub(/^.*::/, "", name)
-        again[file, name] = path
-    }
     if (line ~ /^(pub )?use /) {
-        name = line
-        sub(/;.*$/, "", name)
-        sub(/^.*(::| )/, "", name)
-        code_name[file, name] = 1
+        again_too = line ~ /^pub /
+        pending = ""
+        in_use = 1
+    }
+    if (in_use) {
+        pending = pending line
+        if (line !~ /;/) return
+        in_use = 0
+        code_use(file, pending)
+        return
     }
     if (line ~ /^(pub )?(struct|enum|const) /) {
         split(words(line, "//"), w, " ")
@@ -245,11 +256,13 @@ function code_line(file, line,    s, w, n, path, name) {
     if (s ~ /^ensures /) {
         ensures = 1
         sub(/^ensures /, "", s)
-        sub(/^[a-z_]+ /, "", s)
+        sub(/^[a-z0-9_]+ /, "", s)
         promises[fn]++
         promise[fn, promises[fn]] = s
     } else if (ensures) promise[fn, promises[fn]] = promise[fn, promises[fn]] " " s
 }
+
+BEGIN { PLACE = "\342\227\214" } # ◌
 
 FNR == 1 {
     is_spec = FILENAME ~ /\.antt$/
@@ -290,6 +303,7 @@ function named(file, w,    module, name) {
         if ((file, module) in alias) {
             module = alias[file, module]
             if (module == "leaf" || module ~ /^[?]/) return module
+            sub(/\..*$/, "", name)
             if (!((module, name) in sight) || file_of[sight[module, name]] != module) fail(file ": " w ": " module " has no " name)
             return sight[module, name]
         }
@@ -311,9 +325,17 @@ function bare(w) {
     return w
 }
 
+# What a word has before its fields: r of r.f, where r is no module.
+function rooted(file, w,    root) {
+    root = w
+    sub(/\..*$/, "", root)
+    return root == "" || (file, root) in alias || (file, root) in code_name ? w : root
+}
+
 function cite(file, w, where,    k) {
     if (w == "do") w = ">>="
     else if (w in plain || w ~ /^[0-9]/ || w ~ /^\./ || w == "_" || w == "\001") return
+    w = rooted(file, w)
     if (is_bound(w)) return
     k = named(file, w)
     if (k == "") fail(where ": " w " is not in sight")
@@ -334,7 +356,7 @@ function scan(file, where, kind, text, base,    n, i, j, w, b, m, self, selves, 
         # left of =: the name itself, makers, and what is bound
         self = where
         sub(/^.*\//, "", self)
-        m = split(self, selves, "_")
+        m = split(self, selves, PLACE)
         depth = -1
         itself = 0
         for (; i <= n && w[i] != "="; i++) {
@@ -583,11 +605,10 @@ function look_into_entry(entry,    f, file, n, i, w, base) {
     if (asks[f]) fail(entry " has a requires")
     if (!promises[f]) fail(entry " has no ensures")
     n = split(signature[f], w, " ")
-    base = ""
+    base = "result"
     for (i = 1; i <= n; i++) if (w[i] ~ /:$/) base = base " " substr(w[i], 1, length(w[i]) - 1)
     file = f
     sub(/\/[^\/]*$/, "", file)
-    sight[file, "now"] = "leaf"
     for (i = 1; i <= promises[f]; i++) scan(file, entry, "type", promise[f, i], base)
 }
 

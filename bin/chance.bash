@@ -1,6 +1,6 @@
 # shellcheck shell=bash disable=SC2154,SC2034
-# Sourced by mboxalind: texts made by chance through the built programs. Uses here, room, build, draw, MOST_BYTES and MOST_SLOTS of mboxalind, launch and
-# kit_home of launch.bash, LARGEST of check.bash, and try_limits of limits.bash.
+# Sourced by mboxalind: texts made by chance through the built programs. Uses here, room, build, draw, MOST_BYTES and MOST_SLOTS of mboxalind, launch of
+# launch.bash, LARGEST of check.bash, and try_limits of limits.bash.
 
 # PROGRAM, with its words behind it, has to print what EXPECTED has for FILE. A caller may say in the variable what which text that is.
 holds() { # EXPECTED FILE PROGRAM WORD..
@@ -139,7 +139,7 @@ try_words() {
 # Texts made by chance: a value that is written and read; samples that are taken and read in turn; scripts and lists with titles; lists that agree
 # with a script or don't; texts about the limit of what is read; a stored answer that is spoilt.
 try() {
-    local value record taken records=478 home
+    local value record taken records=478
     value=$(by_chance)
     record=$((RANDOM % records + 1))
     taken=$((RANDOM % 30 + 1))
@@ -147,9 +147,6 @@ try() {
     build runner
     build checker
     build replay
-    # looked for once, not for each program
-    home=$(kit_home)
-    local RATTLE_HOME=$home
     printf '%s\n' 06 "100000$value" 110000 >"$room/script"
     printf '%s\n' 060000 "100000$value" 110000 900001 >"$room/list"
     echo "a0$value" >"$room/loads"

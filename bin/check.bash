@@ -1,7 +1,7 @@
 # shellcheck shell=bash disable=SC2154,SC2034
 # Sourced by mboxalind: whether a list from elsewhere agrees with a script, and why not. The line that can't stand and the reason are found by asking the
 # proved checker about beginnings of both texts, with frames behind them; so the steps aren't here a second time. Uses here, room, wrong, build, launch,
-# kit_home, input, explain, MOST_LINES and MOST_SLOTS of mboxalind. Both texts lie in the room as script and list, and a list's lines count without its
+# input, explain, MOST_LINES and MOST_SLOTS of mboxalind. Both texts lie in the room as script and list, and a list's lines count without its
 # size line.
 
 # What the checker says of two files.
@@ -243,7 +243,7 @@ tell_unread() { # ANSWER
 }
 
 check() { # SCRIPT LIST
-    local said home
+    local said
     [ $# = 2 ] || wrong "check takes SCRIPT and LIST; 'mboxalind help' says how"
     [ "$*" != "- -" ] || wrong "standard input can't be both SCRIPT and LIST"
     input "$1"
@@ -252,9 +252,6 @@ check() { # SCRIPT LIST
     mv "$room/in" "$room/list"
     build checker
     build translator
-    # looked for once, not for each question
-    home=$(kit_home)
-    local RATTLE_HOME=$home
     said=$(verdict "$room/script" "$room/list") || exit 2
     echo "$said"
     case $said in

@@ -26,7 +26,7 @@ fn processor() -> String {
 /// How our archives were made.
 fn made() -> &'static str {
     match cfg!(target_arch = "x86_64") {
-        true => "`rt staticlib`, linked as it is",
+        true => "`rt lib`, linked as it is",
         false => {
             "its LLVM bitcode, compiled for this machine by `oracle/here`; what ships is for x86-64"
         }
