@@ -7,7 +7,7 @@ use native.Mathlib.Omega.{arith}
 use lib.ListN.{length, get_or, take, drop, set}
 use lib.Seq.{length-take-le, paste, paste-suc}
 use borrow.Author.Tests.{le-leb, lt-leb}
-use Rattle.rules.specs.Notation.{given, if◌then◌else◌}
+use Rattle.rules.specs.Notation.{given, provided◌then◌else◌}
 use Rattle.rules.specs.Scopes as rule
 use Rattle.scopes.specs.View.{view}
 use Rattle.scopes.specs.declared.Scopes.{Scopes}
@@ -37,13 +37,13 @@ module _ (s : Scopes) (lent page : List ℕ) (d : scopes.Drained) (is : take d.c
   count-is = sym (ap length is) ∙ length-take-le d.count page fits
 
   pub short : length lent < d.count → seen_drain (record { state = s; answer = Refused 17 }, lent) ≡ drained (view s) lent
-  unfolding drained if◌then◌else◌
-  short h = rw (lt-leb (length (rule.drain_dangling (view s)).0) (length lent) (omega (arith, count-is)), if◌then◌else◌)
+  unfolding drained provided◌then◌else◌
+  short h = rw (lt-leb (length (rule.drain_dangling (view s)).0) (length lent) (omega (arith, count-is)), provided◌then◌else◌)
 
   pub handed : (out : List ℕ) → d.count ≤ length lent → view d.state ≡ (rule.drain_dangling (view s)).1 → out ≡ take d.count page ++ drop d.count lent
       → seen_drain (record { state = d.state; answer = Count d.count }, out) ≡ drained (view s) lent
-  unfolding drained if◌then◌else◌
+  unfolding drained provided◌then◌else◌
   handed out h v o =
       let n : d.count ≡ length (rule.drain_dangling (view s)).0 = sym count-is in
-      rw (le-leb (length (rule.drain_dangling (view s)).0) (length lent) (omega (arith, count-is)), if◌then◌else◌)
+      rw (le-leb (length (rule.drain_dangling (view s)).0) (length lent) (omega (arith, count-is)), provided◌then◌else◌)
       (λ i. record { next = v i; says = given (n i); lent = (o ∙ (λ j. is j ++ drop (n j) lent)) i })

@@ -1,6 +1,6 @@
 -- What draining into lent numbers leaves: the state, the answer, and the numbers. Assumes nothing.
 use Rattle.std.specs.Prelude.{◌≡◌, List, ℕ, length, leb}
-use Rattle.rules.specs.Notation.{Answer, given, refused, if◌then◌else◌}
+use Rattle.rules.specs.Notation.{Answer, given, refused, provided◌then◌else◌}
 use Rattle.rules.specs.Entries.{over_front}
 use Rattle.rules.specs.Scopes as rule
 use Rattle.scopes.specs.View.{view}
@@ -24,7 +24,7 @@ pub record SeenDrain : Type 0 where
 -- "answers the dangling list in order and empties it"; 17: "lent memory too short for the answer"
 unfoldable pub drained : rule.Scopes → List ℕ → SeenDrain
 drained c lent =
-    if (leb (length (rule.drain_dangling c).0) (length lent))
+    provided (leb (length (rule.drain_dangling c).0) (length lent))
     then record { next = (rule.drain_dangling c).1; says = given (length (rule.drain_dangling c).0); lent = over_front (rule.drain_dangling c).0 lent }
     else record { next = c; says = refused 17; lent = lent }
 

@@ -5,7 +5,7 @@ use Prim.Native.Nat.{ℕ, zero, suc, ◌*◌, ◌/◌, ◌%◌, ◌≤◌, ◌<�
 use native.Mathlib.Omega.{arith}
 use lib.ListN.{length, replicate}
 use borrow.Author.Tests.{le-leb, lt-ltb, le-ltb}
-use Rattle.rules.specs.Notation.{if◌then◌else◌}
+use Rattle.rules.specs.Notation.{provided◌then◌else◌}
 use Rattle.rules.specs.Sizes.{base, SLOTS, TEXT, LINES}
 use Rattle.rules.specs.Frames.{Outcome}
 use Rattle.rules.specs.Text.{list_text}
@@ -40,20 +40,20 @@ module _ (text out : List ℕ) (answer : ℕ) (out' : List ℕ) where
 
 translation-says : (o : Outcome) → translation.Comes o → (out : List ℕ) → TEXT ≤ length out → (r : ℕ) (out' : List ℕ) → translate.LeavesList (list_left o out) r out'
     → Says (outcome_text o) out r out'
-unfolding list_left outcome_text if◌then◌else◌
+unfolding list_left outcome_text provided◌then◌else◌
 translation-says _ (translation.to-stop n i a b c) out h r out' l = refusal n i l.answered a (omega arith) c refl l.list_left
 translation-says _ (translation.to-list {ls = ls} {size = size} a) out h r out' l =
     let e = le-leb (length (list_text ls size)) (length out) (omega arith) in
-    written (rw (e, if◌then◌else◌) at l.answered) (omega arith) (rw (e, if◌then◌else◌) at l.list_left)
+    written (rw (e, provided◌then◌else◌) at l.answered) (omega arith) (rw (e, provided◌then◌else◌) at l.list_left)
 
 module _ (script : List ℕ) where
   pub script-longer : TEXT < length script → ee_text 17 0 ≡ translator_prints base script
-  unfolding translator_prints unless_longer if◌then◌else◌ base
-  script-longer h = sym (rw (lt-ltb _ _ h, if◌then◌else◌))
+  unfolding translator_prints unless_longer provided◌then◌else◌ base
+  script-longer h = sym (rw (lt-ltb _ _ h, provided◌then◌else◌))
 
   script-fits : length script ≤ TEXT → outcome_text (translated base script) ≡ translator_prints base script
-  unfolding translator_prints unless_longer if◌then◌else◌ base
-  script-fits h = sym (rw (le-ltb _ _ h, if◌then◌else◌))
+  unfolding translator_prints unless_longer provided◌then◌else◌ base
+  script-fits h = sym (rw (le-ltb _ _ h, provided◌then◌else◌))
 
   come : translation.Comes (translated base script)
   unfolding base
@@ -69,11 +69,11 @@ module _ (script : List ℕ) where
 
 run-left : (o : RunOutcome) → running.Comes LINES o → (cells out : List ℕ) → TEXT ≤ length out → (r : ℕ) (cells' out' : List ℕ)
     → machine.LeavesFrame (run_left o cells out) r cells' out' → Says (run_text o) out r out'
-unfolding run_left run_text if◌then◌else◌
+unfolding run_left run_text provided◌then◌else◌
 run-left _ (running.to-stop n i a b c) cells out h r cells' out' l = refusal n i l.answered a (omega arith) c refl l.out-left
 run-left _ (running.to_end {r = x} a) cells out h r cells' out' l =
     let e = le-leb (length (loads_text x.loaded)) (length out) (omega arith) in
-    written (rw (e, if◌then◌else◌) at l.answered) (omega arith) (rw (e, if◌then◌else◌) at l.out-left)
+    written (rw (e, provided◌then◌else◌) at l.answered) (omega arith) (rw (e, provided◌then◌else◌) at l.out-left)
 
 -- the program's own cells
 pub zero-cells : (n : ℕ) → cells_of (replicate (2 * n) 0) ≡ replicate n 0
@@ -83,13 +83,13 @@ zero-cells (suc n) = let e : 2 * suc n ≡ suc (suc (2 * n)) = omega arith in rw
 
 module _ (list : List ℕ) where
   pub list-longer : TEXT < length list → ee_text 17 0 ≡ runner_prints base list
-  unfolding runner_prints unless_longer if◌then◌else◌ base
-  list-longer h = sym (rw (lt-ltb _ _ h, if◌then◌else◌))
+  unfolding runner_prints unless_longer provided◌then◌else◌ base
+  list-longer h = sym (rw (lt-ltb _ _ h, provided◌then◌else◌))
 
   module _ (h : length list ≤ TEXT) (out : List ℕ) (wide : TEXT ≤ length out) (cells : List ℕ) (zeros : cells ≡ replicate (2 * SLOTS) 0) where
     list-fits : run_text (ran_on base (cells_of cells) list) ≡ runner_prints base list
-    unfolding runner_prints unless_longer if◌then◌else◌ base
-    list-fits = ap (λ (cs : List ℕ). run_text (ran_on base cs list)) (ap cells_of zeros ∙ zero-cells SLOTS) ∙ sym (rw (le-ltb _ _ h, if◌then◌else◌))
+    unfolding runner_prints unless_longer provided◌then◌else◌ base
+    list-fits = ap (λ (cs : List ℕ). run_text (ran_on base cs list)) (ap cells_of zeros ∙ zero-cells SLOTS) ∙ sym (rw (le-ltb _ _ h, provided◌then◌else◌))
 
     come-to : running.Comes LINES (ran_on base (cells_of cells) list)
     unfolding base

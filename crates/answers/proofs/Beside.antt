@@ -7,7 +7,7 @@ use native.Mathlib.Omega.{arith}
 use lib.Dec.{eqb}
 use lib.ListN.{length, drop, replicate, length-append, drop_of_length-le}
 use borrow.Author.Tests.{le-leb, lt-ltb, le-ltb, ne_eqb}
-use Rattle.rules.specs.Notation.{if◌then◌else◌}
+use Rattle.rules.specs.Notation.{provided◌then◌else◌}
 use Rattle.rules.specs.Sizes.{base, SLOTS, TEXT, LINES}
 use Rattle.rules.specs.Frames.{shows}
 use Rattle.rules.specs.Text.{hex2, hex4, hexes, line_text}
@@ -96,34 +96,34 @@ drop_all left e = drop_of_length-le left {i = 4} (omega arith)
 
 outcome-says : (j : ℕ) → j ≤ 4294967295 → (o : RunOutcome) → ComesWith LINES j o → (cells out left : List ℕ) → TEXT ≤ length out → length left ≡ 4 → (a : ℕ) (cells' out' left' : List ℕ)
     → LeavesAll (recorded_left o cells out left) a cells' out' left' → SaysBeside (recorded_text o) out a out' left'
-unfolding recorded_left recorded_text if◌then◌else◌
+unfolding recorded_left recorded_text provided◌then◌else◌
 outcome-says j f _ (as-whole (to-stop n i p q c)) cells out left h k a cells' out' left' l = refusal n i l.answered p (omega arith) (omega arith) (λ ne. omega arith) refl l.out-left
 outcome-says j f _ as-torn cells out left h k a cells' out' left' l = refusal 24 j l.answered (omega arith) (omega arith) f (λ ne. absurd (ne refl)) refl l.out-left
 outcome-says j f _ (as-whole (to_end {r = x} {left = n} m)) cells out left h k a cells' out' left' l =
     let e = le-leb (length (loads_text x.loaded)) (length out) (omega arith) in
     let g = le-leb 4 (length left) (omega arith) in
     let d : over_front (bytes4 n) left ≡ bytes4 n = ap (λ (t : List ℕ). bytes4 n ++ t) (drop_all left k) in
-    written (loads_text x.loaded) n (rw (e, g, if◌then◌else◌) at l.answered) (omega arith) (rw (e, g, if◌then◌else◌) at l.out-left) ((rw (e, g, if◌then◌else◌) at l.left-left) ∙ d) refl
+    written (loads_text x.loaded) n (rw (e, g, provided◌then◌else◌) at l.answered) (omega arith) (rw (e, g, provided◌then◌else◌) at l.out-left) ((rw (e, g, provided◌then◌else◌) at l.left-left) ∙ d) refl
 
 module _ (list : List ℕ) (state : ℕ) (samples : List ℕ) where
   pub beside-longer : TEXT < length list → ee_text 17 0 ≡ recorded_prints base list state samples
-  unfolding recorded_prints unless_longer if◌then◌else◌ base
-  beside-longer h = sym (rw (lt-ltb _ _ h, if◌then◌else◌))
+  unfolding recorded_prints unless_longer provided◌then◌else◌ base
+  beside-longer h = sym (rw (lt-ltb _ _ h, provided◌then◌else◌))
 
   module _ (h : length list ≤ TEXT) (out : List ℕ) (wide : TEXT ≤ length out) (cells : List ℕ) (zeros : cells ≡ replicate (2 * SLOTS) 0) (left : List ℕ) (four : length left ≡ 4) where
     abbrev r : Recording
     r = ended (reader_of state) (cells_of samples)
 
-    printed-as : (if (is_state state) then recorded_text (recorded_on base (cells_of cells) r list) else ee_text 29 0) ≡ recorded_prints base list state samples
-    unfolding recorded_prints unless_longer if◌then◌else◌ base
+    printed-as : (provided (is_state state) then recorded_text (recorded_on base (cells_of cells) r list) else ee_text 29 0) ≡ recorded_prints base list state samples
+    unfolding recorded_prints unless_longer provided◌then◌else◌ base
     printed-as =
-        ap (λ (cs : List ℕ). if (is_state state) then recorded_text (recorded_on base cs r list) else ee_text 29 0) (ap cells_of zeros ∙ zero-cells SLOTS)
-        ∙ sym (rw (le-ltb _ _ h, if◌then◌else◌))
+        ap (λ (cs : List ℕ). provided (is_state state) then recorded_text (recorded_on base cs r list) else ee_text 29 0) (ap cells_of zeros ∙ zero-cells SLOTS)
+        ∙ sym (rw (le-ltb _ _ h, provided◌then◌else◌))
 
     pub beside-says : (a : ℕ) (cells' out' left' : List ℕ) → LeavesAll (recorded_entry base list state samples cells out left) a cells' out' left' → SaysBeside (recorded_prints base list state samples) out a out' left'
-    unfolding recorded_entry if◌then◌else◌ base
+    unfolding recorded_entry provided◌then◌else◌ base
     beside-says a cells' out' left' l = subst (λ (t : List ℕ). SaysBeside t out a out' left') printed-as (go (is_state state) refl)
       where
-        go : (b : Bool) → is_state state ≡ b → SaysBeside (if (is_state state) then recorded_text (recorded_on base (cells_of cells) r list) else ee_text 29 0) out a out' left'
-        go true e = rw (e, if◌then◌else◌) (outcome-says (reader_of state).line (omega arith) _ (comes-told base (omega arith) (cells_of cells) (reader_of state).line (cells_of samples) list (eqb (reader_of state).column 0)) cells out left wide four a cells' out' left' (rw (e, if◌then◌else◌) at l))
-        go false e = let k = rw (e, if◌then◌else◌) at l in rw (e, if◌then◌else◌) (refusal 29 0 k.answered (omega arith) (omega arith) (omega arith) (λ ne. omega arith) refl k.out-left)
+        go : (b : Bool) → is_state state ≡ b → SaysBeside (provided (is_state state) then recorded_text (recorded_on base (cells_of cells) r list) else ee_text 29 0) out a out' left'
+        go true e = rw (e, provided◌then◌else◌) (outcome-says (reader_of state).line (omega arith) _ (comes-told base (omega arith) (cells_of cells) (reader_of state).line (cells_of samples) list (eqb (reader_of state).column 0)) cells out left wide four a cells' out' left' (rw (e, provided◌then◌else◌) at l))
+        go false e = let k = rw (e, provided◌then◌else◌) at l in rw (e, provided◌then◌else◌) (refusal 29 0 k.answered (omega arith) (omega arith) (omega arith) (λ ne. omega arith) refl k.out-left)

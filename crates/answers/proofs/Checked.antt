@@ -6,7 +6,7 @@ use Prim.Native.Nat.{ℕ, ◌+◌, ◌*◌, ◌/◌, ◌%◌, ◌≤◌, ◌<◌
 use native.Mathlib.Omega.{arith}
 use lib.ListN.{length, set, drop}
 use borrow.Author.Tests.{lt-ltb, le-ltb}
-use Rattle.rules.specs.Notation.{if◌then◌else◌}
+use Rattle.rules.specs.Notation.{provided◌then◌else◌}
 use Rattle.rules.specs.Sizes.{base, TEXT}
 use Rattle.rules.specs.Entries.{ee_text, unless_longer, REFUSAL}
 use Rattle.rules.specs.Suppliers.{Verdict, verdict, verdict_answer, verdict_text, checker_prints}
@@ -31,16 +31,16 @@ put3 (w ∷ x ∷ y ∷ out) a b c h = refl
 
 module _ (script list : List ℕ) where
   pub script-too-long : TEXT < length script → ee_text 17 0 ≡ checker_prints base script list
-  unfolding checker_prints unless_longer if◌then◌else◌ base
-  script-too-long h = sym (rw (lt-ltb _ _ h, if◌then◌else◌))
+  unfolding checker_prints unless_longer provided◌then◌else◌ base
+  script-too-long h = sym (rw (lt-ltb _ _ h, provided◌then◌else◌))
 
   pub list-too-long : length script ≤ TEXT → TEXT < length list → ee_text 17 0 ≡ checker_prints base script list
-  unfolding checker_prints unless_longer if◌then◌else◌ base
-  list-too-long k h = sym (rw (le-ltb _ _ k, lt-ltb _ _ h, if◌then◌else◌))
+  unfolding checker_prints unless_longer provided◌then◌else◌ base
+  list-too-long k h = sym (rw (le-ltb _ _ k, lt-ltb _ _ h, provided◌then◌else◌))
 
   fits : length script ≤ TEXT → length list ≤ TEXT → verdict_text (verdict base script list) ≡ checker_prints base script list
-  unfolding checker_prints unless_longer if◌then◌else◌ base
-  fits k h = sym (rw (le-ltb _ _ k, le-ltb _ _ h, if◌then◌else◌))
+  unfolding checker_prints unless_longer provided◌then◌else◌ base
+  fits k h = sym (rw (le-ltb _ _ k, le-ltb _ _ h, provided◌then◌else◌))
 
   module _ (k : length script ≤ TEXT) (h : length list ≤ TEXT) (r : ℕ) (promised : r ≡ verdict_answer (verdict base script list)) where
     pub yes-printed : r ≡ 1 → 0x79 ∷ 0x65 ∷ 0x73 ∷ 10 ∷ [] ≡ checker_prints base script list

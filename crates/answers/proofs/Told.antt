@@ -4,7 +4,7 @@ use mathlib.Core.List.{List, [], ◌∷◌}
 use Prim.Native.Nat.{ℕ, ◌*◌, ◌≤◌}
 use native.Mathlib.Omega.{arith}
 use lib.ListN.{length, replicate}
-use Rattle.rules.specs.Notation.{if◌then◌else◌}
+use Rattle.rules.specs.Notation.{provided◌then◌else◌}
 use Rattle.rules.specs.Sizes.{base, LINES}
 use Rattle.rules.specs.Frames.{constant, next_sample, Line, stores, loads, shows}
 use Rattle.rules.specs.Meaning.{list_takes}
@@ -34,9 +34,9 @@ takes-few list ls size e = go (read_list base list) (read-list-in base (omega ar
     go (listed ms k) h q = let s : ms ≡ ls = cc in omega (arith, h.0, takes-most ls, ap length s)
 
 pub told-prints : (list s memory : List ℕ) → 2 * LINES ≤ length memory → recorded_prints base list (read_entry 0 memory s).answer (read_entry 0 memory s).samples ≡ beside_prints base list s
-unfolding recorded_prints beside_prints recorded_on if◌then◌else◌
+unfolding recorded_prints beside_prints recorded_on provided◌then◌else◌
 told-prints list s memory h =
     let t = parts-tell s memory in
-    rw (t.state, if◌then◌else◌)
+    rw (t.state, provided◌then◌else◌)
     (ap (λ (o : RunOutcome). unless_longer base list (recorded_text o))
     (runs-as-told (replicate base.size 0) s memory _ _ t.by-entry (read_list base list) (λ ls size e. omega (arith, takes-few list ls size e, cells-length memory))))

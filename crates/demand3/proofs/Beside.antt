@@ -7,7 +7,7 @@ use native.Mathlib.Omega.{arith}
 use lib.Dec.{eqb}
 use lib.ListN.{length, drop}
 use borrow.Author.Tests.{le-leb}
-use Rattle.rules.specs.Notation.{if◌then◌else◌}
+use Rattle.rules.specs.Notation.{provided◌then◌else◌}
 use Rattle.rules.specs.Sizes.{base}
 use Rattle.rules.specs.Frames.{Line}
 use Rattle.rules.specs.Meaning.{Ran, list_takes}
@@ -46,10 +46,10 @@ module _ (script : List ℕ) (ls : List Line) (size : ℕ) (ok : Held base scrip
 left-beside : (x : Ran) (n : ℕ) (cells out left : List ℕ) → 7 * length x.loaded ≤ length out → 4 ≤ length left
     → recorded_left (ran x n) cells out left
     ≡ record { answer = 7 * length x.loaded; cells = bytes_of x.cells ++ odd_byte cells; out = over_front (loads_text x.loaded) out; left = over_front (bytes4 n) left }
-unfolding recorded_left if◌then◌else◌
+unfolding recorded_left provided◌then◌else◌
 left-beside x n cells out left h k =
     let l = text-length x.loaded in
-    rw (le-leb (length (loads_text x.loaded)) (length out) (omega arith), le-leb 4 (length left) k, if◌then◌else◌)
+    rw (le-leb (length (loads_text x.loaded)) (length out) (omega arith), le-leb 4 (length left) k, provided◌then◌else◌)
     (ap (λ (m : ℕ). record { answer = m; cells = bytes_of x.cells ++ odd_byte cells; out = over_front (loads_text x.loaded) out; left = over_front (bytes4 n) left }) l)
 
 -- ---- the parts of a recording
@@ -83,10 +83,10 @@ module _ (script : List ℕ) (ls : List Line) (size : ℕ) (ok : Held base scrip
   told-run : (memory s : List ℕ) → 2 * takes script ≤ length memory → (cells out left : List ℕ)
       → recorded_entry base (list_text ls size) (read_entry 0 memory s).answer (read_entry 0 memory s).samples cells out left
       ≡ recorded_left (recorded_on base (cells_of cells) (recording s) (list_text ls size)) cells out left
-  unfolding recorded_entry recorded_on if◌then◌else◌
+  unfolding recorded_entry recorded_on provided◌then◌else◌
   told-run memory s h cells out left =
       let t = parts-tell s memory in
-      rw (t.state, if◌then◌else◌)
+      rw (t.state, provided◌then◌else◌)
       (ap (λ (o : RunOutcome). recorded_left o cells out left) (runs-as-told (cells_of cells) s memory _ _ t.by-entry (read_list base (list_text ls size)) (room_for memory h)))
 
   pub beside : (parts : List (List ℕ)) (memory : List ℕ) (state : ℕ) (samples : List ℕ) → Fed parts 0 memory state samples

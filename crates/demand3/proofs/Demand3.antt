@@ -8,7 +8,7 @@ use lib.Dec.{leb}
 use lib.ListN.{length, take, drop}
 use lib.Seq.{take_at}
 use borrow.Author.Tests.{le-leb}
-use Rattle.rules.specs.Notation.{if◌then◌else◌}
+use Rattle.rules.specs.Notation.{provided◌then◌else◌}
 use Rattle.rules.specs.Sizes.{base}
 use Rattle.rules.specs.Frames.{Line, Outcome, accepted}
 use Rattle.rules.specs.Meaning.{Ran}
@@ -38,15 +38,15 @@ pub record Listing (script list : List ℕ) : Type 0 where
   pub is : list ≡ list_text lines size
 
 listing : (script list : List ℕ) (o : Outcome) → translated base script ≡ o → Comes o → (r : ℕ) (list' : List ℕ) → translate.LeavesList (list_left o list) r list' → Accepts r → Listing script (take r list')
-unfolding list_left if◌then◌else◌
+unfolding list_left provided◌then◌else◌
 listing script list _ e (to-stop n i a b c) r list' h k = absurd (omega (arith, h.answered))
 listing script list _ e (to-list {ls = ls} {size = size} a) r list' h k = go (leb (length (list_text ls size)) (length list)) refl
   where
     go : (b : Bool) → leb (length (list_text ls size)) (length list) ≡ b → Listing script (take r list')
-    go false q = absurd (let x : r ≡ 17 * REFUSAL = rw (q, if◌then◌else◌) at h.answered in omega arith)
+    go false q = absurd (let x : r ≡ 17 * REFUSAL = rw (q, provided◌then◌else◌) at h.answered in omega arith)
     go true q =
-        let x : r ≡ length (list_text ls size) = rw (q, if◌then◌else◌) at h.answered in
-        let y : list' ≡ over_front (list_text ls size) list = rw (q, if◌then◌else◌) at h.list_left in
+        let x : r ≡ length (list_text ls size) = rw (q, provided◌then◌else◌) at h.answered in
+        let y : list' ≡ over_front (list_text ls size) list = rw (q, provided◌then◌else◌) at h.list_left in
         record {
           lines = ls;
           size = size;
@@ -63,10 +63,10 @@ listed_by script list r list' h k = listing script list (translated base script)
 -- with room for the answer
 pub left-ran : (x : Ran) (n : ℕ) (cells out : List ℕ) → 7 * length x.loaded ≤ length out
     → run_left (ran x n) cells out ≡ record { answer = 7 * length x.loaded; cells = bytes_of x.cells ++ odd_byte cells; out = over_front (loads_text x.loaded) out }
-unfolding run_left if◌then◌else◌
+unfolding run_left provided◌then◌else◌
 left-ran x n cells out h =
     let l = text-length x.loaded in
-    rw (le-leb (length (loads_text x.loaded)) (length out) (omega arith), if◌then◌else◌)
+    rw (le-leb (length (loads_text x.loaded)) (length out) (omega arith), provided◌then◌else◌)
     (ap (λ (k : ℕ). record { answer = k; cells = bytes_of x.cells ++ odd_byte cells; out = over_front (loads_text x.loaded) out }) l)
 
 module _ (script : List ℕ) (ls : List Line) (size : ℕ) (ok : Held base script ls size) where

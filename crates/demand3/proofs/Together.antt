@@ -8,7 +8,7 @@ use native.Mathlib.Omega.{arith}
 use lib.Dec.{leb}
 use lib.ListN.{length, take}
 use borrow.Author.Tests.{le-leb, lt-leb, leb-true, leb-false}
-use Rattle.rules.specs.Notation.{if◌then◌else◌}
+use Rattle.rules.specs.Notation.{provided◌then◌else◌}
 use Rattle.rules.specs.Sizes.{base, PAGE, LINES}
 use Rattle.rules.specs.Frames.{Line, Outcome, accepted}
 use Rattle.rules.specs.Meaning.{Ran, lacking}
@@ -31,35 +31,35 @@ use Rattle.demand3.proofs.Demand3.{come, listed_by, left-ran}
 
 -- without room for the answer
 left-short : (x : Ran) (n : ℕ) (cells out : List ℕ) → length out < 7 * length x.loaded → run_left (ran x n) cells out ≡ refusal 17 0 cells out
-unfolding run_left if◌then◌else◌
-left-short x n cells out h = rw (lt-leb (length (loads_text x.loaded)) (length out) (omega (arith, text-length x.loaded)), if◌then◌else◌)
+unfolding run_left provided◌then◌else◌
+left-short x n cells out h = rw (lt-leb (length (loads_text x.loaded)) (length out) (omega (arith, text-length x.loaded)), provided◌then◌else◌)
 
 module _ (script : List ℕ) (ls : List Line) (size : ℕ) (ok : Held base script ls size) (cells out : List ℕ) (bytes : Bytes cells) where
   -- with cells enough: 17 for out, or the work
   roomy : (x : Ran) (n : ℕ) → x.loaded ≡ means script [] → bytes_of x.cells ++ odd_byte cells ≡ over_front (frame_after ls size) cells
-      → run_left (ran x n) cells out ≡ (if leb (7 * length (means script [])) (length out) then worked ls size (means script []) cells out else refusal 17 0 cells out)
-  unfolding if◌then◌else◌
+      → run_left (ran x n) cells out ≡ (provided leb (7 * length (means script [])) (length out) then worked ls size (means script []) cells out else refusal 17 0 cells out)
+  unfolding provided◌then◌else◌
   roomy x n m w = go (leb (7 * length (means script [])) (length out)) refl
     where
       go : (b : Bool) → leb (7 * length (means script [])) (length out) ≡ b
-          → run_left (ran x n) cells out ≡ (if leb (7 * length (means script [])) (length out) then worked ls size (means script []) cells out else refusal 17 0 cells out)
-      go false q = rw (q, if◌then◌else◌) (left-short x n cells out (rw m (leb-false _ _ q)))
-      go true q = rw (q, if◌then◌else◌) (left-ran x n cells out (rw m (leb-true _ _ q)) ∙ rw (m, w))
+          → run_left (ran x n) cells out ≡ (provided leb (7 * length (means script [])) (length out) then worked ls size (means script []) cells out else refusal 17 0 cells out)
+      go false q = rw (q, provided◌then◌else◌) (left-short x n cells out (rw m (leb-false _ _ q)))
+      go true q = rw (q, provided◌then◌else◌) (left-ran x n cells out (rw m (leb-true _ _ q)) ∙ rw (m, w))
 
   -- no sample is wanted
   run-all : takes script ≤ 0 → run_entry base (list_text ls size) cells out
-      ≡ (if (leb (2 * size) (length cells) && leb (7 * length (means script [])) (length out)) then worked ls size (means script []) cells out else refusal 17 0 cells out)
-  unfolding run_entry ran_on if◌then◌else◌ run_left
+      ≡ (provided (leb (2 * size) (length cells) && leb (7 * length (means script [])) (length out)) then worked ls size (means script []) cells out else refusal 17 0 cells out)
+  unfolding run_entry ran_on provided◌then◌else◌ run_left
   run-all q = go (leb (2 * size) (length cells)) refl
     where
       n : length (cells_of cells) ≡ length cells / 2
       n = cells-length cells
 
       go : (b : Bool) → leb (2 * size) (length cells) ≡ b → run_entry base (list_text ls size) cells out
-          ≡ (if (leb (2 * size) (length cells) && leb (7 * length (means script [])) (length out)) then worked ls size (means script []) cells out else refusal 17 0 cells out)
+          ≡ (provided (leb (2 * size) (length cells) && leb (7 * length (means script [])) (length out)) then worked ls size (means script []) cells out else refusal 17 0 cells out)
       go false p =
           let f : length (cells_of cells) < size = omega (arith, n, leb-false (2 * size) (length cells) p) in
-          rw (p, if◌then◌else◌) (ap (λ o. run_left o cells out) (ran-short script ls size ok 0 [] q q (cells_of cells) f))
+          rw (p, provided◌then◌else◌) (ap (λ o. run_left o cells out) (ran-short script ls size ok 0 [] q q (cells_of cells) f))
       go true p =
           let f : size ≤ length (cells_of cells) = omega (arith, n, leb-true (2 * size) (length cells) p) in
           rw p
@@ -97,20 +97,20 @@ module _ (script page : List ℕ) (r : ℕ) (page' : List ℕ) (said : Translate
 
   -- 17 is no answer here: every list goes on the page
   pub refused-both : PAGE ≤ length page → REFUSAL ≤ r → (cells out : List ℕ) → LeavesFrame (together script cells out) r cells out
-  unfolding together translate_entry together_on list_left if◌then◌else◌
+  unfolding together translate_entry together_on list_left provided◌then◌else◌
   refused-both room k cells out = go (translated base script) (come script) said.answered
     where
       go : (o : Outcome) → Comes o → r ≡ (list_left o page).answer → LeavesFrame (together_on o (means script []) cells out) r cells out
       go _ (to-stop n i a b c) e = record { answered = e; cells_left = refl; out-left = refl }
       go _ (to-list {ls = ls} {size = size} a) e =
-          let x : r ≡ length (list_text ls size) = rw (le-leb (length (list_text ls size)) (length page) (omega arith), if◌then◌else◌) at e in
+          let x : r ≡ length (list_text ls size) = rw (le-leb (length (list_text ls size)) (length page) (omega arith), provided◌then◌else◌) at e in
           absurd (omega arith)
 
 -- ---- of the promise
 
 -- demand 3: an answer below 2^32 counts the bytes of the script's meaning, and they lie at the front of out
 pub together-prints : (script cells out : List ℕ) (r : ℕ) (cells' out' : List ℕ) → LeavesFrame (together script cells out) r cells' out' → Accepts r → PrintsMeaning script [] out r out'
-unfolding together together_on if◌then◌else◌
+unfolding together together_on provided◌then◌else◌
 together-prints script cells out r cells' out' h k = go (translated base script) (come script) h
   where
     go : (o : Outcome) → Comes o → LeavesFrame (together_on o (means script []) cells out) r cells' out' → PrintsMeaning script [] out r out'
@@ -118,7 +118,7 @@ together-prints script cells out r cells' out' h k = go (translated base script)
     go _ (to-list {ls = ls} {size = size} a) h = on (lacking 0 0 ls) (leb (2 * size) (length cells) && leb (7 * length (means script [])) (length out)) h
       where
         on : (o : Option ℕ) (b : Bool)
-            → LeavesFrame (elim o [ some i ↦ refusal 23 i cells out | none ↦ if b then worked ls size (means script []) cells out else refusal 17 0 cells out ]) r cells' out'
+            → LeavesFrame (elim o [ some i ↦ refusal 23 i cells out | none ↦ provided b then worked ls size (means script []) cells out else refusal 17 0 cells out ]) r cells' out'
             → PrintsMeaning script [] out r out'
         on (some i) b h = absurd (omega (arith, h.answered))
         on none true h = record { count = h.answered; text = h.out-left }

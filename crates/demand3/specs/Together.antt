@@ -2,7 +2,7 @@
 -- script means. Assumes nothing.
 use Rattle.std.specs.Prelude.{◌&&◌, List, [], ℕ, ◌*◌, length, replicate, leb}
 use Rattle.std.proofs.Math.Option.{none, some}
-use Rattle.rules.specs.Notation.{if◌then◌else◌}
+use Rattle.rules.specs.Notation.{provided◌then◌else◌}
 use Rattle.rules.specs.Sizes.{base}
 use Rattle.rules.specs.Frames.{Line, Outcome, accepted, refused_at}
 use Rattle.rules.specs.Meaning.{obey, lacking}
@@ -26,7 +26,7 @@ together_on (refused_at n i) values cells out = refusal n i cells out
 together_on (accepted ls size) values cells out =
     elim (lacking 0 0 ls) [
       | some i ↦ refusal 23 i cells out
-      | none ↦ if (leb (2 * size) (length cells) && leb (7 * length values) (length out)) then worked ls size values cells out else refusal 17 0 cells out
+      | none ↦ provided (leb (2 * size) (length cells) && leb (7 * length values) (length out)) then worked ls size values cells out else refusal 17 0 cells out
     ]
 
 unfoldable pub together : List ℕ → List ℕ → List ℕ → Running

@@ -6,7 +6,7 @@ use mathlib.Core.List.{List, []}
 use Prim.Native.Nat.{ℕ, ◌%◌, ◌≤◌, ◌<◌}
 use lib.Dec.{eqb}
 use lib.ListN.{length, get_or, set}
-use Rattle.rules.specs.Notation.{Answer, given, refused, ◌>>=◌, if◌then◌else◌, ◌▹◌, put}
+use Rattle.rules.specs.Notation.{Answer, given, refused, ◌>>=◌, provided◌then◌else◌, ◌▹◌, put}
 use Rattle.rules.specs.Sizes.{base}
 use Rattle.rules.specs.Slots.{Slots, remove}
 use Rattle.rules.specs.Scopes as rule
@@ -64,11 +64,11 @@ module _ (s : Scopes) (handles holders : List ℕ) (handed : ℕ) (stands : Stan
   module _ (k : Kind) where
     -- where the slot goes back and where not
     pub goes_back_lem : goes_back c k ≡ true → free_as k dangles h standing ≡ hand_back dangles h standing
-    unfolding free_as if◌then◌else◌
+    unfolding free_as provided◌then◌else◌
     goes_back_lem e = rw (e, free_as)
 
     pub stays : goes_back c k ≡ false → free_as k dangles h standing ≡ given (standing ▹ set_handle h (standing.handles h ▹ kind≔ freed))
-    unfolding free_as if◌then◌else◌
+    unfolding free_as provided◌then◌else◌
     stays e = rw (e, free_as)
 
     pub kept-comes : goes_back c k ≡ false → (b : ℕ) → Coded b (freed_as x) → h < length handles → (o : ℕ) (drained : List ℕ)

@@ -6,7 +6,7 @@ use mathlib.Core.List.{List, [], ◌∷◌}
 use Prim.Native.Nat.{ℕ, ◌≤◌, ◌<◌}
 use native.Mathlib.Omega.{arith}
 use lib.ListN.{length, get_or, set, length-set}
-use Rattle.rules.specs.Notation.{Answer, given, refused, ◌>>=◌, refuse◌unless◌, if◌then◌else◌, ◌▹◌, put}
+use Rattle.rules.specs.Notation.{Answer, given, refused, ◌>>=◌, refuse◌unless◌, provided◌then◌else◌, ◌▹◌, put}
 use Rattle.rules.specs.Sizes.{Room, base, NEEDS}
 use Rattle.rules.specs.Slots.{Placement}
 use Rattle.rules.specs.Scopes as rule
@@ -88,14 +88,14 @@ module _ (place : Placement) (needs : ℕ → Remembered) (needed : ℕ) (bare :
 
 -- a need's own handle is freed as the need's address; nothing is freed of another
 pub own-freed : (h : ℕ) (t : State) (d : Need) (k : Kind) → need_kind d ≡ k → is_scope_kind k ≡ true → free_own h t d ≡ free_as k true h t
-unfolding free_own if◌then◌else◌
+unfolding free_own provided◌then◌else◌
 own-freed h t (defer id) k q e = clash (ap is_scope_kind q ∙ e) refl
 own-freed h t (at a) k q e = rw (ap is_scope_kind q ∙ e, free_own) (λ u. free_as (q u) true h t)
 own-freed h t ignore k q e = clash (ap is_scope_kind q ∙ e) refl
 own-freed h t freed_need k q e = clash (ap is_scope_kind q ∙ e) refl
 
 pub other-kept : (h : ℕ) (t : State) (d : Need) → is_scope_kind (need_kind d) ≡ false → free_own h t d ≡ given t
-unfolding free_own if◌then◌else◌
+unfolding free_own provided◌then◌else◌
 other-kept h t (defer id) e = refl
 other-kept h t (at a) e = rw (e, free_own)
 other-kept h t ignore e = refl

@@ -9,7 +9,7 @@ use native.Mathlib.Omega.{arith}
 use lib.Dec.{eqb, leb, ltb}
 use lib.ListN.{length, drop, replicate}
 use borrow.Author.Tests.{leb-true}
-use Rattle.rules.specs.Notation.{if◌then◌else◌}
+use Rattle.rules.specs.Notation.{provided◌then◌else◌}
 use Rattle.rules.specs.Sizes.{Room, base, LINES}
 use Rattle.rules.specs.Frames.{constant, next_sample, Line, stores, loads, shows}
 use Rattle.rules.specs.Meaning.{Ran, obey, high, list_takes, lacking}
@@ -110,13 +110,13 @@ abbrev pub HalvesOf : List ℕ → List ℕ → ℕ → ℕ → Running → Type
 HalvesOf cells out greatest most l = Halves (length out) (7 * most) greatest most ((l.cells ≡ cells) × (l.out ≡ out)) l.answer
 
 halves_of : (greatest most : ℕ) → 23 ≤ greatest → most ≤ 65535 → (cells out : List ℕ) (o : RunOutcome) → Comes most o → HalvesOf cells out greatest most (run_left o cells out)
-unfolding run_left if◌then◌else◌
+unfolding run_left provided◌then◌else◌
 halves_of greatest most k h cells out _ (to-stop n i a b c) = by_number_lem _ _ _ _ _ n i (omega arith) a (omega arith) c (refl, refl)
 halves_of greatest most k h cells out _ (to_end {r = r} {left = left} a) = go (leb (length (loads_text r.loaded)) (length out)) refl
   where
     go : (b : Bool) → leb (length (loads_text r.loaded)) (length out) ≡ b → HalvesOf cells out greatest most (run_left (ran r left) cells out)
-    go true e = rw (e, if◌then◌else◌) (by_count _ _ _ _ _ _ (omega arith) (leb-true _ _ e) a)
-    go false e = rw (e, if◌then◌else◌) (by_number_lem _ _ _ _ _ 17 0 (omega arith) (omega arith) (omega arith) (omega arith) (refl, refl))
+    go true e = rw (e, provided◌then◌else◌) (by_count _ _ _ _ _ _ (omega arith) (leb-true _ _ e) a)
+    go false e = rw (e, provided◌then◌else◌) (by_number_lem _ _ _ _ _ 17 0 (omega arith) (omega arith) (omega arith) (omega arith) (refl, refl))
 
 -- a number is at most 23
 pub run-halves : (greatest : ℕ) → 23 ≤ greatest → (room : Room) → 1 ≤ room.lines → room.lines ≤ 65535 → (list cells out : List ℕ) → HalvesOf cells out greatest room.lines (run_entry room list cells out)
@@ -138,19 +138,19 @@ module _ (most : ℕ) (h : most ≤ 65535) (cells out left : List ℕ) where
   halved o = RecordedHalves most cells out left (recorded_left o cells out left)
 
   recorded-of : (j : ℕ) → j ≤ 4294967295 → (o : RunOutcome) → ComesWith most j o → halved o
-  unfolding recorded_left if◌then◌else◌
+  unfolding recorded_left provided◌then◌else◌
   recorded-of j k _ as-torn = by_number_lem _ _ _ _ _ 24 j (omega arith) (omega arith) (omega arith) k (refl, refl, refl)
   recorded-of j k _ (as-whole (to-stop n i a b c)) = by_number_lem _ _ _ _ _ n i (omega arith) a (omega arith) (omega arith) (refl, refl, refl)
   recorded-of j k _ (as-whole (to_end {r = r} {left = n} a)) =
       decided (leb (length (loads_text r.loaded)) (length out))
       (λ e.
       decided (leb 4 (length left))
-      (λ f. rw (e, f, if◌then◌else◌) (by_count _ _ _ _ _ _ (omega arith) (leb-true _ _ e) a))
-      (λ f. rw (e, f, if◌then◌else◌) (by_number_lem _ _ _ _ _ 17 0 (omega arith) (omega arith) (omega arith) (omega arith) (refl, refl, refl))))
-      (λ e. rw (e, if◌then◌else◌) (by_number_lem _ _ _ _ _ 17 0 (omega arith) (omega arith) (omega arith) (omega arith) (refl, refl, refl)))
+      (λ f. rw (e, f, provided◌then◌else◌) (by_count _ _ _ _ _ _ (omega arith) (leb-true _ _ e) a))
+      (λ f. rw (e, f, provided◌then◌else◌) (by_number_lem _ _ _ _ _ 17 0 (omega arith) (omega arith) (omega arith) (omega arith) (refl, refl, refl))))
+      (λ e. rw (e, provided◌then◌else◌) (by_number_lem _ _ _ _ _ 17 0 (omega arith) (omega arith) (omega arith) (omega arith) (refl, refl, refl)))
 
   pub recorded-halves : (room : Room) → 1 ≤ room.lines → room.lines ≡ most → (list : List ℕ) (state : ℕ) (samples : List ℕ) → RecordedHalves most cells out left (recorded_entry room list state samples cells out left)
-  unfolding recorded_entry if◌then◌else◌
+  unfolding recorded_entry provided◌then◌else◌
   recorded-halves room one q list state samples =
       decided (is_state state)
       (λ s. rw (s, recorded_entry) (recorded-of (reader_of state).line (omega arith) _ (rw (← q) (comes-told room one (cells_of cells) (reader_of state).line (cells_of samples) list (eqb (reader_of state).column 0)))))

@@ -10,7 +10,7 @@ use native.Mathlib.Nat.{zero-add}
 use lib.Dec.{eqb, ltb, leb}
 use lib.ListN.{length, take, drop, replicate, length-append, length-replicate}
 use borrow.Author.Tests.{lt-ltb, le-ltb, ltb-true, ltb-false, lt-leb, le-leb}
-use Rattle.rules.specs.Notation.{if◌then◌else◌}
+use Rattle.rules.specs.Notation.{provided◌then◌else◌}
 use Rattle.rules.specs.Sizes.{Room}
 use Rattle.rules.specs.Frames.{Line}
 use Rattle.rules.specs.Meaning.{obey, high, list_takes, lacking}
@@ -42,7 +42,7 @@ module _ (m cells out left : List ℕ) (ok : Bytes cells) where
   worked : (es : List Entry) (ls : List Line) (size n k rec : ℕ) → Lined es ls → high size 0 ls ≡ none → n ≡ lines_loads ls → k ≡ list_takes ls
       → enough_left m size n k rec es cells out left
       ≡ left_of (elim (ltb (length (cells_of cells)) size || ltb (length (cells_of m)) (list_takes ls)) [ true ↦ stopped 17 0 | false ↦ ran (obey (cz size) (cells_of m) ls) (rec - list_takes ls) ])
-  unfolding enough_left recorded_left if◌then◌else◌
+  unfolding enough_left recorded_left provided◌then◌else◌
   worked es ls size n k rec p lo en ek =
       decided (ltb (length (cells_of cells)) size)
       (λ a. rw (a, lt-ltb (length cells / 2) size (omega (arith, ltb-true (length (cells_of cells)) size a, cells-length cells)), enough_left))
@@ -138,12 +138,12 @@ not_left false e = absurd (true≢false e)
 
 module _ (room : Room) (list : List ℕ) (state : ℕ) (samples cells out left : List ℕ) where
   pub entry_other : is_state state ≡ false → (r : ℕ) → r ≡ refusal_answer 29 0 → LeavesAll (recorded_entry room list state samples cells out left) r cells out left
-  unfolding recorded_entry if◌then◌else◌
+  unfolding recorded_entry provided◌then◌else◌
   entry_other h r e = rw (h, recorded_entry) (stops cells out left 29 0 r e)
 
   pub entry_read : Bytes cells → is_state state ≡ true → (column rec : ℕ) → column ≡ (reader_of state).column → rec ≡ (reader_of state).line → (r : ℕ) (cells' out' left' : List ℕ)
       → LeavesAll (list_left room list samples column rec cells out left) r cells' out' left' → LeavesAll (recorded_entry room list state samples cells out left) r cells' out' left'
-  unfolding recorded_entry if◌then◌else◌
+  unfolding recorded_entry provided◌then◌else◌
   entry_read ok h column rec ec er r cells' out' left' l =
       rw (h, recorded_entry, ← ec, ← er) (subst (λ (x : RecordedRunning). LeavesAll x r cells' out' left') (listed-is samples cells out left ok room list column rec) l)
 
@@ -151,7 +151,7 @@ module _ (room : Room) (list : List ℕ) (state : ℕ) (samples cells out left :
 
 -- with lent memory for the number left over, that number is all that `run_recorded` leaves besides
 same_left : (o : RunOutcome) (cells out left : List ℕ) → 4 ≤ length left → (r : ℕ) (cells' out' left' : List ℕ) → LeavesAll (recorded_left o cells out left) r cells' out' left' → LeavesFrame (run_left o cells out) r cells' out'
-unfolding run_left recorded_left if◌then◌else◌
+unfolding run_left recorded_left provided◌then◌else◌
 same_left (stopped n i) cells out left h r cells' out' left' l = record { answered = l.answered; cells_left = l.cells_left; out-left = l.out-left }
 same_left (ran x n) cells out left h r cells' out' left' l = go (leb (length (loads_text x.loaded)) (length out)) refl
   where
@@ -175,7 +175,7 @@ module _ (cells : List ℕ) (m : List ℕ) where
 
 pub run_none : (room : Room) (list m cells out left : List ℕ) → length m ≤ 1 → 4 ≤ length left → (r : ℕ) (cells' out' left' : List ℕ)
     → LeavesAll (recorded_entry room list 0 m cells out left) r cells' out' left' → LeavesFrame (run_entry room list cells out) r cells' out'
-unfolding run_entry ran_on recorded_on recorded_entry if◌then◌else◌ is_reader limit
+unfolding run_entry ran_on recorded_on recorded_entry provided◌then◌else◌ is_reader limit
 run_none room list m cells out left hm h r cells' out' left' l =
     same_left (run_listed (cells_of cells) (recorded 0 []) (read_list room list)) cells out left h r cells' out' left'
     (subst (λ (o : RunOutcome). LeavesAll (recorded_left o cells out left) r cells' out' left') (none_kept (cells_of cells) m (read_list room list) hm) l)

@@ -5,7 +5,7 @@ use mathlib.Core.Option.{Option, none, some}
 use Prim.Native.Nat.{ℕ}
 use lib.Dec.{eqb}
 use borrow.Author.Tests.{eq-eqb, ne_eqb}
-use Rattle.rules.specs.Notation.{Answer, given, refused, if◌then◌else◌}
+use Rattle.rules.specs.Notation.{Answer, given, refused, provided◌then◌else◌}
 use Rattle.rules.specs.Needs as rule
 use Rattle.rules.proofs.Chains.{when_true, when_false}
 use Rattle.needs.specs.Answers.{slot_says, output_says}
@@ -16,13 +16,13 @@ use Rattle.needs.specs.declared.SlotAnswer.TheVariants.{At, Nothing, Refused}
 -- ---- a choice, by what was tested
 
 module _ {A : Type 0} (x y : A) where
-  pub if_yes : (b : Bool) → b ≡ true → (if b then x else y) ≡ x
-  unfolding if◌then◌else◌
-  if_yes b e = ap (λ (b : Bool). if b then x else y) e
+  pub if_yes : (b : Bool) → b ≡ true → (provided b then x else y) ≡ x
+  unfolding provided◌then◌else◌
+  if_yes b e = ap (λ (b : Bool). provided b then x else y) e
 
-  pub if_no : (b : Bool) → b ≡ false → (if b then x else y) ≡ y
-  unfolding if◌then◌else◌
-  if_no b e = ap (λ (b : Bool). if b then x else y) e
+  pub if_no : (b : Bool) → b ≡ false → (provided b then x else y) ≡ y
+  unfolding provided◌then◌else◌
+  if_no b e = ap (λ (b : Bool). provided b then x else y) e
 
 -- ---- "Allocating it turns Dangling into Local."
 

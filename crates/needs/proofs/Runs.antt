@@ -4,7 +4,7 @@ use mathlib.Core.Bool.{Bool, true, false}
 use mathlib.Core.List.{List, [], ◌∷◌, map}
 use Prim.Native.Nat.{ℕ}
 use lib.Dec.{eqb}
-use Rattle.rules.specs.Notation.{if◌then◌else◌}
+use Rattle.rules.specs.Notation.{provided◌then◌else◌}
 use Rattle.rules.specs.AddressSets.{run}
 use Rattle.rules.specs.Needs as need
 use Rattle.needs.specs.Kinds.{kind_of, addresses}
@@ -25,9 +25,9 @@ unfolding run
 forget-empty k a n e = sym (ap (λ (i : ℕ). map need.forget_address (addresses k a i)) e)
 
 pub kind-for : (n : ℕ) → kind_of (kind_for n) ≡ need.run_kind n
-unfolding need.run_kind if◌then◌else◌
+unfolding need.run_kind provided◌then◌else◌
 kind-for n = go (eqb n 1)
   where
-    go : (b : Bool) → kind_of (elim b [ true ↦ kind.Local | false ↦ kind.Dangling ]) ≡ if b then need.local else need.dangling
+    go : (b : Bool) → kind_of (elim b [ true ↦ kind.Local | false ↦ kind.Dangling ]) ≡ provided b then need.local else need.dangling
     go true = refl
     go false = refl

@@ -2,7 +2,7 @@
 use mathlib.Core.Path.{◌≡◌, refl, sym, ap, ◌∙◌}
 use mathlib.Core.List.{List, [], ◌++◌}
 use Prim.Native.Nat.{ℕ}
-use Rattle.rules.specs.Notation.{if◌then◌else◌}
+use Rattle.rules.specs.Notation.{provided◌then◌else◌}
 use Rattle.rules.specs.Recordings.{limit, is_reader, fed, kept}
 use Rattle.rules.specs.Entries.{PartRead, read_entry}
 use Rattle.rules.proofs.Cuts.{where-cut}
@@ -13,7 +13,7 @@ abbrev pub Read : List ℕ → List ℕ → ℕ → List ℕ → Type 0
 Read memory s state samples = (state ≡ (read_entry 0 memory s).answer) × (samples ≡ (read_entry 0 memory s).samples)
 
 pub read_none : (memory : List ℕ) → Read memory [] 0 memory
-unfolding read_entry if◌then◌else◌ is_reader limit fed kept
+unfolding read_entry provided◌then◌else◌ is_reader limit fed kept
 read_none memory = (refl, refl)
 
 pub read-on : (memory s : List ℕ) (state : ℕ) (samples : List ℕ) → Read memory s state samples → (p : List ℕ) (state' : ℕ) (samples' : List ℕ) → LeavesSamples (read_entry state samples p) state' samples' → Read memory (s ++ p) state' samples'

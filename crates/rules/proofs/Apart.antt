@@ -4,7 +4,7 @@ use mathlib.Core.Path.{◌≡◌, refl, ap, ◌∙◌}
 use mathlib.Core.Bool.{Bool, true, false, ◌||◌}
 use mathlib.Core.List.{[]}
 use Prim.Native.Nat.{ℕ, zero, suc}
-use Rattle.rules.specs.Notation.{Answer, given, refused, ◌>>=◌, refuse◌when◌, if◌then◌else◌, ◌▹◌}
+use Rattle.rules.specs.Notation.{Answer, given, refused, ◌>>=◌, refuse◌when◌, provided◌then◌else◌, ◌▹◌}
 use Rattle.rules.specs.Sizes.{Room}
 use Rattle.rules.specs.Slots.{Placement}
 use Rattle.rules.specs.Scopes.{Scopes, Found}
@@ -108,7 +108,7 @@ module _ (needs : ℕ → Remembered) (needed : ℕ) where
   module _ (s : State) where
     -- freeing a handle leaves the needs
     pub free-as-apart : (k : Kind) (dangles : Bool) (h : ℕ) → free_as k dangles h (within s) ≡ mapped within (free_as k dangles h s)
-    unfolding free_as hand_back set_handle ◌>>=◌ if◌then◌else◌ refuse◌when◌ mapped
+    unfolding free_as hand_back set_handle ◌>>=◌ provided◌then◌else◌ refuse◌when◌ mapped
     free-as-apart k dangles h = go (goes_back s.scopes k) refl (s.handles h).held refl (give_back dangles (s.handles h).address s.scopes) refl
       where
         go : (b : Bool) → goes_back s.scopes k ≡ b → (x : Bool) → (s.handles h).held ≡ x → (m : Answer Scopes) → give_back dangles (s.handles h).address s.scopes ≡ m
@@ -131,11 +131,11 @@ module _ (needs : ℕ → Remembered) (needed : ℕ) where
     -- the same of a handle that may belong to a need
     pub own_line : (h : ℕ) (d : Need) (g : State → State) (l : Line)
         → (free_own h (within s) d >>= λ t. one_line l (g t)) ≡ mapped (λ r. (r.0, g (within r.1))) (free_own h s d >>= λ t. one_line l t)
-    unfolding free_own ◌>>=◌ mapped if◌then◌else◌
+    unfolding free_own ◌>>=◌ mapped provided◌then◌else◌
     own_line h (defer id) g l = refl
     own_line h (at a) g l = go (is_scope_kind a.kind)
       where
-        go : (b : Bool) → ((if b then free_as a.kind true h (within s) else given (within s)) >>= λ t. one_line l (g t)) ≡ mapped (λ r. (r.0, g (within r.1))) ((if b then free_as a.kind true h s else given s) >>= λ t. one_line l t)
+        go : (b : Bool) → ((provided b then free_as a.kind true h (within s) else given (within s)) >>= λ t. one_line l (g t)) ≡ mapped (λ r. (r.0, g (within r.1))) ((provided b then free_as a.kind true h s else given s) >>= λ t. one_line l t)
         go true = freed-line a.kind true h g l
         go false = refl
     own_line h ignore g l = refl

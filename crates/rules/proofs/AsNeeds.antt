@@ -5,7 +5,7 @@ use mathlib.Core.Option.{Option, none, some}
 use Prim.Native.Nat.{ℕ, ◌+◌, ◌≤◌}
 use lib.Dec.{ltb}
 use borrow.Author.Tests.{le-ltb}
-use Rattle.rules.specs.Notation.{Answer, given, refused, ◌>>=◌, refuse◌when◌, refuse◌unless◌, if◌then◌else◌}
+use Rattle.rules.specs.Notation.{Answer, given, refused, ◌>>=◌, refuse◌when◌, refuse◌unless◌, provided◌then◌else◌}
 use Rattle.rules.specs.Sizes.{Room}
 use Rattle.rules.specs.Slots.{Placement}
 use Rattle.rules.specs.Scopes.{Id, Scopes, Found, top_scope, by_id, alloc_in, allocate}
@@ -76,7 +76,7 @@ left m = m >>= λ t. given (freed_need, t.scopes)
 module _ (s : State) (h : ℕ) where
   -- where the slot that goes back is held, 25 is 01's call
   pub need-freed : (d : Need) → NeedAgrees s.handles s.handed h d → is_scripted d ≡ true → (backs s d ≡ true → (s.handles h).held ≡ true) → left (free_own h s d) ≡ free_need d s.scopes
-  unfolding left free_own free_need free_address free_as hand_back set_handle goes_back ◌>>=◌ refuse◌when◌ if◌then◌else◌
+  unfolding left free_own free_need free_address free_as hand_back set_handle goes_back ◌>>=◌ refuse◌when◌ provided◌then◌else◌
   need-freed (defer id) w y e = refl
   need-freed (at a) w y e = kinds a.kind refl y
     where

@@ -5,7 +5,7 @@ use mathlib.Core.Bool.{Bool, true, false}
 use mathlib.Core.Option.{Option, none, some}
 use Prim.Native.Nat.{ℕ}
 use native.Mathlib.Omega.{arith}
-use Rattle.rules.specs.Notation.{Answer, given, refused, ◌>>=◌, refuse◌when◌, refuse◌unless◌, if◌then◌else◌}
+use Rattle.rules.specs.Notation.{Answer, given, refused, ◌>>=◌, refuse◌when◌, refuse◌unless◌, provided◌then◌else◌}
 
 pub record All {A : Type 0} (P : A → Type 0) (m : Answer A) : Type 0 where
   pub at : (a : A) → m ≡ given a → P a
@@ -28,19 +28,19 @@ unfolding ◌>>=◌ refuse◌unless◌
 all-unless n {o = none} h = record { at = λ b e. absurd (let z : ◌≡◌ {A = ℕ} 0 1 = cc in omega arith) }
 all-unless n {o = some a} h = h a refl
 
-pub all-if : {B : Type 0} {P : B → Type 0} {b : Bool} {m n : Answer B} → (b ≡ true → All P m) → (b ≡ false → All P n) → All P (if b then m else n)
-unfolding if◌then◌else◌
+pub all-if : {B : Type 0} {P : B → Type 0} {b : Bool} {m n : Answer B} → (b ≡ true → All P m) → (b ≡ false → All P n) → All P (provided b then m else n)
+unfolding provided◌then◌else◌
 all-if {b = true} x y = x refl
 all-if {b = false} x y = y refl
 
 module _ {A : Type 0} {b : Bool} (x y : A) where
-  pub if-true : b ≡ true → (if b then x else y) ≡ x
-  unfolding if◌then◌else◌
-  if-true e = ap (λ (c : Bool). if c then x else y) e
+  pub if-true : b ≡ true → (provided b then x else y) ≡ x
+  unfolding provided◌then◌else◌
+  if-true e = ap (λ (c : Bool). provided c then x else y) e
 
-  pub if-false : b ≡ false → (if b then x else y) ≡ y
-  unfolding if◌then◌else◌
-  if-false e = ap (λ (c : Bool). if c then x else y) e
+  pub if-false : b ≡ false → (provided b then x else y) ≡ y
+  unfolding provided◌then◌else◌
+  if-false e = ap (λ (c : Bool). provided c then x else y) e
 
 pub none-some {ℓ} : {A : Type 0} {X : Type ℓ} {a : A} → none ≡ some a → X
 none-some e = absurd (let z : ◌≡◌ {A = ℕ} 0 1 = cc in omega arith)

@@ -3,7 +3,7 @@ use mathlib.Core.Path.{◌≡◌, refl, sym, ap, ◌∙◌}
 use mathlib.Core.Bool.{true, false}
 use mathlib.Core.List.{List, [], ◌∷◌, ◌++◌}
 use Prim.Native.Nat.{ℕ}
-use Rattle.rules.specs.Notation.{if◌then◌else◌}
+use Rattle.rules.specs.Notation.{provided◌then◌else◌}
 use Rattle.rules.specs.Recordings.{Reader, reader, read_byte, kept_by, fed, kept, limit, is_reader, is_state, reader_of, state_of}
 use Rattle.rules.specs.Entries.{refusal_answer, PartRead, read_entry}
 use Rattle.rules.specs.Cuts.{read_on, WhereCut}
@@ -44,12 +44,12 @@ part_read a m = record { answer = a; samples = m }
 
 module _ (n : ℕ) (m p : List ℕ) where
   pub entry-sound : is_state n ≡ true → read_entry n m p ≡ part_read (state_of (fed (reader_of n) p)) (kept (reader_of n) p m)
-  unfolding read_entry if◌then◌else◌
-  entry-sound h = rw (h, read_entry, if◌then◌else◌)
+  unfolding read_entry provided◌then◌else◌
+  entry-sound h = rw (h, read_entry, provided◌then◌else◌)
 
   pub entry-refused : is_state n ≡ false → read_entry n m p ≡ part_read (refusal_answer 29 0) m
-  unfolding read_entry if◌then◌else◌
-  entry-refused h = rw (h, read_entry, if◌then◌else◌)
+  unfolding read_entry provided◌then◌else◌
+  entry-refused h = rw (h, read_entry, provided◌then◌else◌)
 
 refused-29 : is_state (refusal_answer 29 0) ≡ false
 unfolding is_reader limit

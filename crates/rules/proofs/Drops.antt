@@ -7,7 +7,7 @@ use mathlib.Core.List.{List, [], ◌∷◌, ◌++◌}
 use Prim.Native.Nat.{ℕ, suc, ◌+◌, ◌<◌}
 use native.Mathlib.Omega.{arith}
 use lib.ListN.{length, length-append}
-use Rattle.rules.specs.Notation.{Answer, given, refused, ◌>>=◌, refuse◌when◌, refuse◌unless◌, if◌then◌else◌}
+use Rattle.rules.specs.Notation.{Answer, given, refused, ◌>>=◌, refuse◌when◌, refuse◌unless◌, provided◌then◌else◌}
 use Rattle.rules.specs.Sizes.{Room, base}
 use Rattle.rules.specs.Slots.{Placement, Place, placing}
 use Rattle.rules.specs.AddressSets.{member}
@@ -50,7 +50,7 @@ module _ (room : Room) (s : State) (own : Owned room s) where
 
   -- the slot goes back where the scope of id is the top, and so is live
   free-accepted : (h : ℕ) (id : Id) → Kept room c s.handles id h → accepts (free_as (scope id) true h s) ≡ true
-  unfolding free_as goes_back if◌then◌else◌
+  unfolding free_as goes_back provided◌then◌else◌
   free-accepted h id k = go (top_scope c) refl (is_scope id (top_scope c)) refl
     where
       go : (o : Option Found) → top_scope c ≡ o → (b : Bool) → is_scope id (top_scope c) ≡ b → accepts (free_as (scope id) true h s) ≡ true
@@ -62,11 +62,11 @@ module _ (room : Room) (s : State) (own : Owned room s) where
           rw (q, free_as) (back-accepted h t e r.0 r.1)
 
   own-accepted : (n : ℕ) → n < s.needed → (d : Need) → (s.needs n).need ≡ d → accepts (free_own (s.needs n).handle s d) ≡ true
-  unfolding free_own if◌then◌else◌
+  unfolding free_own provided◌then◌else◌
   own-accepted n l (defer id) e = refl
   own-accepted n l (at a) e = go a.kind refl
     where
-      go : (k : Kind) → a.kind ≡ k → accepts (if is_scope_kind k then free_as k true (s.needs n).handle s else given s) ≡ true
+      go : (k : Kind) → a.kind ≡ k → accepts (provided is_scope_kind k then free_as k true (s.needs n).handle s else given s) ≡ true
       go local q = refl
       go dangling q = refl
       go assigned q = refl

@@ -7,7 +7,7 @@ use Prim.Native.Nat.{ℕ, zero, suc, ◌+◌, ◌≤◌, ◌<◌}
 use native.Mathlib.Omega.{arith}
 use lib.Dec.{leb}
 use lib.ListN.{length}
-use Rattle.rules.specs.Notation.{Answer, given, refused, ◌>>=◌, refuse◌when◌, refuse◌unless◌, if◌then◌else◌}
+use Rattle.rules.specs.Notation.{Answer, given, refused, ◌>>=◌, refuse◌when◌, refuse◌unless◌, provided◌then◌else◌}
 use Rattle.rules.specs.Sizes.{Room}
 use Rattle.rules.specs.Slots.{Placement}
 use Rattle.rules.specs.Scopes.{Scopes, Found, open_child, allocate, poppable, last_poppable, dangle_scope, restore_scope, bind_in, get_name, take_name}
@@ -45,8 +45,8 @@ unfolding ◌>>=◌ refuse◌unless◌
 num-unless n {o = none} h k = num-by n h
 num-unless n {o = some a} h k = k a refl
 
-num-if : {B : Type 0} {b : Bool} {m n : Answer B} → (b ≡ true → Numbered m) → (b ≡ false → Numbered n) → Numbered (if b then m else n)
-unfolding if◌then◌else◌
+num-if : {B : Type 0} {b : Bool} {m n : Answer B} → (b ≡ true → Numbered m) → (b ≡ false → Numbered n) → Numbered (provided b then m else n)
+unfolding provided◌then◌else◌
 num-if {b = true} x y = x refl
 num-if {b = false} x y = y refl
 

@@ -3,7 +3,7 @@ use mathlib.Core.Path.{◌≡◌, refl}
 use mathlib.Core.Bool.{true, false}
 use mathlib.Core.List.{List, [], ◌∷◌, map}
 use Prim.Native.String.{String}
-use Rattle.rules.specs.Notation.{◌>>=◌, refuse◌when◌, refuse◌unless◌, if◌then◌else◌, put, first, past_last, all_below}
+use Rattle.rules.specs.Notation.{◌>>=◌, refuse◌when◌, refuse◌unless◌, provided◌then◌else◌, put, first, past_last, all_below}
 use Rattle.rules.specs.Sizes.{base}
 use Rattle.rules.specs.Slots.{fresh_slots, clear_in, first_with_clear, insert_into, insert_new, insert, past_greatest, push_at, pushes, push_run, remove, remove_all, edition1, lowest_of_all, take_at, insert_lowest, edition2, vacant, take_run, exactly, placing}
 use Rattle.rules.specs.AddressSets.{member, added, without, added_all, without_all, run}
@@ -107,5 +107,5 @@ examples =
     ∷ []
 
 pub examples-hold : map (λ e. verdict base (bytes e.script) (bytes e.list)) examples ≡ map (λ e. e.answer) examples
-unfolding examples bytes ◌>>=◌ refuse◌when◌ refuse◌unless◌ if◌then◌else◌ put first past_last all_below base fresh_slots clear_in first_with_clear insert_into insert_new insert past_greatest push_at pushes push_run remove remove_all edition1 lowest_of_all take_at insert_lowest edition2 vacant take_run exactly placing member added without added_all without_all run fresh_scopes top_scope by_id by_number has_child set_scope open_child allocate unbound closed poppable last_poppable dangle_scope restore_scope bound_in rebound bind_in lookup get_name take_name drain_dangling run_kind goes_back give_back output_of start set_handle unknown spent belongs barred grant let_go allot close hand_back free_as free_handle set_need add_need lost allot_need free_own step onward steps digit value word words raw split rowed line_of frame_table script_from line_table size_table list_from title_table titled read_script read_list same_numbers same_line same_lines as_shown shown_steps agrees_with agrees judged verdict
+unfolding examples bytes ◌>>=◌ refuse◌when◌ refuse◌unless◌ provided◌then◌else◌ put first past_last all_below base fresh_slots clear_in first_with_clear insert_into insert_new insert past_greatest push_at pushes push_run remove remove_all edition1 lowest_of_all take_at insert_lowest edition2 vacant take_run exactly placing member added without added_all without_all run fresh_scopes top_scope by_id by_number has_child set_scope open_child allocate unbound closed poppable last_poppable dangle_scope restore_scope bound_in rebound bind_in lookup get_name take_name drain_dangling run_kind goes_back give_back output_of start set_handle unknown spent belongs barred grant let_go allot close hand_back free_as free_handle set_need add_need lost allot_need free_own step onward steps digit value word words raw split rowed line_of frame_table script_from line_table size_table list_from title_table titled read_script read_list same_numbers same_line same_lines as_shown shown_steps agrees_with agrees judged verdict
 examples-hold = refl

@@ -2,7 +2,7 @@
 -- answer and what they leave in lent memory, for all bytes; and what the two programs print. Assumes nothing.
 use Rattle.std.specs.Prelude.{true, false, ◌&&◌, ◌||◌, List, [], ◌∷◌, ◌++◌, ℕ, ◌+◌, ◌*◌, ◌/◌, ◌%◌, ◌-◌, length, replicate, drop, eqb, leb, ltb}
 use Rattle.std.proofs.Math.Option.{none, some}
-use Rattle.rules.specs.Notation.{if◌then◌else◌}
+use Rattle.rules.specs.Notation.{provided◌then◌else◌}
 use Rattle.rules.specs.Sizes.{Room}
 use Rattle.rules.specs.Slots.{Place, placing}
 use Rattle.rules.specs.Frames.{Line, start, Outcome, accepted, refused_at, before, steps}
@@ -82,7 +82,7 @@ pub record Translation : Type 0 where
 unfoldable pub list_left : Outcome → List ℕ → Translation
 list_left (refused_at n i) list = record { answer = refusal_answer n i; list = list }
 list_left (accepted ls size) list =
-    if (leb (length (list_text ls size)) (length list))
+    provided (leb (length (list_text ls size)) (length list))
     then record { answer = length (list_text ls size); list = over_front (list_text ls size) list }
     else record { answer = refusal_answer 17 0; list = list }
 
@@ -113,7 +113,7 @@ pub record Running : Type 0 where
 unfoldable pub run_left : RunOutcome → List ℕ → List ℕ → Running
 run_left (stopped n i) cells out = record { answer = refusal_answer n i; cells = cells; out = out }
 run_left (ran r left) cells out =
-    if (leb (length (loads_text r.loaded)) (length out))
+    provided (leb (length (loads_text r.loaded)) (length out))
     then record { answer = length (loads_text r.loaded); cells = bytes_of r.cells ++ odd_byte cells; out = over_front (loads_text r.loaded) out }
     else record { answer = refusal_answer 17 0; cells = cells; out = out }
 
@@ -130,7 +130,7 @@ pub record PartRead : Type 0 where
 -- 29: no reader's state
 unfoldable pub read_entry : ℕ → List ℕ → List ℕ → PartRead
 read_entry state samples part =
-    if (is_state state)
+    provided (is_state state)
     then record { answer = state_of (fed (reader_of state) part); samples = kept (reader_of state) part samples }
     else record { answer = refusal_answer 29 0; samples = samples }
 
@@ -149,7 +149,7 @@ bytes4 n = n / 16777216 ∷ n / 65536 % 256 ∷ n / 256 % 256 ∷ n % 256 ∷ []
 unfoldable pub recorded_left : RunOutcome → List ℕ → List ℕ → List ℕ → RecordedRunning
 recorded_left (stopped n i) cells out left = record { answer = refusal_answer n i; cells = cells; out = out; left = left }
 recorded_left (ran r n) cells out left =
-    if (leb (length (loads_text r.loaded)) (length out) && leb 4 (length left))
+    provided (leb (length (loads_text r.loaded)) (length out) && leb 4 (length left))
     then record {
       answer = length (loads_text r.loaded);
       cells = bytes_of r.cells ++ odd_byte cells;
@@ -161,7 +161,7 @@ recorded_left (ran r n) cells out left =
 -- 29 first; then the list is run with what the reader's state and the kept samples tell of the recording
 unfoldable pub recorded_entry : Room → List ℕ → ℕ → List ℕ → List ℕ → List ℕ → List ℕ → RecordedRunning
 recorded_entry room list state samples cells out left =
-    if (is_state state)
+    provided (is_state state)
     then recorded_left (recorded_on room (cells_of cells) (ended (reader_of state) (cells_of samples)) list) cells out left
     else record { answer = refusal_answer 29 0; cells = cells; out = out; left = left }
 
@@ -181,7 +181,7 @@ run_text (stopped n i) = ee_text n i
 
 -- "a program refuses longer input by 17, whatever it holds"
 unfoldable pub unless_longer : Room → List ℕ → List ℕ → List ℕ
-unless_longer room input printed = if (ltb room.text (length input)) then ee_text 17 0 else printed
+unless_longer room input printed = provided (ltb room.text (length input)) then ee_text 17 0 else printed
 
 unfoldable pub translator_prints : Room → List ℕ → List ℕ
 translator_prints room input = unless_longer room input (outcome_text (translated room input))
@@ -209,6 +209,6 @@ recorded_text (stopped n i) = elim (eqb n 24) [ true ↦ malformed_text i | fals
 unfoldable pub recorded_prints : Room → List ℕ → ℕ → List ℕ → List ℕ
 recorded_prints room input state samples =
     unless_longer room input
-    (if (is_state state)
+    (provided (is_state state)
     then recorded_text (recorded_on room (replicate room.size 0) (ended (reader_of state) (cells_of samples)) input)
     else ee_text 29 0)

@@ -2,7 +2,7 @@
 -- are held against it, and nothing else cites it. "01" in a name says so. Assumes nothing.
 use Rattle.std.specs.Prelude.{◌≡◌, Bool, true, false, not, List, [], ◌∷◌, map, reverse, ℕ, suc, ◌/◌, length}
 use Rattle.std.proofs.Math.Option.{Option}
-use Rattle.rules.specs.Notation.{Answer, given, ◌>>=◌, refuse◌when◌, if◌then◌else◌, ◌▹◌, put}
+use Rattle.rules.specs.Notation.{Answer, given, ◌>>=◌, refuse◌when◌, provided◌then◌else◌, ◌▹◌, put}
 use Rattle.rules.specs.Sizes.{Room}
 use Rattle.rules.specs.Slots.{Slots, Placement, Place, placing, removes, remove}
 use Rattle.rules.specs.Scopes.{Scopes, slots≔, Found, by_number, closed, poppable, last_poppable}
@@ -54,7 +54,7 @@ give_back01 dangles a c = do
 unfoldable pub free_address01 : Bool → Address → Scopes → Answer (Address × Scopes)
 free_address01 dangles a c = do
   _ ← refuse 13 when (is_freed a.kind)
-  d ← if (goes_back c a.kind) then give_back01 dangles a.slot c else given c
+  d ← provided (goes_back c a.kind) then give_back01 dangles a.slot c else given c
   given (address a.slot freed, d)
 
 unfoldable pub free_each01 : Bool → List Address → Scopes → Answer Scopes
@@ -89,7 +89,7 @@ hand_back01 dangles h s = do
 
 unfoldable pub free_as01 : Kind → Bool → ℕ → State → Answer State
 free_as01 k dangles h s =
-    if (goes_back s.scopes k)
+    provided (goes_back s.scopes k)
     then hand_back01 dangles h s
     else given (s ▹ set_handle h (s.handles h ▹ kind≔ freed))
 
@@ -100,7 +100,7 @@ free_handle01 dangles h s = do
 
 unfoldable pub free_own01 : ℕ → State → Need → Answer State
 free_own01 h s (defer id) = given s
-free_own01 h s (at a) = if (is_scope_kind a.kind) then free_as01 a.kind true h s else given s
+free_own01 h s (at a) = provided (is_scope_kind a.kind) then free_as01 a.kind true h s else given s
 free_own01 h s ignore = given s
 free_own01 h s freed_need = given s
 

@@ -3,7 +3,7 @@
 -- Assumes nothing.
 use Rattle.std.specs.Prelude.{Bool, true, false, not, ◌&&◌, ◌||◌, List, [], ◌∷◌, ◌++◌, ℕ, zero, suc, ◌+◌, ◌-◌, length, eqb, ltb, leb}
 use Rattle.std.proofs.Math.Option.{Option, none, some}
-use Rattle.rules.specs.Notation.{Answer, given, refused, ◌>>=◌, refuse◌when◌, refuse◌unless◌, if◌then◌else◌, is_some, or_else, ◌▹◌, put, first}
+use Rattle.rules.specs.Notation.{Answer, given, refused, ◌>>=◌, refuse◌when◌, refuse◌unless◌, provided◌then◌else◌, is_some, or_else, ◌▹◌, put, first}
 use Rattle.rules.specs.Sizes.{Room}
 use Rattle.rules.specs.Slots.{Placement}
 use Rattle.rules.specs.AddressSets.{member}
@@ -182,7 +182,7 @@ hand_back dangles h s = do
 -- h, as an address of kind k, becomes Freed: where a slot goes back 14, 12
 unfoldable pub free_as : Kind → Bool → ℕ → State → Answer State
 free_as k dangles h s =
-    if (goes_back s.scopes k)
+    provided (goes_back s.scopes k)
     then hand_back dangles h s
     else given (s ▹ set_handle h (s.handles h ▹ kind≔ freed))
 
@@ -223,7 +223,7 @@ allot_need room place n s freed_need = given (none, s)
 -- Assigned one, of which nothing is freed.
 unfoldable pub free_own : ℕ → State → Need → Answer State
 free_own h s (defer id) = given s
-free_own h s (at a) = if (is_scope_kind a.kind) then free_as a.kind true h s else given s
+free_own h s (at a) = provided (is_scope_kind a.kind) then free_as a.kind true h s else given s
 free_own h s ignore = given s
 free_own h s freed_need = given s
 

@@ -1,7 +1,7 @@
 -- Document 01, "Addresses and needs": library calls, without handles. Assumes nothing.
 use Rattle.std.specs.Prelude.{Bool, true, false, not, ◌&&◌, List, [], ◌∷◌, map, reverse, ℕ, eqb}
 use Rattle.std.proofs.Math.Option.{Option, none, some}
-use Rattle.rules.specs.Notation.{Answer, given, refused, ◌>>=◌, refuse◌when◌, refuse◌unless◌, if◌then◌else◌, ◌▹◌}
+use Rattle.rules.specs.Notation.{Answer, given, refused, ◌>>=◌, refuse◌when◌, refuse◌unless◌, provided◌then◌else◌, ◌▹◌}
 use Rattle.rules.specs.Sizes.{Room}
 use Rattle.rules.specs.Slots.{Placement, remove}
 use Rattle.rules.specs.AddressSets.{member, added, without, run}
@@ -23,7 +23,7 @@ address a k = record { slot = a; kind = k }
 
 -- "a run of n ≥ 2 Dangling, a run of 1 Local"
 unfoldable pub run_kind : ℕ → Kind
-run_kind n = if (eqb n 1) then local else dangling
+run_kind n = provided (eqb n 1) then local else dangling
 
 -- "Allocating it turns Dangling into Local."
 abbrev pub allocated_kind : Kind → Kind
@@ -100,7 +100,7 @@ give_back dangles a c = do
 unfoldable pub free_address : Bool → Address → Scopes → Answer (Address × Scopes)
 free_address dangles a c = do
   _ ← refuse 13 when (is_freed a.kind)
-  d ← if (goes_back c a.kind) then give_back dangles a.slot c else given c
+  d ← provided (goes_back c a.kind) then give_back dangles a.slot c else given c
   given (address a.slot freed, d)
 
 -- "forget makes the kind Freed and keeps the slot."
@@ -190,7 +190,7 @@ pub record Assignment : Type 0 where
 -- "assign from x: Defer becomes Assigned x; an Address other than x answers "copy x to it"; else nothing."
 unfoldable pub assign_from : ℕ → Need → Assignment
 assign_from x (defer id) = record { need = at (address x assigned); copy_to = none }
-assign_from x (at a) = record { need = at a; copy_to = if (eqb a.slot x) then none else some a.slot }
+assign_from x (at a) = record { need = at a; copy_to = provided (eqb a.slot x) then none else some a.slot }
 assign_from x ignore = record { need = ignore; copy_to = none }
 assign_from x freed_need = record { need = freed_need; copy_to = none }
 

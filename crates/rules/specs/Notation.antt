@@ -6,7 +6,7 @@ infixl 5 ◌▹◌
 infixl 10 ◌>>=◌
 infix 20 refuse◌when◌
 infix 20 refuse◌unless◌
-infix 20 if◌then◌else◌
+infix 20 provided◌then◌else◌
 -- ---- answers
 
 -- an answer is given, or refused by a number of the table in "Numbers given back"
@@ -27,9 +27,9 @@ unfoldable pub refuse◌unless◌ : {A : Type 0} → ℕ → Option A → Answer
 refuse n unless none = refused n
 refuse n unless (some a) = given a
 
-unfoldable pub if◌then◌else◌ : {A : Type 0} → Bool → A → A → A
-if true then x else y = x
-if false then x else y = y
+unfoldable pub provided◌then◌else◌ : {A : Type 0} → Bool → A → A → A
+provided true then x else y = x
+provided false then x else y = y
 
 abbrev pub is_some : {A : Type 0} → Option A → Bool
 is_some none = false

@@ -8,7 +8,7 @@ use native.Mathlib.Numerals.{add-one}
 use lib.ListN.{length, get_or, take, drop, set}
 use lib.Seq.{take-suc, drop-cons, set_at, length-take-le}
 use borrow.Author.Tests.{le-leb, lt-leb}
-use Rattle.rules.specs.Notation.{if◌then◌else◌}
+use Rattle.rules.specs.Notation.{provided◌then◌else◌}
 use Rattle.rules.specs.Sizes.{base, LINES, PAGE}
 use Rattle.rules.specs.Frames.{Outcome}
 use Rattle.rules.specs.Text.{list_text}
@@ -59,14 +59,14 @@ module _ (script list page : List ℕ) (e : Ended) where
 
 module _ (script list page : List ℕ) (e : Ended) (on : EndsOn (translated base script) e page) where
   pub left-short : (n k r : ℕ) → e ≡ ended.Listed n k → length list < n → r ≡ refusal_answer 17 0 → LeavesOn (length page) (translate_entry base script list) r list
-  unfolding translate_entry list_left if◌then◌else◌
+  unfolding translate_entry list_left provided◌then◌else◌
   left-short n k r q l a = leaves (go (listed-ends script list page e on n k q) q)
     where
       go : {o : Outcome} {x : Ended} → Ends o x page → x ≡ ended.Listed n k → LeavesList (list_left o list) r list
       go (refused b) q = absurd (let z : ◌≡◌ {A = ℕ} 0 1 = cc in omega arith)
       go (listed {ls = ls} {size = size} {n = m} x y z) q =
           let same : m ≡ n = cc in
-          rw (lt-leb (length (list_text ls size)) (length list) (omega arith), if◌then◌else◌) (record { answered = a; list_left = refl })
+          rw (lt-leb (length (list_text ls size)) (length list) (omega arith), provided◌then◌else◌) (record { answered = a; list_left = refl })
 
   pub page-room : (n k : ℕ) → e ≡ ended.Listed n k → n ≤ length page
   page-room n k q = go (listed-ends script list page e on n k q) q
@@ -76,7 +76,7 @@ module _ (script list page : List ℕ) (e : Ended) (on : EndsOn (translated base
       go (listed {n = m} x y z) q = let same : m ≡ n = cc in omega arith
 
   pub left-list : (n k : ℕ) (list' : List ℕ) → e ≡ ended.Listed n k → n ≤ length list → list' ≡ take n page ++ drop n list → LeavesOn (length page) (translate_entry base script list) n list'
-  unfolding translate_entry list_left if◌then◌else◌
+  unfolding translate_entry list_left provided◌then◌else◌
   left-list n k list' q l a = leaves (go (listed-ends script list page e on n k q) q)
     where
       go : {o : Outcome} {x : Ended} → Ends o x page → x ≡ ended.Listed n k → LeavesList (list_left o list) n list'
@@ -85,7 +85,7 @@ module _ (script list page : List ℕ) (e : Ended) (on : EndsOn (translated base
           let same : m ≡ n = cc in
           let t : take n page ≡ list_text ls size = sym (ap (λ (j : ℕ). take j page) same) ∙ z in
           let e : n ≡ length (list_text ls size) = omega arith in
-          rw (le-leb (length (list_text ls size)) (length list) (omega arith), if◌then◌else◌)
+          rw (le-leb (length (list_text ls size)) (length list) (omega arith), provided◌then◌else◌)
           (record { answered = e; list_left = a ∙ ap (λ (b : List ℕ). b ++ drop n list) t ∙ ap (λ (j : ℕ). list_text ls size ++ drop j list) e })
 
 -- ---- by the page

@@ -8,7 +8,7 @@ use native.Mathlib.Omega.{arith}
 use lib.Dec.{leb}
 use lib.ListN.{length, length-append}
 use borrow.Author.Tests.{leb-true}
-use Rattle.rules.specs.Notation.{if◌then◌else◌}
+use Rattle.rules.specs.Notation.{provided◌then◌else◌}
 use Rattle.rules.specs.Sizes.{base, LINES, LONGEST_LIST}
 use Rattle.rules.specs.Slots.{Place, by_head, lowest, exactly_at}
 use Rattle.rules.specs.Frames.{start, Frame, Line, shows, Outcome, accepted, refused_at, before, steps}
@@ -64,13 +64,13 @@ abbrev pub Halves : List ℕ → Translation → Type 0
 Halves list l = Both (length list) LONGEST_LIST 22 LINES (l.list ≡ list) l.answer
 
 halves_of : (list : List ℕ) (o : Outcome) → Comes o → Halves list (list_left o list)
-unfolding list_left if◌then◌else◌
+unfolding list_left provided◌then◌else◌
 halves_of list _ (to-stop n i a b c) = by_number_lem _ _ _ _ _ n i (omega arith) a b c refl
 halves_of list _ (to-list {ls = ls} {size = size} a) = go (leb (length (list_text ls size)) (length list)) refl
   where
     go : (b : Bool) → leb (length (list_text ls size)) (length list) ≡ b → Halves list (list_left (accepted ls size) list)
-    go true e = rw (e, if◌then◌else◌) (by_count _ _ _ _ _ _ (omega arith) (leb-true _ _ e) a)
-    go false e = rw (e, if◌then◌else◌) (by_number_lem _ _ _ _ _ 17 0 (omega arith) (omega arith) (omega arith) (omega arith) refl)
+    go true e = rw (e, provided◌then◌else◌) (by_count _ _ _ _ _ _ (omega arith) (leb-true _ _ e) a)
+    go false e = rw (e, provided◌then◌else◌) (by_number_lem _ _ _ _ _ 17 0 (omega arith) (omega arith) (omega arith) (omega arith) refl)
 
 pub translate-halves : (script list : List ℕ) → Halves list (translate_entry base script list)
 unfolding translate_entry base
