@@ -2,7 +2,7 @@
 // is handed one. No product links it.
 #![tactic(auto)]
 
-ghost use Rattle.std.specs.Prelude.{◌≡◌, ◌-◌};
+ghost use Rattle.std.specs.Prelude.{◌≡◌, ◌-◌, ◌≤◌};
 ghost use Rattle.rules.specs.Notation.{given};
 ghost use Rattle.rules.specs.Needs as rule;
 ghost use Rattle.rules.specs.Sizes.{SCOPES, SLOTS};
@@ -39,8 +39,9 @@ fn opened() -> Scopes
 
 // As many names as there can be, in the top scope.
 fn bound(t: Scopes) -> Scopes
-    requires { Sound t × Filled (SCOPES - 1) SLOTS 0 (view t) }
-    ensures { Sound result × Full (view result) }
+    requires { Sound t }
+    ensures sound { Sound result }
+    ensures full { Filled (SCOPES - 1) SLOTS 0 (view t) → Full (view result) }
 {
     let mut s = t;
     let mut i: usize = 0;
@@ -78,8 +79,7 @@ pub extern "C" fn full_checks(n: usize) -> usize
 
 // The first slot is allocated, and freed without dangling: two calls.
 fn in_turn(s: Scopes) -> AddressOutcome
-    requires { Sound s × Idle (view s) }
-    ensures { (address_says result.answer ≡ given (rule.address 0 rule.freed)) × Idle (view result.state) × Sound result.state }
+    ensures { Sound s → Idle (view s) → (address_says result.answer ≡ given (rule.address 0 rule.freed)) × Idle (view result.state) × Sound result.state }
 {
     let o = addresses::alloc(s);
     let slot = SlotAddress(0);
@@ -87,12 +87,12 @@ fn in_turn(s: Scopes) -> AddressOutcome
     addresses::free(o.state, Address { slot, kind }, false)
 }
 
-// How many of these pairs of calls are answered, up to the first that is refused: all are.
-#[unsafe(no_mangle)]
-pub extern "C" fn entry_pairs(pairs: usize) -> usize
-    ensures { result ≡ pairs }
+// How many of these pairs of calls are answered, up to the first that is refused.
+fn answered(start: Scopes, pairs: usize) -> usize
+    ensures most { result ≤ pairs }
+    ensures all { Sound start → Idle (view start) → result ≡ pairs }
 {
-    let mut s = scopes::fresh();
+    let mut s = start;
     let mut i: usize = 0;
     while i < pairs {
         let o = in_turn(s);
@@ -105,4 +105,12 @@ pub extern "C" fn entry_pairs(pairs: usize) -> usize
         i += 1;
     }
     i
+}
+
+// From a fresh state: all of them are.
+#[unsafe(no_mangle)]
+pub extern "C" fn entry_pairs(pairs: usize) -> usize
+    ensures { result ≡ pairs }
+{
+    answered(scopes::fresh(), pairs)
 }

@@ -9,7 +9,9 @@ use Rattle.checks.proofs.Filling.{slots-all}
 use Rattle.checks.proofs.full.Goals as goal
 
 pub bound-requires : goal.bound-requires
-bound-requires c =
+bound-requires c = c.alloc_run-o.ensures.1
+
+pub returns : goal.returns
+returns c =
     let s = c.opened.ensures in
-    let o = c.alloc_run-o.ensures in
-    (o.1, next (Filled (SCOPES - 1) SLOTS 0) _ _ at_first o.0 (slots-all _ _ s.1 (omega arith) (slots-sound _ s.0) _ (omega arith)))
+    (c.bound.ensures.sound, c.bound.ensures.full (next (Filled (SCOPES - 1) SLOTS 0) _ _ at_first c.alloc_run-o.ensures.0 (slots-all _ _ s.1 (omega arith) (slots-sound _ s.0) _ (omega arith))))

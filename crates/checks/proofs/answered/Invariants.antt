@@ -2,10 +2,10 @@ use Prim.Native.Nat.{◌-◌, ◌≤◌}
 use Rattle.scopes.specs.View.{view}
 use Rattle.scopes.specs.Sound.{Sound}
 use Rattle.checks.specs.States.{Idle}
-use Rattle.checks.proofs.entry_pairs.Given as goal
+use Rattle.checks.proofs.answered.Given as goal
 
 abbrev pub invariant-loop-i : goal.invariant-loop-i
-invariant-loop-i l = Sound l.s × Idle (view l.s) × (l.i ≤ l.pairs)
+invariant-loop-i l = (l.i ≤ l.pairs) × (Sound l.fn.start → Idle (view l.fn.start) → Sound l.s × Idle (view l.s))
 
 abbrev pub decreases-loop-i : goal.decreases-loop-i
 decreases-loop-i l = l.pairs - l.i
