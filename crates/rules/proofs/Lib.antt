@@ -18,6 +18,7 @@ pub mod RunTold
 pub mod Effects
 pub mod Demand3
 pub mod Refusals
+pub mod Says
 pub mod Digits
 pub mod Lists
 pub mod Members

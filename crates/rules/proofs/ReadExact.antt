@@ -230,7 +230,7 @@ title-exact s p e =
 
 -- ---- a list
 
-unfoldable joined : List Split → List ℕ
+unfoldable pub joined : List Split → List ℕ
 joined [] = []
 joined (l ∷ ls) = line_bytes l ++ joined ls
 
@@ -248,6 +248,11 @@ joined-split (c ∷ cs) = go (eqb c 10) refl (joined-split cs)
     go : (b : Bool) → eqb c 10 ≡ b → joined (split cs) ≡ cs → joined (split (c ∷ cs)) ≡ c ∷ cs
     go true e ih = rw (e, split) (let z : 10 ≡ c = sym (eqb-true c 10 e) in ap (λ (t : List ℕ). 10 ∷ t) ih ∙ ap (λ (x : ℕ). x ∷ cs) z)
     go false e ih = rw (e, split) (joined-onto c (split cs) ∙ ap (λ (t : List ℕ). c ∷ t) ih)
+
+-- a text whose first line is a title begins with the title's bytes
+pub title-begins : (s : List ℕ) (k : Split) (ks : List Split) (p : Place) → split s ≡ k ∷ ks → line_of title_table k ≡ some p → s ≡ line_text (shows 0xf0 (2 ∷ [])) ++ joined ks
+unfolding joined
+title-begins s k ks p e q = sym (joined-split s) ∙ rw e (ap (λ (t : List ℕ). t ++ joined ks) (title-exact k p q).0)
 
 pub not_listed : {P : Type 0} {m j n : ℕ} {ls : List Line} → unlisted m j ≡ listed ls n → P
 not_listed e = absurd (let z : ◌≡◌ {A = ℕ} 0 1 = cc in omega arith)

@@ -20,3 +20,5 @@ pub mod Drops
 pub mod Editions
 pub mod Suppliers
 pub mod Rooms
+pub mod Refusals
+pub mod Options

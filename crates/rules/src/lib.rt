@@ -1,7 +1,11 @@
-// The rules of document 01 are definitions: they stand in specs/, and no code runs here. Only the sizes stand in code too, since the length of an
+// The rules of document 01 are definitions: they stand in specs/. Of code there are the refusals, and the sizes, since the length of an
 // array names no definition: each has here the name and the value that it has in specs/Sizes.antt, and where the two differ a proof breaks.
 
 #![tactic(auto)]
+
+pub mod refusal; // "Numbers given back"
+
+pub use refusal::Refusal;
 
 pub const SEGMENTS: usize = 32;
 
