@@ -1,16 +1,16 @@
--- `first_clear` and `past_last`: each gives the one number with the properties that its name says. Assumes nothing.
+-- `clear_from` and `past_last`: each gives the one number with the properties that its name says. Assumes nothing.
 use mathlib.Core.Path.{◌≡◌, refl, sym, ap, subst, ◌∙◌}
 use mathlib.Core.Bool.{Bool, true, false, not}
 use mathlib.Core.Logic.{by_cases}
-use mathlib.Core.Option.{Option, none, some}
+use mathlib.Core.Option.{none, some}
 use Prim.Native.Nat.{ℕ, zero, suc, ◌+◌, ◌≤◌, ◌<◌}
 use native.Mathlib.Decide.{dec_lt}
 use native.Mathlib.Omega.{arith}
 use borrow.Author.Tests.{not-true, not-false}
-use Rattle.rules.specs.Notation.{or_else, first, past_last}
+use Rattle.rules.specs.Notation.{past_last}
 use Rattle.rules.proofs.Searches.{first_found, first-none, first-is, first-is-none, past-within, past-above, past-last}
 use Rattle.rules.proofs.Tells.{clash, decided}
-use Rattle.slots.specs.Halves.{first_clear}
+use Rattle.slots.specs.Halves.{clear_from}
 
 -- what holds from a to b and from b to c holds from a to c
 pub seam : (P : ℕ → Type 0) (a b c : ℕ) → ((k : ℕ) → a ≤ k → k < b → P k) → ((k : ℕ) → b ≤ k → k < c → P k) → (k : ℕ) → a ≤ k → k < c → P k
@@ -21,12 +21,12 @@ pub at_one : (P : ℕ → Type 0) (a b : ℕ) → b ≤ a + 1 → P a → (k : �
 at_one P a b t here k l h = let e : a ≡ k = omega arith in subst P e here
 
 module _ (p : ℕ → Bool) where
-  -- r is the least clear place of the n from i on, or i + n
-  pub record Clear (i n r : ℕ) : Type 0 where
-    pub low : i ≤ r
-    pub high : r ≤ i + n
-    pub before : (j : ℕ) → i ≤ j → j < r → p j ≡ true
-    pub here : r < i + n → p r ≡ false
+  -- a is the least clear place of the n from i on
+  pub record LeastClear (i n a : ℕ) : Type 0 where
+    pub low : i ≤ a
+    pub high : a < i + n
+    pub before : (j : ℕ) → i ≤ j → j < a → p j ≡ true
+    pub here : p a ≡ false
 
   -- r is one past the last place below n that passes, or 0
   pub record Past (n r : ℕ) : Type 0 where
@@ -37,21 +37,20 @@ module _ (p : ℕ → Bool) where
   abbrev clear : ℕ → Bool
   clear j = not (p j)
 
-  pub clear-is : (i n r : ℕ) → Clear i n r → first_clear p i n ≡ r
-  clear-is i n r q =
-      by_cases (dec_lt r (i + n))
-      (λ l. ap (λ (o : Option ℕ). or_else o (i + n)) (first-is clear i n r (record { low = q.low; high = l; before = λ j a b. ap not (q.before j a b); passes = ap not (q.here l) })))
-      (λ l. ap (λ (o : Option ℕ). or_else o (i + n)) (first-is-none clear i n (λ j a b. ap not (q.before j a (omega arith)))) ∙ omega (arith, q.high))
+  module _ (i n : ℕ) where
+    pub clear-is : (a : ℕ) → LeastClear i n a → clear_from p i n ≡ some a
+    clear-is a q = first-is clear i n a (record { low = q.low; high = q.high; before = λ j l h. ap not (q.before j l h); passes = ap not q.here })
 
-  -- what a result that is equal to the search is
-  pub clear_of : (i n r : ℕ) → r ≡ first_clear p i n → Clear i n r
-  clear_of i n r e = subst (Clear i n) (sym e) (go (first clear i n) refl)
-    where
-      go : (o : Option ℕ) → first clear i n ≡ o → Clear i n (or_else (first clear i n) (i + n))
-      go (some a) f =
-          let q = first_found clear i n a f in
-          rw f (record { low = q.low; high = omega (arith, q.high); before = λ j x y. not-false _ (q.before j x y); here = λ _. not-true _ q.passes })
-      go none f = rw f (record { low = omega arith; high = omega arith; before = λ j x y. not-false _ (first-none clear i n f j x y); here = λ l. absurd (omega arith) })
+    pub clear_of : (a : ℕ) → clear_from p i n ≡ some a → LeastClear i n a
+    clear_of a e =
+        let q = first_found clear i n a e in
+        record { low = q.low; high = q.high; before = λ j l h. not-false _ (q.before j l h); here = not-true _ q.passes }
+
+    pub full-is : ((j : ℕ) → i ≤ j → j < i + n → p j ≡ true) → clear_from p i n ≡ none
+    full-is f = first-is-none clear i n (λ j l h. ap not (f j l h))
+
+    pub full_of : clear_from p i n ≡ none → (j : ℕ) → i ≤ j → j < i + n → p j ≡ true
+    full_of e j l h = not-false _ (first-none clear i n e j l h)
 
   pub past_of : (n r : ℕ) → r ≡ past_last p n → Past n r
   past_of n r e =

@@ -1,38 +1,28 @@
 -- Where the slots of an allocation go: what the code finds, as the rules say it. Assumes nothing.
 use mathlib.Core.Path.{◌≡◌, refl, sym, ap, subst, ◌∙◌}
-use mathlib.Core.Bool.{Bool, true, false, not}
+use mathlib.Core.Bool.{Bool, true, false}
 use mathlib.Core.Logic.{by_cases}
 use mathlib.Core.Option.{Option, none, some}
 use Prim.Native.Nat.{ℕ, zero, suc, ◌+◌, ◌*◌, ◌-◌, ◌/◌, ◌%◌, min, max, ◌≤◌, ◌<◌}
 use native.Mathlib.Decide.{dec_lt, ℕ_discrete}
 use native.Mathlib.Omega.{arith}
-use lib.Dec.{ltb}
-use borrow.Author.Tests.{ne_eqb, lt-ltb, le-ltb}
-use Rattle.rules.specs.Notation.{given, put, first, past_last}
+use lib.Dec.{eqb, ltb}
+use borrow.Author.Tests.{eq-eqb, ne_eqb, lt-ltb, le-ltb}
+use Rattle.rules.specs.Notation.{given, put, past_last}
 use Rattle.rules.specs.Sizes.{base, SEGMENTS, SLOTS}
 use Rattle.rules.specs.Sound.{sound_slots}
-use Rattle.rules.specs.Slots.{Slots, placed, Placement, past_greatest, push_at, pushes, push_run, edition1, lowest_of_all, take_at, insert_lowest, edition2, vacant, take_run, exactly, Place, by_head, lowest, placing}
+use Rattle.rules.specs.Slots.{Slots, Placed, placed, past_greatest, push_at, pushes, push_run, edition1, lowest_of_all, take_at, insert_lowest, edition2, vacant, take_run, exactly, Place, by_head, lowest, placing}
 use Rattle.rules.specs.Tells.{Tells}
 use Rattle.rules.specs.Demand3.{Gives}
-use Rattle.rules.proofs.Searches.{first_found}
 use Rattle.rules.proofs.Tells.{is_false, clash}
 use Rattle.rules.proofs.Tests.{tells-slots}
 use Rattle.rules.proofs.Editions.{InOrder, sound-in-order, vacant-tells, placing-fair}
-use Rattle.slots.specs.Halves.{first_clear, grown_to}
-use Rattle.slots.specs.Spots.{Vacant, filled, taken_at, pushed_from, after, GoesFrom, Goes}
+use Rattle.std.specs.Prelude.{Some}
+use Rattle.slots.specs.Halves.{clear_from, grown_to}
+use Rattle.slots.specs.Spots.{Vacant, filled, taken_from, pushed_from, after, spot_says, taking, going_from}
 use Rattle.slots.specs.Promises.{refusing, placed_or7}
 use Rattle.slots.specs.declared.Spot.{Spot}
-use Rattle.slots.proofs.Steps.{grown-new, grown-stays, insert-none, insert-some}
-
-pub goes_none : {place : Placement} {n : ℕ} {s : Slots} {r : Spot} → place n s ≡ none → r.address ≡ SLOTS → Goes place n s r
-goes_none e q = record { nowhere = λ _. e; there = λ ne. absurd (ne q) }
-
-pub goes_some : {place : Placement} {n : ℕ} {s : Slots} {r : Spot} → place n s ≡ placed r.address (after s n r) → r.address < SLOTS → Goes place n s r
-goes_some e l = record { nowhere = λ q. absurd (omega arith); there = λ _. e }
-
--- two placements that put n slots of s alike
-goes-as : {p q : Placement} {n : ℕ} {s : Slots} {r : Spot} → p n s ≡ q n s → Goes q n s r → Goes p n s r
-goes-as e g = record { nowhere = λ z. e ∙ g.nowhere z; there = λ ne. e ∙ g.there ne }
+use Rattle.slots.proofs.Steps.{grown-new, grown-stays, insert-from}
 
 -- ---- pushed one by one
 
@@ -72,13 +62,13 @@ pushes-after (suc n) g s =
     ∙ (λ u. record { occupied = filled (suc g) (suc n) (put s.occupied g true); segments = pushed_more s.segments g n u; head = s.head })
 
 module _ (s : Slots) (n g : ℕ) (e : g ≡ past_last s.occupied SLOTS) where
-  pub run_none : SLOTS < g + n → push_run SEGMENTS n s ≡ none
+  run_none : SLOTS < g + n → push_run SEGMENTS n s ≡ none
   unfolding push_run past_greatest
   run_none l = rw (lt-ltb SLOTS (past_last s.occupied SLOTS + n) (omega arith), push_run)
 
-  pub run-some : 0 < n → g + n ≤ SLOTS → push_run SEGMENTS n s ≡ placed g (after s n (pushed_from s.segments s.head g n))
+  run_some : 0 < n → g + n ≤ SLOTS → push_run SEGMENTS n s ≡ placed g (after s n (pushed_from s.segments s.head g n))
   unfolding push_run past_greatest
-  run-some pos l =
+  run_some pos l =
       rw (le-ltb SLOTS (past_last s.occupied SLOTS + n) (omega arith), push_run)
       (ap (λ (x : ℕ). placed x (pushes x n s)) (sym e) ∙ ap (placed g) (go n pos))
     where
@@ -86,44 +76,24 @@ module _ (s : Slots) (n g : ℕ) (e : g ≡ past_last s.occupied SLOTS) where
       go zero z = absurd (omega arith)
       go (suc m) z = pushes-after m g s
 
--- ---- one slot
+-- ---- by the editions
 
--- the slot a is taken, as `take_at` says it
-one-after : (s : Slots) (a : ℕ) → take_at a s ≡ after s 1 (taken_at s.segments a)
-unfolding take_at filled
-one-after s a = refl
+pub goes-by-head : (s : Slots) (n m : ℕ) → sound_slots SEGMENTS s ≡ true → m ≡ min s.head s.segments → going_from m n s ≡ placing SEGMENTS by_head n s
+unfolding placing edition1 going_from
+goes-by-head s n m y e =
+    by_cases (ℕ_discrete n 1)
+    (λ z. rw (eq-eqb n 1 z, edition1, going_from) (sym (insert-from SEGMENTS s y m e)))
+    (λ z. rw (ne_eqb n 1 z, edition1, going_from))
 
-module _ (s : Slots) (n : ℕ) (r : Spot) where
-  pub goes-by-head : sound_slots SEGMENTS s ≡ true → (m : ℕ) → m ≡ min s.head s.segments → GoesFrom m n s r → Goes (placing SEGMENTS by_head) n s r
-  unfolding placing edition1 take_at
-  goes-by-head y m em g =
-      by_cases (ℕ_discrete n 1)
-      (λ z. subst (λ (x : ℕ). Goes (placing SEGMENTS by_head) x s r) (sym z) (subst (Goes (placing SEGMENTS by_head) 1 s) (sym (g.one z)) (one (first_clear s.occupied (128 * m) (SLOTS - 128 * m)) refl)))
-      (λ ne. goes-as (rw (ne_eqb n 1 ne, edition1)) (g.run ne))
-    where
-      one : (a : ℕ) → a ≡ first_clear s.occupied (128 * m) (SLOTS - 128 * m) → Goes (placing SEGMENTS by_head) 1 s (taken_at s.segments a)
-      one a e =
-          record {
-            nowhere = λ z. insert-none SEGMENTS s y m a em e z;
-            there = λ ne. insert-some SEGMENTS s y m a em e ne ∙ ap (placed a) (one-after s a);
-          }
-
-  pub goes-lowest : GoesFrom 0 n s r → Goes (placing SEGMENTS lowest) n s r
-  unfolding placing edition2 insert_lowest lowest_of_all
-  goes-lowest g =
-      by_cases (ℕ_discrete n 1)
-      (λ z. subst (λ (x : ℕ). Goes (placing SEGMENTS lowest) x s r) (sym z) (subst (Goes (placing SEGMENTS lowest) 1 s) (sym (g.one z)) (one (first (λ a. not (s.occupied a)) 0 SLOTS) refl)))
-      (λ ne. goes-as (rw (ne_eqb n 1 ne, edition2)) (g.run ne))
-    where
-      one : (o : Option ℕ) → first (λ a. not (s.occupied a)) 0 SLOTS ≡ o → Goes (placing SEGMENTS lowest) 1 s (taken_at s.segments (first_clear s.occupied 0 SLOTS))
-      one none e = rw e (goes_none (rw (e, insert_lowest, lowest_of_all)) refl)
-      one (some a) e = rw e (goes_some (rw (e, insert_lowest, lowest_of_all) (ap (placed a) (one-after s a))) (first_found (λ a. not (s.occupied a)) 0 SLOTS a e).high)
+pub goes-lowest : (s : Slots) (n : ℕ) → going_from 0 n s ≡ placing SEGMENTS lowest n s
+unfolding placing edition2 insert_lowest lowest_of_all going_from
+goes-lowest s n = ap (λ (x : Option Placed). elim (eqb n 1) [ true ↦ x | false ↦ push_run SEGMENTS n s ]) (lowest-from (clear_from s.occupied 0 SLOTS))
+  where
+    lowest-from : (o : Option ℕ) → taking o s ≡ elim o [ none ↦ none | some a ↦ placed a (take_at a s) ]
+    lowest-from none = refl
+    lowest-from (some a) = refl
 
 -- ---- exactly at an address
-
--- what `taken` says of the last of n slots from a on, with the first one's address
-abbrev pub taken_from : ℕ → ℕ → ℕ → Spot
-taken_from l a n = record { address = a; segments = max l ((a + n - 1) / 128 + 1); head = (a + n - 1) / 128 }
 
 takes-after : (n a : ℕ) (s : Slots) → take_run a (suc n) s ≡ after s (suc n) (taken_from s.segments a (suc n))
 unfolding take_run take_at filled
@@ -136,60 +106,76 @@ takes-after (suc n) a s =
     takes-after n (suc a) (take_at a s) ∙ (λ u. record { occupied = filled (suc a) (suc n) (put s.occupied a true); segments = l u; head = h u })
 
 -- one slot more is clear
-pub clear-on : (f : ℕ → Bool) (a i : ℕ) → ((j : ℕ) → j < i → f (a + j) ≡ false) → f (a + i) ≡ false → (j : ℕ) → j < i + 1 → f (a + j) ≡ false
-clear-on f a i all here j l = by_cases (dec_lt j i) (all j) (λ n. let e : i ≡ j = omega arith in subst (λ (x : ℕ). f (a + x) ≡ false) e here)
+pub clear-on : (f : ℕ → Bool) (a b : ℕ) → ((j : ℕ) → a ≤ j → j < b → f j ≡ false) → f b ≡ false → (j : ℕ) → a ≤ j → j < b + 1 → f j ≡ false
+clear-on f a b all here j l h = by_cases (dec_lt j b) (all j l) (λ n. let e : b ≡ j = omega arith in subst (λ (x : ℕ). f x ≡ false) e here)
 
-module _ (s : Slots) (n a : ℕ) where
+-- a slot of the n from a on
+pub among : (f : ℕ → Bool) (a n : ℕ) → Vacant f a n → (b : ℕ) → a ≤ b → b < a + n → f b ≡ false
+among f a n v b l h = let e : a + (b - a) ≡ b = omega arith in subst (λ (x : ℕ). f x ≡ false) e (v.1 (b - a) (omega arith))
+
+module _ (s : Slots) (n a : ℕ) (b : Bool) (t : Tells b (Vacant s.occupied a n)) where
   tells-vacant : Tells (vacant SEGMENTS a n s) (Vacant s.occupied a n)
   tells-vacant = vacant-tells SEGMENTS a n s
 
-  pub at_none : (b : Bool) → Tells b (Vacant s.occupied a n) → b ≡ false → exactly SEGMENTS a n s ≡ none
+  pub at-none : b ≡ false → none ≡ exactly SEGMENTS a n s
   unfolding exactly
-  at_none b t e = rw (is_false (vacant SEGMENTS a n s) (λ y. clash (t.shows (tells-vacant.holds y)) e), exactly)
+  at-none e = rw (is_false (vacant SEGMENTS a n s) (λ y. clash (t.shows (tells-vacant.holds y)) e), exactly)
 
-  at_some : Vacant s.occupied a n → 0 < n → exactly SEGMENTS a n s ≡ placed a (after s n (taken_from s.segments a n))
+  pub at-some : (r : Spot) → 0 < n → b ≡ true → r ≡ taken_from s.segments a n → spot_says n s (Some r) ≡ exactly SEGMENTS a n s
   unfolding exactly
-  at_some v pos = rw (tells-vacant.shows v, exactly) (ap (placed a) (go n pos))
+  at-some r pos e q = rw (tells-vacant.shows (t.holds e), q, exactly) (ap (placed a) (go n pos))
     where
-      go : (m : ℕ) → 0 < m → take_run a m s ≡ after s m (taken_from s.segments a m)
+      go : (m : ℕ) → 0 < m → after s m (taken_from s.segments a m) ≡ take_run a m s
       go zero z = absurd (omega arith)
-      go (suc m) z = takes-after m a s
-
-  pub at_there : (r : Spot) → Vacant s.occupied a n → 0 < n → r ≡ taken_from s.segments a n → Goes (exactly SEGMENTS a) n s r
-  at_there r v pos q = subst (Goes (exactly SEGMENTS a) n s) (sym q) (goes_some (at_some v pos) (omega (arith, v.0)))
+      go (suc m) z = sym (takes-after m a s)
 
 -- ---- what `from_on` returns
 
-module _ (s : Slots) (n : ℕ) (r : Spot) where
-  pub from_one : (from a : ℕ) → n ≡ 1 → a ≡ first_clear s.occupied (128 * from) (SLOTS - 128 * from) → r ≡ taken_at s.segments a → GoesFrom from n s r
-  from_one from a z e q = record { one = λ _. q ∙ ap (λ (x : ℕ). taken_at s.segments x) e; run = λ ne. absurd (ne z) }
+module _ (s : Slots) (n from : ℕ) where
+  pub one-none : n ≡ 1 → none ≡ clear_from s.occupied (128 * from) (SLOTS - 128 * from) → none ≡ going_from from n s
+  unfolding going_from
+  one-none z e = rw (eq-eqb n 1 z, going_from, sym e)
 
-  pub from-run : (from : ℕ) → (n ≡ 1 → ⊥) → Goes (push_run SEGMENTS) n s r → GoesFrom from n s r
-  from-run from ne g = record { one = λ z. absurd (ne z); run = λ _. g }
+  pub one-some : (r : Spot) (a : ℕ) → n ≡ 1 → some a ≡ clear_from s.occupied (128 * from) (SLOTS - 128 * from) → r ≡ taken_from s.segments a 1
+      → spot_says n s (Some r) ≡ going_from from n s
+  unfolding filled take_at going_from
+  one-some r a z e q = rw (z, going_from, sym e, q) (λ u. placed a (record { occupied = put s.occupied a true; segments = max s.segments (same u / 128 + 1); head = same u / 128 }))
+    where
+      same : a + 1 - 1 ≡ a
+      same = omega arith
 
-  pub run-there : (g : ℕ) → g ≡ past_last s.occupied SLOTS → 0 < n → g + n ≤ SLOTS → r ≡ pushed_from s.segments s.head g n → Goes (push_run SEGMENTS) n s r
-  run-there g e pos l q = subst (Goes (push_run SEGMENTS) n s) (sym q) (goes_some (run-some s n g e pos l) (omega arith))
+  module _ (g : ℕ) (e : g ≡ past_last s.occupied SLOTS) (ne : n ≡ 1 → ⊥) where
+    pub run-none : SLOTS < g + n → none ≡ going_from from n s
+    unfolding going_from
+    run-none l = rw (ne_eqb n 1 ne, going_from) (sym (run_none s n g e l))
+
+    pub run-some : (r : Spot) → 0 < n → g + n ≤ SLOTS → r ≡ pushed_from s.segments s.head g n → spot_says n s (Some r) ≡ going_from from n s
+    unfolding going_from
+    run-some r pos l q = rw (ne_eqb n 1 ne, going_from, q) (sym (run_some s n g e pos l))
 
 -- ---- where it goes, the slots are clear and below the room, and the state stays in order
 
-module _ (p : Place) (n : ℕ) (s : Slots) (r : Spot) (y : sound_slots SEGMENTS s ≡ true) (g : Goes (placing SEGMENTS p) n s r) (ne : r.address ≡ SLOTS → ⊥) where
+module _ (p : Place) (n : ℕ) (s : Slots) (r : Spot) (y : sound_slots SEGMENTS s ≡ true) (g : spot_says n s (Some r) ≡ placing SEGMENTS p n s) where
   fair : InOrder SEGMENTS (after s n r) × Gives n s (record { address = r.address; next = after s n r }) × (r.address + n ≤ SLOTS)
   unfolding base
-  fair = (placing-fair base p).placed n s _ (g.there ne) (sound-in-order SEGMENTS s ((tells-slots SEGMENTS s).holds y))
+  fair = (placing-fair base p).placed n s _ (sym g) (sound-in-order SEGMENTS s ((tells-slots SEGMENTS s).holds y))
 
-  pub goes-in-order : InOrder SEGMENTS (after s n r)
-  goes-in-order = fair.0
+  pub spot-in-order : InOrder SEGMENTS (after s n r)
+  spot-in-order = fair.0
 
-  pub goes-vacant : Vacant s.occupied r.address n
-  goes-vacant = (fair.2, fair.1.clear)
+  pub spot-vacant : Vacant s.occupied r.address n
+  spot-vacant = (fair.2, fair.1.clear)
+
+  pub spot-below : r.address + n ≤ SLOTS
+  spot-below = fair.2
 
 -- ---- one slot, as an answer
 
-module _ {place : Placement} {s : Slots} {r : Spot} (g : Goes place 1 s r) where
-  pub one-refused : r.address ≡ SLOTS → refusing 7 s ≡ placed_or7 s (place 1 s)
-  one-refused z = ap (placed_or7 s) (sym (g.nowhere z))
+module _ (s : Slots) {o : Option Placed} where
+  pub one-refused : none ≡ o → refusing 7 s ≡ placed_or7 s o
+  one-refused e = ap (placed_or7 s) e
 
-  pub one_placed : {f : ℕ → Bool} → (r.address ≡ SLOTS → ⊥) → f ≡ put s.occupied r.address true
-      → record { next = record { occupied = f; segments = r.segments; head = r.head }; says = given r.address } ≡ placed_or7 s (place 1 s)
+  pub one-placed : (r : Spot) {f : ℕ → Bool} → spot_says 1 s (Some r) ≡ o → f ≡ put s.occupied r.address true
+      → record { next = record { occupied = f; segments = r.segments; head = r.head }; says = given r.address } ≡ placed_or7 s o
   unfolding filled
-  one_placed ne e = (λ i. record { next = record { occupied = e i; segments = r.segments; head = r.head }; says = given r.address }) ∙ ap (placed_or7 s) (sym (g.there ne))
+  one-placed r g e = (λ i. record { next = record { occupied = e i; segments = r.segments; head = r.head }; says = given r.address }) ∙ ap (placed_or7 s) g

@@ -1,19 +1,22 @@
 -- The slots that the halves say are occupied: those of one half, all of them after a store, and that they tell the halves. Assumes nothing.
 use mathlib.Core.Path.{◌≡◌, refl, sym, ap, ◌∙◌, fun_ext}
-use mathlib.Core.Bool.{Bool, true, false}
+use mathlib.Core.Bool.{Bool, true, false, not, ◌&&◌}
 use mathlib.Core.List.{List}
 use mathlib.Core.Logic.{by_cases}
+use mathlib.Core.Option.{none, some}
 use Prim.Native.Nat.{ℕ, zero, suc, ◌+◌, ◌-◌, ◌*◌, ◌/◌, ◌%◌, ◌^◌, ◌≤◌, ◌<◌}
 use native.Mathlib.Decide.{dec_lt}
 use native.Mathlib.Omega.{arith}
+use borrow.Author.Tests.{ltb-true, ltb-false}
+use lib.Dec.{ltb}
 use lib.ListN.{get_or, set, length, replicate}
 use lib.Seq.{get_or-set_same, get_or-set_other, ext_get_or}
 use Rattle.rules.specs.Notation.{put, past_last}
 use Rattle.rules.specs.Tells.{Tells}
 use Rattle.rules.proofs.Tables.{by_eqb, put_same, put_other, put-ext}
-use Rattle.rules.proofs.Tells.{clash, tells_as}
-use Rattle.slots.specs.Halves.{bit, occ, first_clear}
-use Rattle.slots.proofs.Finds.{seam, at_one, clear-is, clear_of, past_is, past_of}
+use Rattle.rules.proofs.Tells.{clash, tells_as, tells-no}
+use Rattle.slots.specs.Halves.{bit, occ, clear_from}
+use Rattle.slots.proofs.Finds.{seam, at_one, clear-is, clear_of, full_of, past_is, past_of}
 use Rattle.slots.proofs.Bits.{bits-ext}
 use Rattle.slots.proofs.Counts.{empty-bit}
 
@@ -25,23 +28,21 @@ in-half hs i v lo hi top f k a b =
     rw e (f (k % 64) (omega arith) (omega arith))
 
 -- a search from slot `from` up, at half i: the half is full, or has the slot
-module _ (hs : List ℕ) (i b : ℕ) (e : b ≡ first_clear (bit (get_or hs i 0)) 0 64) where
-  pub up-past : 64 ≤ b → (k : ℕ) → 64 * i ≤ k → k < 64 * (i + 1) → occ hs k ≡ true
-  up-past f k l h =
-      let q = clear_of (bit (get_or hs i 0)) 0 64 b e in
-      in-half hs i true 0 64 (omega arith) (λ j z t. q.before j z (omega arith)) k (omega arith) (omega arith)
+module _ (hs : List ℕ) (i : ℕ) where
+  pub up-past : clear_from (bit (get_or hs i 0)) 0 64 ≡ none → (k : ℕ) → 64 * i ≤ k → k < 64 * (i + 1) → occ hs k ≡ true
+  up-past e k l h = in-half hs i true 0 64 (omega arith) (full_of (bit (get_or hs i 0)) 0 64 e) k (omega arith) (omega arith)
 
-  pub up-here : (from n : ℕ) → from ≤ 64 * i → 64 * i + 64 ≤ from + n → ((k : ℕ) → from ≤ k → k < 64 * i → occ hs k ≡ true) → b < 64
-      → 64 * i + b ≡ first_clear (occ hs) from n
-  up-here from n l h all f =
+  pub up-here : (b from n : ℕ) → clear_from (bit (get_or hs i 0)) 0 64 ≡ some b → from ≤ 64 * i → 64 * i + 64 ≤ from + n
+      → ((k : ℕ) → from ≤ k → k < 64 * i → occ hs k ≡ true) → clear_from (occ hs) from n ≡ some (64 * i + b)
+  up-here b from n e l h all =
       let q = clear_of (bit (get_or hs i 0)) 0 64 b e in
-      sym (clear-is (occ hs) from n (64 * i + b) (record {
+      clear-is (occ hs) from n (64 * i + b) (record {
         low = omega arith;
-        high = omega arith;
+        high = omega (arith, q.high);
         before = seam (λ (k : ℕ). occ hs k ≡ true) from (64 * i) (64 * i + b) all
-            (λ k a c. in-half hs i true 0 b (omega arith) q.before k (omega arith) c);
-        here = λ _. in-half hs i false b (b + 1) (omega arith) (at_one (λ (j : ℕ). bit (get_or hs i 0) j ≡ false) b (b + 1) (omega arith) (q.here f)) (64 * i + b) (omega arith) (omega arith);
-      }))
+            (λ k a c. in-half hs i true 0 b (omega (arith, q.high)) q.before k (omega arith) c);
+        here = in-half hs i false b (b + 1) (omega (arith, q.high)) (at_one (λ (j : ℕ). bit (get_or hs i 0) j ≡ false) b (b + 1) (omega arith) q.here) (64 * i + b) (omega arith) (omega arith);
+      })
 
 -- a search from slot n down, at half i: the half is empty, or has the slot
 module _ (hs : List ℕ) (i b : ℕ) (e : b ≡ past_last (bit (get_or hs i 0)) 64) where
@@ -60,20 +61,19 @@ module _ (hs : List ℕ) (i b : ℕ) (e : b ≡ past_last (bit (get_or hs i 0)) 
         here = λ j s. in-half hs i true (b - 1) b q.high (λ j a c. q.here j (omega arith)) j (omega arith) (omega (arith, s));
       }))
 
--- a look at one half after the other: `none` is the answer, before half i and after it, whether each slot from m on is clear
+-- a look at one half after the other: `free` is the answer, before half i and after it, whether each slot from m on is clear
 module _ (hs : List ℕ) (m : ℕ) where
   abbrev pub ClearTo : ℕ → Type 0
   ClearTo n = (a : ℕ) → m ≤ a → a < n → occ hs a ≡ false
 
-  module _ (i : ℕ) (none : Bool) where
-    pub look-below : 64 * (i + 1) ≤ m → Tells none (ClearTo (64 * i)) → Tells none (ClearTo (64 * (i + 1)))
-    look-below l t = tells_as t (λ all a x y. absurd (omega arith)) (λ all a x y. all a x (omega arith))
+  pub look-below : (i : ℕ) (free : Bool) → 64 * (i + 1) ≤ m → Tells free (ClearTo (64 * i)) → Tells free (ClearTo (64 * (i + 1)))
+  look-below i free l t = tells_as t (λ all a x y. absurd (omega arith)) (λ all a x y. all a x (omega arith))
 
-    pub look-empty : past_last (bit (get_or hs i 0)) 64 ≤ 0 → Tells none (ClearTo (64 * i)) → Tells none (ClearTo (64 * (i + 1)))
-    look-empty l t =
-        tells_as t
-        (λ all a x y. by_cases (dec_lt a (64 * i)) (all a x) (λ n. down-past hs i _ refl l a (omega arith) y))
-        (λ all a x y. all a x (omega arith))
+  pub look-empty : (i : ℕ) (free : Bool) → past_last (bit (get_or hs i 0)) 64 ≤ 0 → Tells free (ClearTo (64 * i)) → Tells free (ClearTo (64 * (i + 1)))
+  look-empty i free l t =
+      tells_as t
+      (λ all a x y. by_cases (dec_lt a (64 * i)) (all a x) (λ n. down-past hs i _ refl l a (omega arith) y))
+      (λ all a x y. all a x (omega arith))
 
   pub look-set : (i : ℕ) → m ≤ 64 * i → 0 < past_last (bit (get_or hs i 0)) 64 → Tells false (ClearTo (64 * (i + 1)))
   look-set i l h =
@@ -81,10 +81,15 @@ module _ (hs : List ℕ) (m : ℕ) where
       let j : ℕ = past_last (bit (get_or hs i 0)) 64 - 1 in
       let d : (64 * i + j) / 64 ≡ i = omega (arith, q.high) in
       let r : (64 * i + j) % 64 ≡ j = omega (arith, q.high) in
-      record {
-        holds = λ e. clash e refl;
-        shows = λ all. clash (q.here j (omega arith)) (rw (d, r) at (all (64 * i + j) (omega arith) (omega (arith, q.high))));
-      }
+      tells-no (λ all. clash (q.here j (omega arith)) (rw (d, r) at (all (64 * i + j) (omega arith) (omega (arith, q.high)))))
+
+  -- `taken` tells whether half i has a slot
+  pub look-on : (i : ℕ) (free taken : Bool) → m ≤ 64 * i → taken ≡ ltb 0 (past_last (bit (get_or hs i 0)) 64) → Tells free (ClearTo (64 * i))
+      → Tells (free && not taken) (ClearTo (64 * (i + 1)))
+  look-on i true true l e t = look-set i l (ltb-true _ _ (sym e))
+  look-on i false true l e t = look-set i l (ltb-true _ _ (sym e))
+  look-on i true false l e t = look-empty i true (ltb-false _ _ (sym e)) t
+  look-on i false false l e t = look-empty i false (ltb-false _ _ (sym e)) t
 
 -- a half w that is half a / 64 but for bit a % 64, put in its place
 pub occ-set : (hs : List ℕ) (a w : ℕ) (v : Bool) → a / 64 < length hs → bit w ≡ put (bit (get_or hs (a / 64) 0)) (a % 64) v
@@ -117,7 +122,7 @@ pub halves-ext : (hs gs : List ℕ) → length hs ≡ length gs → ((i : ℕ) �
     → occ hs ≡ occ gs → hs ≡ gs
 halves-ext hs gs n p q e =
     ext_get_or 0 hs gs n
-    (λ i h. bits-ext 64 (get_or hs i 0) (get_or gs i 0) (p i) (q i)
+    (λ i h. bits-ext (get_or hs i 0) (get_or gs i 0) (p i) (q i)
     (λ j l.
     let d : (64 * i + j) / 64 ≡ i = omega arith in
     let m : (64 * i + j) % 64 ≡ j = omega arith in

@@ -7,20 +7,21 @@ use mathlib.Core.Option.{Option, none, some}
 use Prim.Native.Nat.{ℕ, ◌+◌, ◌-◌, ◌*◌, ◌/◌, ◌%◌, ◌≤◌, ◌<◌, max}
 use native.Mathlib.Decide.{dec_lt}
 use native.Mathlib.Omega.{arith}
-use borrow.Author.Tests.{eq-eqb, ne_eqb, lt-ltb, le-ltb, not-true, not-false}
-use Rattle.rules.specs.Notation.{Answer, given, put, past_last}
+use borrow.Author.Tests.{eq-eqb, ne_eqb, lt-ltb, le-ltb}
+use Rattle.rules.specs.Notation.{Answer, given, put, first, past_last}
 use Rattle.rules.specs.Sound.{sound_slots}
-use Rattle.rules.specs.Slots.{Slots, Placed, placed, start_of, insert_new, insert, past_greatest, push_at, push, removes, remove}
+use Rattle.rules.specs.Slots.{Slots, placed, start_of, insert_new, insert, take_at, past_greatest, push_at, push, removes, remove}
 use Rattle.rules.specs.Tells.{Tells}
-use Rattle.rules.proofs.Searches.{first_found, first-none, past-within}
+use Rattle.rules.proofs.Searches.{first_found, first_on, past-within}
 use Rattle.rules.proofs.Placing.{clear, least_clear, insert_short, insert-short}
 use Rattle.rules.proofs.Sound.{SlotsSound}
 use Rattle.rules.proofs.Tables.{put-ext}
 use Rattle.rules.proofs.Tells.{is_false, clash, tells_as}
 use Rattle.rules.proofs.Tests.{tells-slots}
-use Rattle.slots.specs.Halves.{first_clear, grown_to}
+use Rattle.slots.specs.Halves.{clear_from, grown_to}
 use Rattle.slots.specs.Promises.{SeenSlots, refusing, placed_or7, removal, checked}
-use Rattle.slots.proofs.Finds.{clear-is, clear_of}
+use Rattle.slots.specs.Spots.{taking}
+use Rattle.slots.proofs.Finds.{clear-is, full-is}
 
 -- two tests that tell one fact are equal
 told_same : {P : Type 0} (a b : Bool) → Tells a P → Tells b P → a ≡ b
@@ -58,75 +59,63 @@ module _ (n : ℕ) (s : Slots) where
   pub sound-head : sound_slots n s ≡ true → s.head < n
   sound-head y = ((tells-slots n s).holds y).head
 
-  pub checked-yes : {A : Type 0} (x : SeenSlots A) → sound_slots n s ≡ true → x ≡ checked n s x
+  pub checked-yes : {A : Type 0} (x : SeenSlots A) → true ≡ sound_slots n s → x ≡ checked n s x
   unfolding checked
-  checked-yes x y = rw (y, checked)
+  checked-yes x y = rw (sym y, checked)
 
-  pub checked-no : {A : Type 0} (x : SeenSlots A) → sound_slots n s ≡ false → refusing 29 s ≡ checked n s x
+  pub checked-no : {A : Type 0} (x : SeenSlots A) → false ≡ sound_slots n s → refusing 29 s ≡ checked n s x
   unfolding checked
-  checked-no x y = rw (y, checked)
+  checked-no x y = rw (sym y, checked)
 
-  -- ---- insert: m is min(H, L), and a the least clear slot from segment m on, or 128·n
+  -- ---- insert: the least clear slot from segment m = min(H, L) on, below segment n
 
-  module _ (y : sound_slots n s ≡ true) (m a : ℕ) (start : m ≡ start_of s) (e : a ≡ first_clear s.occupied (128 * m) (128 * n - 128 * m)) where
+  module _ (y : sound_slots n s ≡ true) (m : ℕ) (start : m ≡ start_of s) where
     is-sound : SlotsSound n s
     is-sound = (tells-slots n s).holds y
 
-    from : a ≡ first_clear s.occupied (128 * start_of s) (128 * n - 128 * start_of s)
-    from = e ∙ ap (λ (k : ℕ). first_clear s.occupied (128 * k) (128 * n - 128 * k)) start
+    -- what was found below segment L, or what is found from there on
+    abbrev onward : Option ℕ → Option ℕ
+    onward o = elim o [ some a ↦ some a | none ↦ clear_from s.occupied (128 * s.segments) (128 * n - 128 * s.segments) ]
 
-    pub insert-within : a ≤ 128 * n
-    insert-within = omega (arith, (clear_of s.occupied (128 * m) (128 * n - 128 * m) a e).high, sound-segments y)
-
-    in_one : (b : ℕ) → least_clear s ≡ some b → (a ≡ b) × (b < 128 * s.segments)
+    search_on : clear_from s.occupied (128 * m) (128 * n - 128 * m) ≡ onward (least_clear s)
     unfolding least_clear
-    in_one b f =
-        let q = first_found (clear s) (128 * start_of s) (128 * (s.segments - start_of s)) b f in
-        let top : b < 128 * s.segments = omega (arith, q.high) in (
-          from ∙ clear-is s.occupied (128 * start_of s) (128 * n - 128 * start_of s) b (record {
-            low = q.low;
-            high = omega (arith, is-sound.segments);
-            before = λ j x z. not-false _ (q.before j x z);
-            here = λ _. not-true _ q.passes;
-          }),
-          top,
-        )
+    search_on =
+        let k : 128 * n - 128 * m ≡ (128 * n - 128 * s.segments) + 128 * (s.segments - m) = omega (arith, is-sound.segments) in
+        ap (clear_from s.occupied (128 * m)) k
+        ∙ first_on (clear s) (128 * m) (128 * (s.segments - m)) (128 * n - 128 * s.segments) (128 * s.segments) (omega arith)
+        ∙ ap (λ (g : ℕ). onward (first (clear s) (128 * g) (128 * (s.segments - g)))) start
 
-    past_all : least_clear s ≡ none → a ≡ 128 * s.segments
-    unfolding least_clear
-    past_all f =
-        from ∙ clear-is s.occupied (128 * start_of s) (128 * n - 128 * start_of s) (128 * s.segments) (record {
+    new-clear : s.segments < n → clear_from s.occupied (128 * s.segments) (128 * n - 128 * s.segments) ≡ some (128 * s.segments)
+    new-clear l =
+        clear-is s.occupied (128 * s.segments) (128 * n - 128 * s.segments) (128 * s.segments) (record {
           low = omega arith;
-          high = omega (arith, is-sound.segments);
-          before = λ j x z. not-false _ (first-none (clear s) (128 * start_of s) (128 * (s.segments - start_of s)) f j x (omega arith));
-          here = λ l. is_false _ (λ t. absurd (omega (arith, is-sound.low (128 * s.segments) (omega (arith, is-sound.segments, l)) t)));
+          high = omega arith;
+          before = λ j a b. absurd (omega arith);
+          here = is_false _ (λ t. absurd (omega (arith, is-sound.low (128 * s.segments) (omega arith) t)));
         })
 
-    abbrev pub given-a : Option Placed
-    given-a = placed a (record { occupied = put s.occupied a true; segments = max s.segments (a / 128 + 1); head = a / 128 })
+    no-room : s.segments ≡ n → clear_from s.occupied (128 * s.segments) (128 * n - 128 * s.segments) ≡ none
+    no-room e = full-is s.occupied (128 * s.segments) (128 * n - 128 * s.segments) (λ j a b. absurd (omega arith))
 
-    pub insert-none : a ≡ 128 * n → insert n s ≡ none
-    unfolding insert_short insert_new
-    insert-none z = insert-short n s ∙ go (least_clear s) refl
+    pub insert-from : insert n s ≡ taking (clear_from s.occupied (128 * m) (128 * n - 128 * m)) s
+    unfolding insert_short insert_new take_at least_clear
+    insert-from = insert-short n s ∙ go (least_clear s) refl ∙ ap (λ (o : Option ℕ). taking o s) (sym search_on)
       where
-        go : (o : Option ℕ) → least_clear s ≡ o → insert_short n s ≡ none
-        go (some b) f = absurd (omega (arith, (in_one b f).0, (in_one b f).1, is-sound.segments))
-        go none f = rw (f, insert_short, eq-eqb s.segments n (omega (arith, past_all f)), insert_new)
+        below : (b : ℕ) → least_clear s ≡ some b → b < 128 * s.segments
+        below b f = omega (arith, (first_found (clear s) (128 * start_of s) (128 * (s.segments - start_of s)) b f).high)
 
-    pub insert-some : (a ≡ 128 * n → ⊥) → insert n s ≡ given-a
-    unfolding insert_short insert_new
-    insert-some z = insert-short n s ∙ go (least_clear s) refl
-      where
-        go : (o : Option ℕ) → least_clear s ≡ o → insert_short n s ≡ given-a
+        go : (o : Option ℕ) → least_clear s ≡ o → insert_short n s ≡ taking (onward (least_clear s)) s
         go (some b) f =
-            let q = in_one b f in
-            let l : max s.segments (b / 128 + 1) ≡ s.segments = omega arith in
-            rw (f, insert_short, q.0, l)
+            let l : s.segments ≡ max s.segments (b / 128 + 1) = omega (arith, below b f) in
+            rw (f, insert_short) (λ u. placed b (record { occupied = put s.occupied b true; segments = l u; head = b / 128 }))
         go none f =
-            let q = past_all f in
-            let l : max s.segments (a / 128 + 1) ≡ s.segments + 1 = omega arith in
-            let d : a / 128 ≡ s.segments = omega arith in
-            rw (f, insert_short, ne_eqb s.segments n (omega arith), insert_new, l, d, q)
+            by_cases (dec_lt s.segments n)
+            (λ t.
+            let l : s.segments + 1 ≡ max s.segments (128 * s.segments / 128 + 1) = omega arith in
+            let d : s.segments ≡ 128 * s.segments / 128 = omega arith in
+            rw (f, insert_short, ne_eqb s.segments n (omega arith), insert_new, new-clear t)
+            (λ u. placed (128 * s.segments) (record { occupied = put s.occupied (128 * s.segments) true; segments = l u; head = d u })))
+            (λ t. let e : s.segments ≡ n = omega (arith, is-sound.segments) in rw (f, insert_short, eq-eqb s.segments n e, insert_new, no-room e))
 
   -- ---- push: g is one past the greatest occupied slot
 

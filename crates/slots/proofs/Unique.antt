@@ -6,20 +6,19 @@ use Prim.Native.Nat.{ℕ, ◌^◌, ◌<◌}
 use native.Mathlib.Omega.{arith}
 use mir.Syntax.{w64}
 use mir.Val.{Fits}
+use Rattle.std.specs.Prelude.{Result}
 use Rattle.rules.specs.Notation.{Answer, given, refused}
 use Rattle.rules.specs.Sizes.{base}
 use Rattle.rules.specs.Sound.{sound_slots}
 use Rattle.rules.specs.Slots as rule
+use Rattle.rules.specs.declared.refusal.Refusal.{Refusal}
+use Rattle.rules.proofs.Says.{says-one}
 use Rattle.rules.proofs.Tells.{decided}
 use Rattle.slots.specs.Promises.{view, place_says, remove_says, SeenSlots, seen_placing, seen_removing, placed_or7, removal, checked, Typed, Promised, FreshPromise, InsertPromise, InsertLowestPromise, PushPromise, RemovePromise}
 use Rattle.slots.specs.declared.Slots.{Slots}
 use Rattle.slots.specs.declared.SlotAddress.{SlotAddress}
 use Rattle.slots.specs.declared.Placing.{Placing}
 use Rattle.slots.specs.declared.Removing.{Removing}
-use Rattle.slots.specs.declared.PlaceAnswer.{PlaceAnswer}
-use Rattle.slots.specs.declared.PlaceAnswer.TheVariants as place
-use Rattle.slots.specs.declared.RemoveAnswer.{RemoveAnswer}
-use Rattle.slots.specs.declared.RemoveAnswer.TheVariants as remove
 use Rattle.slots.proofs.Occupied.{halves-ext}
 
 -- a number that fits 64 bits
@@ -36,22 +35,11 @@ same-state s t p q e =
 differ : {A B : Type 0} {a : A} {n : ℕ} → given a ≡ refused n → B
 differ e = absurd (let z : ◌≡◌ {A = ℕ} 0 1 = cc in omega arith)
 
-same_place : (a b : PlaceAnswer) → place_says a ≡ place_says b → a ≡ b
-same_place (place.At a) (place.At b) e = let q : a.0 ≡ b.0 = cc in λ i. place.At (record { 0 = q i })
-same_place (place.At a) (place.Refused n) e = differ e
-same_place (place.Refused n) (place.At b) e = differ (sym e)
-same_place (place.Refused n) (place.Refused m) e = let q : n ≡ m = cc in ap place.Refused q
+same-place : (a b : Result SlotAddress Refusal) → place_says a ≡ place_says b → a ≡ b
+same-place = says-one (λ a. a.0) (λ a b e. λ i. record { 0 = e i })
 
-same-remove : (a b : RemoveAnswer) → remove_says a ≡ remove_says b → a ≡ b
-same-remove remove.Yes remove.Yes e = refl
-same-remove remove.No remove.No e = refl
-same-remove remove.Yes remove.No e = absurd (let z : ◌≡◌ {A = ℕ} 0 1 = cc in omega arith)
-same-remove remove.No remove.Yes e = absurd (let z : ◌≡◌ {A = ℕ} 0 1 = cc in omega arith)
-same-remove remove.Yes (remove.Refused n) e = differ e
-same-remove remove.No (remove.Refused n) e = differ e
-same-remove (remove.Refused n) remove.Yes e = differ (sym e)
-same-remove (remove.Refused n) remove.No e = differ (sym e)
-same-remove (remove.Refused n) (remove.Refused m) e = let q : n ≡ m = cc in ap remove.Refused q
+same-remove : (a b : Result Bool Refusal) → remove_says a ≡ remove_says b → a ≡ b
+same-remove = says-one (λ b. b) (λ a b e. e)
 
 -- ---- results: y is what the rules say, of either insert or of push
 
@@ -59,7 +47,7 @@ place-one : (y : SeenSlots ℕ) (r q : Placing) → Promised (seen_placing r) y 
 place-one y r q p o =
     let e : seen_placing r ≡ seen_placing q = p.shows ∙ sym o.shows in
     let s : r.state ≡ q.state = same-state r.state q.state p.typed o.typed (ap (λ (v : SeenSlots ℕ). v.next) e) in
-    let a : r.answer ≡ q.answer = same_place r.answer q.answer (ap (λ (v : SeenSlots ℕ). v.says) e) in
+    let a : r.answer ≡ q.answer = same-place r.answer q.answer (ap (λ (v : SeenSlots ℕ). v.says) e) in
     λ i. record { state = s i; answer = a i }
 
 pub insert-one : (s : Slots) (r q : Placing) → InsertPromise s r → InsertPromise s q → r ≡ q

@@ -1,10 +1,12 @@
 -- What the public entries promise, in the words of document 01: the answer and the next state, for every state handed in. Assumes nothing.
-use Rattle.std.specs.Prelude.{◌≡◌, Bool, true, false, List, ℕ, ◌^◌, ◌<◌, length, get_or}
+use Rattle.std.specs.Prelude.{◌≡◌, Bool, true, false, List, ℕ, ◌^◌, ◌<◌, length, get_or, Result}
 use Rattle.std.proofs.Math.Option.{Option, none, some}
 use Rattle.rules.specs.Notation.{Answer, given, refused}
+use Rattle.rules.specs.Refusals.{says}
 use Rattle.rules.specs.Sizes.{base, HALVES}
 use Rattle.rules.specs.Sound.{sound_slots}
 use Rattle.rules.specs.Slots as rule
+use Rattle.rules.specs.declared.refusal.Refusal.{Refusal}
 use Rattle.slots.specs.Halves.{slots_of}
 use Rattle.slots.specs.Spots.{placement_of}
 use Rattle.slots.specs.declared.Slots.{Slots}
@@ -12,10 +14,6 @@ use Rattle.slots.specs.declared.SlotAddress.{SlotAddress}
 use Rattle.slots.specs.declared.Place.{Place}
 use Rattle.slots.specs.declared.Placing.{Placing}
 use Rattle.slots.specs.declared.Removing.{Removing}
-use Rattle.slots.specs.declared.PlaceAnswer.{PlaceAnswer}
-use Rattle.slots.specs.declared.PlaceAnswer.TheVariants as place
-use Rattle.slots.specs.declared.RemoveAnswer.{RemoveAnswer}
-use Rattle.slots.specs.declared.RemoveAnswer.TheVariants as remove
 
 -- ---- the declared types in 01's terms
 
@@ -24,15 +22,12 @@ abbrev pub view : Slots → rule.Slots
 view s = slots_of s.halves s.segments s.head
 
 -- what an answer says: the address that is given, or the number of the refusal
-abbrev pub place_says : PlaceAnswer → Answer ℕ
-place_says (place.At a) = given a.0
-place_says (place.Refused n) = refused n
+abbrev pub place_says : Result SlotAddress Refusal → Answer ℕ
+place_says = says (λ a. a.0)
 
 -- yes, no, or the number of the refusal
-abbrev pub remove_says : RemoveAnswer → Answer Bool
-remove_says remove.Yes = given true
-remove_says remove.No = given false
-remove_says (remove.Refused n) = refused n
+abbrev pub remove_says : Result Bool Refusal → Answer Bool
+remove_says = says (λ removed. removed)
 
 -- ---- what a call shows
 

@@ -1,10 +1,11 @@
 -- Where the slots of an allocation go: the declared place and spot in the rules' terms. Assumes nothing.
-use Rattle.std.specs.Prelude.{◌≡◌, Bool, true, false, ℕ, zero, suc, ◌+◌, ◌*◌, ◌-◌, ◌/◌, ◌%◌, max, ◌≤◌, ◌<◌, ltb}
-use Rattle.std.proofs.Math.Option.{none}
+use Rattle.std.specs.Prelude.{◌≡◌, Bool, true, false, ℕ, zero, suc, ◌+◌, ◌*◌, ◌-◌, ◌/◌, ◌%◌, max, ◌≤◌, ◌<◌, eqb, ltb, Option, Some, None}
+use Rattle.std.proofs.Math.Option as maybe
+use Rattle.std.proofs.Math.Option.{none, some}
 use Rattle.rules.specs.Notation.{put}
 use Rattle.rules.specs.Sizes.{base, SEGMENTS, SLOTS}
 use Rattle.rules.specs.Slots as rule
-use Rattle.slots.specs.Halves.{first_clear}
+use Rattle.slots.specs.Halves.{clear_from}
 use Rattle.slots.specs.declared.Place.{Place}
 use Rattle.slots.specs.declared.Place.TheVariants as place
 use Rattle.slots.specs.declared.Spot.{Spot}
@@ -28,9 +29,9 @@ unfoldable pub filled : ℕ → ℕ → (ℕ → Bool) → ℕ → Bool
 filled a zero f = f
 filled a (suc n) f = filled (suc a) n (put f a true)
 
--- the slot a is taken: "L grows to take in its segment, and H becomes it"
-abbrev pub taken_at : ℕ → ℕ → Spot
-taken_at l a = record { address = a; segments = max l (a / 128 + 1); head = a / 128 }
+-- the n slots from a on are taken one after another: "L grows to take in its segment, and H becomes it", at last those of the last one
+abbrev pub taken_from : ℕ → ℕ → ℕ → Spot
+taken_from l a n = record { address = a; segments = max l ((a + n - 1) / 128 + 1); head = (a + n - 1) / 128 }
 
 -- L and H once n slots from g on are pushed: L becomes the last one's segment and one, if a first slot of a segment is among them
 abbrev pub pushed_from : ℕ → ℕ → ℕ → ℕ → Spot
@@ -41,12 +42,20 @@ pushed_from l h g n =
 abbrev pub after : rule.Slots → ℕ → Spot → rule.Slots
 after s n r = record { occupied = filled r.address n s.occupied; segments = r.segments; head = r.head }
 
--- r is where the placement puts n slots of s; SLOTS: nowhere
-pub record Goes (place : rule.Placement) (n : ℕ) (s : rule.Slots) (r : Spot) : Type 0 where
-  pub nowhere : r.address ≡ SLOTS → place n s ≡ none
-  pub there : (r.address ≡ SLOTS → ⊥) → place n s ≡ rule.placed r.address (after s n r)
+-- what a spot says of the n slots of an allocation: the first address, and the slots afterwards; or that there is no room
+abbrev pub spot_says : ℕ → rule.Slots → Option Spot → maybe.Option rule.Placed
+spot_says n s None = maybe.none
+spot_says n s (Some r) = rule.placed r.address (after s n r)
 
--- one slot goes to the least clear one from segment `from` on, two or more past the greatest
-pub record GoesFrom (from n : ℕ) (s : rule.Slots) (r : Spot) : Type 0 where
-  pub one : n ≡ 1 → r ≡ taken_at s.segments (first_clear s.occupied (128 * from) (SLOTS - 128 * from))
-  pub run : (n ≡ 1 → ⊥) → Goes (rule.push_run SEGMENTS) n s r
+-- the slot that a search found, taken as edition 2's insert takes it
+abbrev pub taking : maybe.Option ℕ → rule.Slots → maybe.Option rule.Placed
+taking none s = none
+taking (some a) s = rule.placed a (rule.take_at a s)
+
+-- one slot is the least clear one from segment `from` on; two or more are pushed
+unfoldable pub going_from : ℕ → rule.Placement
+going_from from n s =
+    elim (eqb n 1) [
+      | true ↦ taking (clear_from s.occupied (128 * from) (SLOTS - 128 * from)) s
+      | false ↦ rule.push_run SEGMENTS n s
+    ]

@@ -1,15 +1,24 @@
 // What a host calls: the state in and out by value. A state that isn't sound is refused by 29; every refusal leaves the state unchanged.
+// An address is cast to 16 bits, since it fits: try_from would answer for what the proof rules out. The entries end in if and else, and not
+// in an early return, by which the state is copied once more.
 ghost use Rattle.std.specs.Prelude.{◌≡◌, true};
 ghost use Rattle.rules.specs.Sizes.{base};
 ghost use Rattle.rules.specs.Sound.{sound_slots};
+ghost use Rattle.rules.specs.Slots as rule;
 ghost use Rattle.slots.specs.Promises.{view, seen_placing, seen_removing, placed_or7, removal, inserted_by};
 ghost use Rattle.slots.specs.Promises.{FreshPromise, InsertPromise, InsertLowestPromise, InsertByPromise, PushPromise, RemovePromise};
-ghost use Rattle.rules.specs.Slots as rule;
 
-use crate::{
-    Place, PlaceAnswer, Placing, RemoveAnswer, Removing, SlotAddress, Slots, halves, spots,
-};
-use rules::{HALVES, SLOTS};
+use crate::{Place, Placing, Removing, SlotAddress, Slots, halves, spots};
+use rules::{HALVES, Refusal, SLOTS};
+
+impl Slots {
+    // What 01 asks of the slots of a state handed in.
+    fn is_sound(&self) -> bool
+        ensures { result ≡ sound_slots base.segments (view self.now) }
+    {
+        halves::are_sound(&self.halves, self.segments, self.head)
+    }
+}
 
 // No slot, no segment.
 pub fn fresh() -> Slots
@@ -39,12 +48,12 @@ pub fn insert_lowest(s: Slots) -> Placing
 fn insert_by(s: Slots, place: Place) -> Placing
     ensures { InsertByPromise place s result }
 {
-    if halves::are_sound(&s.halves, s.segments, s.head) {
+    if s.is_sound() {
         insert_sound(s, place)
     } else {
         Placing {
             state: s,
-            answer: PlaceAnswer::Refused(29),
+            answer: Err(Refusal::NotSound),
         }
     }
 }
@@ -54,33 +63,30 @@ fn insert_sound(s: Slots, place: Place) -> Placing
     ensures { seen_placing result ≡ placed_or7 (view s) (inserted_by place (view s)) }
 {
     let mut t = s;
-    let spot = spots::choose(&t.halves, t.segments, t.head, place, 1);
-    let a = spot.address;
-    if a == SLOTS {
+    let Some(spot) = spots::choose(&t.halves, t.segments, t.head, place, 1) else {
         return Placing {
             state: t,
-            answer: PlaceAnswer::Refused(7),
+            answer: Err(Refusal::NoSlot),
         };
-    }
-    halves::occupy(&mut t.halves, a);
+    };
+    halves::occupy(&mut t.halves, spot.address);
     t.segments = spot.segments;
     t.head = spot.head;
-    let address = a as u16;
     Placing {
         state: t,
-        answer: PlaceAnswer::At(SlotAddress(address)),
+        answer: Ok(SlotAddress(spot.address as u16)),
     }
 }
 
 pub fn push(s: Slots) -> Placing
     ensures { PushPromise s result }
 {
-    if halves::are_sound(&s.halves, s.segments, s.head) {
+    if s.is_sound() {
         push_sound(s)
     } else {
         Placing {
             state: s,
-            answer: PlaceAnswer::Refused(29),
+            answer: Err(Refusal::NotSound),
         }
     }
 }
@@ -94,27 +100,26 @@ fn push_sound(s: Slots) -> Placing
     if g == SLOTS {
         return Placing {
             state: t,
-            answer: PlaceAnswer::Refused(7),
+            answer: Err(Refusal::NoSlot),
         };
     }
     halves::occupy(&mut t.halves, g);
     t.segments = halves::grown(t.segments, g);
-    let address = g as u16;
     Placing {
         state: t,
-        answer: PlaceAnswer::At(SlotAddress(address)),
+        answer: Ok(SlotAddress(g as u16)),
     }
 }
 
 pub fn remove(s: Slots, a: SlotAddress) -> Removing
     ensures { RemovePromise s a result }
 {
-    if halves::are_sound(&s.halves, s.segments, s.head) {
-        remove_sound(s, a.0 as usize)
+    if s.is_sound() {
+        remove_sound(s, usize::from(a.0))
     } else {
         Removing {
             state: s,
-            answer: RemoveAnswer::Refused(29),
+            answer: Err(Refusal::NotSound),
         }
     }
 }
@@ -129,10 +134,10 @@ fn remove_sound(s: Slots, a: usize) -> Removing
         t.head = a / 128;
         if halves::occupied(&t.halves, a) {
             halves::vacate(&mut t.halves, a);
-            let answer = RemoveAnswer::Yes;
+            let answer = Ok(true);
             return Removing { state: t, answer };
         }
     }
-    let answer = RemoveAnswer::No;
+    let answer = Ok(false);
     Removing { state: t, answer }
 }

@@ -1,11 +1,13 @@
 // The halves of a state, lent: questions and changes of one slot, and the two searches. No state is copied here.
-ghost use Rattle.std.specs.Prelude.{◌≡◌, true, false, ℕ, ◌+◌, ◌-◌, ◌*◌, ◌≤◌, ◌<◌, min, max, length};
+ghost use Rattle.std.specs.Prelude.{◌≡◌, true, false, ℕ, ◌+◌, ◌-◌, ◌*◌, ◌≤◌, ◌<◌, length};
+ghost use Rattle.rules.specs.Options.{option_of};
 ghost use Rattle.rules.specs.Notation.{put, past_last};
 ghost use Rattle.rules.specs.Sizes.{base, HALVES, SEGMENTS, SLOTS};
 ghost use Rattle.rules.specs.Sound.{sound_slots};
 ghost use Rattle.rules.specs.Tells.{Tells};
-ghost use Rattle.slots.specs.Halves.{occ, first_clear, slots_of, grown_to};
+ghost use Rattle.slots.specs.Halves.{occ, clear_from, slots_of, grown_to};
 
+// The language has no From between usize and u64 or u32, so the number of a bit is cast.
 use crate::half;
 use rules::{HALVES, SEGMENTS, SLOTS};
 
@@ -16,8 +18,9 @@ pub fn occupied(halves: &[u64; HALVES], a: usize) -> bool
     half::test_bit(halves[a / 64], (a % 64) as u64)
 }
 
+// As with set_bit and clear_bit: callers would say true or false for what these two names say.
 pub fn occupy(halves: &mut [u64; HALVES], a: usize)
-    requires { (a < SLOTS) × (length halves.old ≡ HALVES) }
+    requires { a < SLOTS }
     ensures halves_after { occ halves.new ≡ put (occ halves.old) a true }
     ensures halves_len { length halves.new ≡ HALVES }
 {
@@ -26,7 +29,7 @@ pub fn occupy(halves: &mut [u64; HALVES], a: usize)
 }
 
 pub fn vacate(halves: &mut [u64; HALVES], a: usize)
-    requires { (a < SLOTS) × (length halves.old ≡ HALVES) }
+    requires { a < SLOTS }
     ensures halves_after { occ halves.new ≡ put (occ halves.old) a false }
     ensures halves_len { length halves.new ≡ HALVES }
 {
@@ -34,69 +37,54 @@ pub fn vacate(halves: &mut [u64; HALVES], a: usize)
     halves[a / 64] = half::clear_bit(h, (a % 64) as u64);
 }
 
-// The least clear slot from segment `from` on, or SLOTS.
-pub fn first_clear(halves: &[u64; HALVES], from: usize) -> usize
+// The least clear slot from segment `from` on, if there is one.
+pub fn first_clear(halves: &[u64; HALVES], from: usize) -> Option<usize>
     requires { from ≤ SEGMENTS }
-    ensures { result ≡ first_clear (occ halves.now) (128 * from) (SLOTS - 128 * from) }
+    ensures { option_of (λ i. i) result ≡ clear_from (occ halves.now) (128 * from) (SLOTS - 128 * from) }
 {
-    let mut i = 2 * from;
-    while i < HALVES {
-        let h = halves[i];
-        if half::has_clear(h) {
-            return 64 * i + (half::lowest_clear(h) as usize);
+    for i in 2 * from..HALVES {
+        if let Some(j) = half::lowest_clear(halves[i]) {
+            return Some(64 * i + j as usize);
         }
-        i += 1;
     }
-    SLOTS
+    None
 }
 
 // One past the greatest occupied slot, or 0.
 pub fn past_greatest(halves: &[u64; HALVES]) -> usize
     ensures { result ≡ past_last (occ halves.now) SLOTS }
 {
-    let mut i: usize = HALVES;
-    while 0 < i {
-        let h = halves[i - 1];
+    for i in (0..HALVES).rev() {
+        let h = halves[i];
         if half::has_set(h) {
-            return 64 * (i - 1) + (half::past_highest(h) as usize);
+            return 64 * i + half::past_highest(h) as usize;
         }
-        i -= 1;
     }
     0
 }
 
-// No slot from segment `from` on is occupied. It stops at no half: so it compiles to a straight line, without a loop.
+// No slot from segment `from` on is occupied. It stops at no half (any() would): so it compiles to a straight line, without a loop.
 fn none_from(halves: &[u64; HALVES], from: usize) -> bool
     requires { from ≤ SEGMENTS }
     ensures { Tells result ((a : ℕ) → 128 * from ≤ a → a < SLOTS → occ halves.now a ≡ false) }
 {
     let mut none = true;
-    let mut i: usize = 0;
-    while i < HALVES {
-        let h = halves[i];
+    for i in 0..HALVES {
         if 2 * from <= i {
-            if half::has_set(h) {
-                none = false;
-            }
+            none &= !half::has_set(halves[i]);
         }
-        i += 1;
     }
     none
 }
 
-// What 01 asks of the slots of a state handed in.
+// What 01 asks of the slots of a state handed in. Halves, L and H come one by one: crate scopes has them among other fields.
 pub fn are_sound(halves: &[u64; HALVES], segments: usize, head: usize) -> bool
     ensures { result ≡ sound_slots base.segments (slots_of halves.now segments head) }
 {
-    if segments <= SEGMENTS {
-        if head < SEGMENTS {
-            none_from(halves, segments)
-        } else {
-            false
-        }
-    } else {
-        false
+    if SEGMENTS < segments || SEGMENTS <= head {
+        return false;
     }
+    none_from(halves, segments)
 }
 
 // L after a push at g.
@@ -104,16 +92,4 @@ pub fn grown(segments: usize, g: usize) -> usize
     ensures { result ≡ grown_to segments g }
 {
     if g % 128 == 0 { g / 128 + 1 } else { segments }
-}
-
-pub fn least(a: usize, b: usize) -> usize
-    ensures { result ≡ min a b }
-{
-    if a < b { a } else { b }
-}
-
-pub fn most(a: usize, b: usize) -> usize
-    ensures { result ≡ max a b }
-{
-    if a < b { b } else { a }
 }

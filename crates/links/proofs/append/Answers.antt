@@ -1,40 +1,31 @@
 -- `links::append` meets its contract: its four stores are those of Appends. Assumes nothing.
-use Prim.Native.Nat.{◌+◌, ◌<◌}
+use mathlib.Core.List.{List}
+use Prim.Native.Nat.{ℕ, ◌+◌, ◌<◌}
 use native.Mathlib.Omega.{arith}
 use Rattle.rules.specs.Sizes.{CELLS, LISTS, SLOTS}
-use Rattle.links.specs.Links.{next_in, prev_in}
+use Rattle.links.specs.Links.{next_in, prev_in, Held, Off}
 use Rattle.links.proofs.Rings.{end_of}
 use Rattle.links.proofs.Cells.{held-stored}
 use Rattle.links.proofs.Appends.{appended}
 use borrow.Author.Rules.{rules}
 use Rattle.links.proofs.append.Goals as goal
 
-pub offset_bounds-t-l : goal.offset_bounds-t-l
-offset_bounds-t-l c =
-    let fits : c.wide-l.result < CELLS = let p = c.requires.by_index in omega (arith, c.wide-l.ensures, (end_of SLOTS LISTS _ _ (SLOTS + c.args.i) c.args.a (p.0 c.args.i) c.requires.i_bound.1 (omega arith) (omega arith) (p.1.ring c.args.i c.requires.i_bound.0) (p.2 c.args.i c.requires.i_bound.0)).0.0) in
-    omega (arith, fits)
+-- the last address of list i, or its end, is a cell
+last-below : (t : List ℕ) (i a : ℕ) → i < LISTS → a < SLOTS → (xs : ℕ → List ℕ) → Held SLOTS LISTS t xs → Off LISTS xs a → prev_in CELLS t (SLOTS + i) < CELLS
+last-below t i a hi ha xs h off = (end_of SLOTS LISTS (next_in t) (prev_in CELLS t) (SLOTS + i) a (xs i) ha (omega arith) (omega arith) (h.ring i hi) (off i hi)).0.0
 
-pub bounds-t-l : goal.bounds-t-l
-bounds-t-l c =
-    let fits : c.wide-l.result < CELLS = let p = c.requires.by_index in omega (arith, c.wide-l.ensures, (end_of SLOTS LISTS _ _ (SLOTS + c.args.i) c.args.a (p.0 c.args.i) c.requires.i_bound.1 (omega arith) (omega arith) (p.1.ring c.args.i c.requires.i_bound.0) (p.2 c.args.i c.requires.i_bound.0)).0.0) in
-    omega (arith, fits)
+pub bounds-t-from : goal.bounds-t-from
+bounds-t-from c =
+    let r = c.requires in
+    omega (arith, c.from.ensures, last-below c.args.t.now c.args.i c.args.a r.bounds.0 r.bounds.1 r.held.0 r.held.1 r.held.2)
 
-pub overflow_cast-t-3 : goal.overflow_cast-t-3
-overflow_cast-t-3 c =
-    let fits : c.wide-l.result < CELLS = let p = c.requires.by_index in omega (arith, c.wide-l.ensures, (end_of SLOTS LISTS _ _ (SLOTS + c.args.i) c.args.a (p.0 c.args.i) c.requires.i_bound.1 (omega arith) (omega arith) (p.1.ring c.args.i c.requires.i_bound.0) (p.2 c.args.i c.requires.i_bound.0)).0.0) in
-    omega (arith, fits)
-
-pub overflow_cast-t-4 : goal.overflow_cast-t-4
-overflow_cast-t-4 c =
-    let fits : c.wide-l.result < CELLS = let p = c.requires.by_index in omega (arith, c.wide-l.ensures, (end_of SLOTS LISTS _ _ (SLOTS + c.args.i) c.args.a (p.0 c.args.i) c.requires.i_bound.1 (omega arith) (omega arith) (p.1.ring c.args.i c.requires.i_bound.0) (p.2 c.args.i c.requires.i_bound.0)).0.0) in
-    omega (arith, fits)
-
-pub returns : goal.returns
-returns c =
-    let fits : c.wide-l.result < CELLS = let p = c.requires.by_index in omega (arith, c.wide-l.ensures, (end_of SLOTS LISTS _ _ (SLOTS + c.args.i) c.args.a (p.0 c.args.i) c.requires.i_bound.1 (omega arith) (omega arith) (p.1.ring c.args.i c.requires.i_bound.0) (p.2 c.args.i c.requires.i_bound.0)).0.0) in
-    let t = c.args.t.now in record {
-      by_index_2 = λ xs h off.
-          held-stored SLOTS LISTS t _ c.wide-l.result c.args.a c.args.a (SLOTS + c.args.i) c.args.a c.wide-l.result (SLOTS + c.args.i) c.args.a c.requires.i_bound.2 fits (omega arith) (omega arith) (omega arith)
-          (rw c.wide-l.ensures (appended SLOTS LISTS (next_in t) (prev_in CELLS t) xs h (omega arith) c.args.i c.args.a c.requires.i_bound.0 c.requires.i_bound.1 off));
-      t_len = search rules;
-    }
+pub returns-clause-appended : goal.returns-clause-appended
+returns-clause-appended c xs h off =
+    let t = c.args.t.now in
+    let i = c.args.i in
+    let a = c.args.a in
+    let r = c.requires.bounds in
+    rw c.from.ensures (
+    held-stored SLOTS LISTS t _ (prev_in CELLS t (SLOTS + i)) a a (SLOTS + i) a (prev_in CELLS t (SLOTS + i)) (SLOTS + i) a
+    (search rules) (last-below t i a r.0 r.1 xs h off) (omega arith) (omega arith) (omega arith)
+    (appended SLOTS LISTS (next_in t) (prev_in CELLS t) xs h (omega arith) i a r.0 r.1 off))

@@ -7,14 +7,14 @@ use Rattle.links.proofs.place.Goals as goal
 
 pub append-requires : goal.append-requires
 append-requires c =
-    let p = c.requires.by_index in
+    let p = c.requires.held in
     record {
-      i_bound = search rules;
-      by_index = (leaves c.args.a p.0, c.leave.ensures.by_index_2 p.0 p.1, off-left LISTS c.args.a p.0);
+      bounds = search rules;
+      held = (leaves c.args.a p.0, c.leave.ensures.left p.0 p.1, off-left LISTS c.args.a p.0);
     }
 
 pub returns : goal.returns
 returns c = record {
-  by_index_2 = λ xs h. c.append.ensures.by_index_2 (leaves c.args.a xs) (c.leave.ensures.by_index_2 xs h) (off-left LISTS c.args.a xs);
-  t_len = c.append.ensures.t_len;
+  placed = λ xs h. c.append.ensures.appended (leaves c.args.a xs) (c.leave.ensures.left xs h) (off-left LISTS c.args.a xs);
+  long = c.append.ensures.long;
 }

@@ -1,22 +1,21 @@
 -- One slot, where the place puts it. Assumes nothing.
 use native.Mathlib.Omega.{arith}
-use borrow.Author.Rules.{rules}
 use Rattle.rules.specs.Sizes.{base}
 use Rattle.slots.specs.Promises.{view}
 use Rattle.slots.specs.Spots.{place_of}
-use Rattle.slots.proofs.Going.{goes-vacant, one-refused, one_placed}
+use Rattle.slots.proofs.Going.{spot-below, one-refused, one-placed}
 use Rattle.slots.proofs.entries.insert_sound.Goals as goal
 
-pub returns-then-a-eq-SLOTS : goal.returns-then-a-eq-SLOTS
-returns-then-a-eq-SLOTS c = one-refused c.choose-spot.ensures c.if-a-eq-SLOTS.true
+pub returns-in_default : goal.returns-in_default
+returns-in_default c = one-refused _ c.in_default.ensures
 
 pub occupy-requires : goal.occupy-requires
 unfolding base
-occupy-requires c = (omega (arith, ((goes-vacant (place_of c.args.place) 1 (view c.args.s) c.choose-spot.result c.requires c.choose-spot.ensures c.if-a-eq-SLOTS.false).0)), search rules)
+occupy-requires c = omega (arith, spot-below (place_of c.args.place) 1 (view c.args.s) c.in-Some.spot c.requires c.in-Some.ensures)
 
-pub overflow_cast-address : goal.overflow_cast-address
+pub overflow_cast-result : goal.overflow_cast-result
 unfolding base
-overflow_cast-address c = omega (arith, ((goes-vacant (place_of c.args.place) 1 (view c.args.s) c.choose-spot.result c.requires c.choose-spot.ensures c.if-a-eq-SLOTS.false).0))
+overflow_cast-result c = omega (arith, spot-below (place_of c.args.place) 1 (view c.args.s) c.in-Some.spot c.requires c.in-Some.ensures)
 
 pub returns : goal.returns
-returns c = one_placed c.choose-spot.ensures c.if-a-eq-SLOTS.false c.occupy.ensures.halves_after
+returns c = one-placed _ c.in-Some.spot c.in-Some.ensures c.occupy.ensures.halves_after

@@ -1,4 +1,3 @@
-use borrow.Author.Rules.{rules}
 use native.Mathlib.Omega.{arith}
 use Rattle.rules.specs.Sizes.{base}
 use Rattle.slots.specs.Promises.{view}
@@ -11,11 +10,11 @@ returns-then-g-eq-SLOTS c = push-refused base.segments (view c.args.s) _ c.past_
 
 pub occupy-requires : goal.occupy-requires
 unfolding base
-occupy-requires c = (omega (arith, push-within base.segments (view c.args.s) _ c.past_greatest-g.ensures), search rules)
+occupy-requires c = omega (arith, push-within base.segments (view c.args.s) _ c.past_greatest-g.ensures)
 
-pub overflow_cast-address : goal.overflow_cast-address
+pub overflow_cast-result : goal.overflow_cast-result
 unfolding base
-overflow_cast-address c = omega (arith, push-within base.segments (view c.args.s) _ c.past_greatest-g.ensures)
+overflow_cast-result c = omega (arith, push-within base.segments (view c.args.s) _ c.past_greatest-g.ensures)
 
 pub returns : goal.returns
 unfolding base

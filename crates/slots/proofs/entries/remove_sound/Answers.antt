@@ -1,6 +1,5 @@
-use mathlib.Core.Path.{sym, ◌∙◌}
+use mathlib.Core.Path.{sym}
 use mathlib.Core.Bool.{true, false}
-use borrow.Author.Rules.{rules}
 use native.Mathlib.Omega.{arith}
 use Rattle.rules.specs.Sizes.{base}
 use Rattle.slots.specs.Promises.{view}
@@ -11,16 +10,12 @@ pub occupied-requires : goal.occupied-requires
 unfolding base
 occupied-requires c = omega (arith, sound-segments base.segments (view c.args.s) c.requires)
 
-pub vacate-requires : goal.vacate-requires
-unfolding base
-vacate-requires c = (omega (arith, sound-segments base.segments (view c.args.s) c.requires), search rules)
-
 pub returns-then-occupied : goal.returns-then-occupied
-returns-then-occupied c = remove-within (view c.args.s) _ true c.if-a-t.true (sym c.occupied.ensures ∙ c.if-occupied.true) c.vacate.ensures.halves_after
+returns-then-occupied c = remove-within (view c.args.s) _ true c.if-a-t.true (sym c.if-occupied.ensures) c.vacate.ensures.halves_after
 
 pub returns-else-occupied : goal.returns-else-occupied
 returns-else-occupied c =
-    let clear = sym c.occupied.ensures ∙ c.if-occupied.false in
+    let clear = sym c.if-occupied.ensures in
     remove-within (view c.args.s) _ false c.if-a-t.true clear (still-clear (view c.args.s) _ clear)
 
 pub returns-else-a-t : goal.returns-else-a-t

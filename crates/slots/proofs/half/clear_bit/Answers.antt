@@ -1,5 +1,5 @@
-use Rattle.slots.proofs.Bits.{shl_one, bit-clear}
+use Rattle.slots.proofs.Bits.{bit-clear}
 use Rattle.slots.proofs.half.clear_bit.Goals as goal
 
 pub returns : goal.returns
-returns c = rw (shl_one c.args.i c.requires) (bit-clear c.args.h c.args.i)
+returns c = bit-clear c.args.h c.args.i c.requires c.ranges.h.fits

@@ -1,13 +1,11 @@
-use borrow.Author.Rules.{Fits-under}
-use mathlib.Core.Path.{sym}
-use Prim.Native.Nat.{suc-le-suc}
-use lib.Count.{trailing_le}
-use Rattle.slots.proofs.Counts.{clear-by-count}
-use Rattle.slots.proofs.Finds.{clear-is}
+use mathlib.Core.Path.{sym, ap, ◌∙◌}
+use mathlib.Core.Option.{some}
+use Prim.Native.Nat.{ℕ}
+use Rattle.slots.proofs.Counts.{full-half, lowest-by-count}
 use Rattle.slots.proofs.half.lowest_clear.Goals as goal
 
-pub overflow_cast-result : goal.overflow_cast-result
-overflow_cast-result c = Fits-under _ _ 65 (suc-le-suc (trailing_le 64 _)) tt
+pub returns-then-h-eq18446744073709551615 : goal.returns-then-h-eq18446744073709551615
+returns-then-h-eq18446744073709551615 c = sym (full-half c.args.h c.if-h-eq18446744073709551615.true)
 
 pub returns : goal.returns
-returns c = sym (clear-is _ 0 64 _ (clear-by-count c.args.h))
+returns c = ap (λ (x : ℕ). some x) c.trailing_ones.ensures ∙ sym (lowest-by-count c.args.h c.ranges.h.fits c.if-h-eq18446744073709551615.false)

@@ -5,14 +5,10 @@ use Rattle.rules.proofs.Tells.{is_false}
 use Rattle.slots.proofs.Steps.{sound-test, sound-head, sound-segments}
 use Rattle.slots.proofs.halves.are_sound.Goals as goal
 
-pub returns-then-head-lt-SEGMENTS : goal.returns-then-head-lt-SEGMENTS
+pub returns-then-segments-gt-SEGMENTS : goal.returns-then-segments-gt-SEGMENTS
 unfolding base
-returns-then-head-lt-SEGMENTS c = sound-test _ _ _ c.if-segments-le-SEGMENTS.true c.if-head-lt-SEGMENTS.true c.none_from.ensures
+returns-then-segments-gt-SEGMENTS c = sym (is_false _ (λ y. absurd (omega (arith, sound-segments _ _ y, sound-head _ _ y, c.then-segments-gt-SEGMENTS.either))))
 
-pub returns-else-head-lt-SEGMENTS : goal.returns-else-head-lt-SEGMENTS
+pub returns : goal.returns
 unfolding base
-returns-else-head-lt-SEGMENTS c = sym (is_false _ (λ y. absurd (omega (arith, sound-head _ _ y, c.if-head-lt-SEGMENTS.false))))
-
-pub returns-else-segments-le-SEGMENTS : goal.returns-else-segments-le-SEGMENTS
-unfolding base
-returns-else-segments-le-SEGMENTS c = sym (is_false _ (λ y. absurd (omega (arith, sound-segments _ _ y, c.if-segments-le-SEGMENTS.false))))
+returns c = sound-test _ _ _ c.if-segments-gt-SEGMENTS.false c.if-head-ge-SEGMENTS.false c.none_from.ensures
