@@ -1,10 +1,13 @@
 -- Slots for a scope, by any placement: alloc, alloc in s, and runs. Assumes nothing.
-use Rattle.std.proofs.Common.{◌≡◌, ℕ, zero, suc, ◌+◌, ◌*◌, max, true, ◌≢◌, List, refl, ap, ◌∙◌, arith}
+use Rattle.std.proofs.Common.{Ok, Err, sym, ◌≡◌, ℕ, zero, suc, ◌+◌, ◌*◌, max, true, ◌≢◌, refl, ap, ◌∙◌, arith}
+use Rattle.std.specs.Prelude as code
 use mathlib.Core.Logic.{by_cases}
 use mathlib.Core.Option.{Option, none, some}
 use native.Mathlib.Decide.{dec_lt}
 use Rattle.rules.specs.Notation.{Answer, given, refused, ◌>>=◌, refuse◌unless◌}
-use Rattle.rules.specs.Sizes.{base, SCOPES, SEGMENTS, SLOTS}
+use Rattle.rules.specs.Refusals.{number_of}
+use Rattle.rules.specs.declared.refusal.Refusal.{Refusal}
+use Rattle.rules.specs.Sizes.{base, SEGMENTS}
 use Rattle.rules.specs.Slots.{Place, Placement, placing}
 use Rattle.rules.specs.Sound.{sound_slots}
 use Rattle.rules.specs.Scopes as rule
@@ -12,15 +15,15 @@ use Rattle.rules.proofs.Tells.{clash, is_false}
 use Rattle.rules.proofs.Tests.{tells-slots}
 use Rattle.rules.proofs.Editions.{InOrder}
 use Rattle.slots.specs.Halves.{occ}
-use Rattle.slots.specs.Spots.{Vacant, after, Goes}
+use Rattle.slots.specs.Spots.{Vacant, after, spot_says}
 use Rattle.slots.specs.declared.Spot.{Spot}
-use Rattle.slots.proofs.Going.{goes-in-order, goes-vacant}
-use Rattle.scopes.specs.View.{index, view, found_at, at, at_first, told}
+use Rattle.slots.proofs.Going.{spot-in-order, spot-vacant}
+use Rattle.scopes.specs.View.{view, found_at, Seen, told, replied}
 use Rattle.scopes.specs.Sound.{Slotted, Sound}
-use Rattle.scopes.specs.Lent.{numbers_of, with_slots, Whole, Handed}
+use Rattle.scopes.specs.Steps.{Handed, is_refusal, Becomes}
+use Rattle.scopes.specs.Leaves.{Tops}
 use Rattle.scopes.specs.declared.Scopes.{Scopes}
-use Rattle.scopes.specs.declared.Reply.TheVariants.{Empty, Refused}
-use Rattle.scopes.proofs.Finds.{no_top, Topped, Known}
+use Rattle.scopes.proofs.Becoming.{does}
 
 -- ---- the slots as the rules see them
 
@@ -36,103 +39,113 @@ slots-sound s h =
 
 -- ---- n slots for scope k, which go where r says
 
-module _ (s : Scopes) (k : ℕ) (p : Place) (n : ℕ) (r : Spot) (g : Goes (placing base.segments p) n (view s).slots r) where
-  pub alloc-full : r.address ≡ SLOTS → record { next = view s; says = Refused 7 } ≡ told at (view s) (rule.allocate (placing base.segments p) (found_at s k) n (view s))
+module _ (s : Scopes) (k : ℕ) (p : Place) (n : ℕ) where
+  pub alloc-full : none ≡ placing base.segments p n (view s).slots → record { next = view s; says = refused 7 } ≡ told (λ a. a) (view s) (rule.allocate (placing base.segments p) (found_at s k) n (view s))
   unfolding rule.allocate ◌>>=◌ refuse◌unless◌
-  alloc-full e = rw (g.nowhere e)
+  alloc-full e = rw (sym e)
 
-  module _ (h : Sound s) (ne : r.address ≢ SLOTS) where
+  module _ (r : Spot) (g : spot_says n (view s).slots (code.Some r) ≡ placing base.segments p n (view s).slots) (h : Sound s) where
     -- every placement gives clear slots below the room, and leaves them in order
     pub alloc-vacant : Vacant (occ s.halves) r.address n
     unfolding base
-    alloc-vacant = goes-vacant p n (view s).slots r (slots-sound s h.slotted) g ne
+    alloc-vacant = spot-vacant p n (view s).slots r (slots-sound s h.slotted) g
 
     then-in-order : InOrder SEGMENTS (after (view s).slots n r)
     unfolding base
-    then-in-order = goes-in-order p n (view s).slots r (slots-sound s h.slotted) g ne
+    then-in-order = spot-in-order p n (view s).slots r (slots-sound s h.slotted) g
 
-    module _ (halves links owner : List ℕ) (size : ℕ) (es : size ≡ max s.size (r.address + n)) where
+    module _ (t : Scopes) (size : ℕ) (es : size ≡ max s.size (r.address + n)) (x : Handed s k r.address n t (max s.size (r.address + n))) where
       abbrev then : Scopes
-      then = with_slots s halves links owner (record { count = s.count; segments = r.segments; head = r.head; top = s.top; counter = s.counter; size = size })
+      then = record t { segments = r.segments; head = r.head; size = size }
 
-      module _ (t : Handed s k r.address n (with_slots s halves links owner (numbers_of s)) (max s.size (r.address + n))) where
-        gives : record { next = view then; says = at r.address } ≡ told at (view s) (rule.allocate (placing base.segments p) (found_at s k) n (view s))
-        unfolding rule.allocate rule.set_scope ◌>>=◌ refuse◌unless◌
-        gives =
-            rw (g.there ne)
-            (λ u. record {
-              next = record {
-                slots = record { occupied = (t.is u).slots.occupied; segments = r.segments; head = r.head };
-                live = (t.is u).live;
-                top = index s.top;
-                counter = s.counter;
-                bindings = (view s).bindings;
-                dangling = (t.is u).dangling;
-                size = es u;
-              };
-              says = at r.address;
-            })
+      gives : record { next = view then; says = given r.address } ≡ told (λ a. a) (view s) (rule.allocate (placing base.segments p) (found_at s k) n (view s))
+      unfolding rule.allocate rule.set_scope ◌>>=◌ refuse◌unless◌
+      gives =
+          rw (sym g)
+          (λ u. record {
+            next = record {
+              slots = record { occupied = (x.is u).slots.occupied; segments = r.segments; head = r.head };
+              live = (x.is u).live;
+              top = (x.is u).top;
+              counter = (x.is u).counter;
+              bindings = (x.is u).bindings;
+              dangling = (x.is u).dangling;
+              size = es u;
+            };
+            says = given r.address;
+          })
 
-        -- the placement leaves slots in order
-        slotted : Slotted halves r.segments r.head
-        unfolding rule.set_scope
-        slotted =
-            record {
-              most = then-in-order.segments;
-              front = then-in-order.head (omega arith);
-              none = λ b lo hi. ap (λ (c : rule.Scopes). c.slots.occupied b) t.is ∙ is_false _ (λ e. omega (arith, then-in-order.low b hi e));
-            }
+      -- the placement leaves slots in order
+      slotted : Slotted t.halves r.segments r.head
+      unfolding rule.set_scope
+      slotted =
+          record {
+            most = then-in-order.segments;
+            front = then-in-order.head (omega arith);
+            none = λ b lo hi. ap (λ (c : rule.Scopes). c.slots.occupied b) x.is ∙ is_false _ (λ e. omega (arith, then-in-order.low b hi e));
+          }
 
-        pub alloc_gives : (record { next = view then; says = at r.address } ≡ told at (view s) (rule.allocate (placing base.segments p) (found_at s k) n (view s))) × Whole then
-        alloc_gives =
-            let w = t.whole.sound in
-            let z = t.whole.sized in (
-              gives,
-              record {
-                sound = record {
-                  slotted = slotted;
-                  ringed = w.ringed;
-                  owned = record { taken = w.owned.taken; alive = w.owned.alive; above = λ a ha o. omega (arith, w.owned.above a ha o); most = omega (arith, w.owned.most) };
-                  rooted = w.rooted;
-                  named = w.named;
-                };
-                sized = record { halves = z.halves; links = z.links; owner = z.owner; live = z.live; dangled = z.dangled; parent = z.parent; number = z.number; bindings = z.bindings };
-              },
-            )
+      pub alloc_gives : Becomes s then (given r.address) (λ c. told (λ a. a) c (rule.allocate (placing base.segments p) (found_at s k) n c))
+      alloc_gives =
+          let w = x.whole.sound in
+          let z = x.whole.sized in
+          does s then r.address (λ c. told (λ a. a) c (rule.allocate (placing base.segments p) (found_at s k) n c)) gives
+          (record {
+            sound = record {
+              slotted = slotted;
+              ringed = w.ringed;
+              owned = record { taken = w.owned.taken; alive = w.owned.alive; above = λ a ha o. omega (arith, es, w.owned.above a ha o); most = omega (arith, es, w.owned.most) };
+              rooted = w.rooted;
+              named = w.named;
+            };
+            sized = record { halves = z.halves; links = z.links; owner = z.owner; live = z.live; dangled = z.dangled; parent = z.parent; number = z.number; bindings = z.bindings };
+          })
 
 -- ---- which scope it is for
 
 module _ (place : Placement) (s : Scopes) where
-  pub alloc-no-top : s.top ≡ SCOPES → record { next = view s; says = Refused 3 } ≡ told at (view s) (rule.alloc_top place (view s))
-  unfolding rule.alloc_top ◌>>=◌ refuse◌unless◌
-  alloc-no-top e = rw (no_top s e)
+  pub alloc-no-top : (e : Refusal) → Tops s (Err e) → record { next = view s; says = refused (number_of e) } ≡ told (λ a. a) (view s) (rule.alloc_top place (view s))
+  unfolding rule.alloc_top ◌>>=◌
+  alloc-no-top e t = rw (sym t.is)
 
-  pub alloc-top : Topped s → rule.allocate place (found_at s s.top) 1 (view s) ≡ rule.alloc_top place (view s)
-  unfolding rule.alloc_top ◌>>=◌ refuse◌unless◌
-  alloc-top t = rw t.is
+  pub alloc-top : (i : ℕ) → Tops s (Ok i) → rule.allocate place (found_at s i) 1 (view s) ≡ rule.alloc_top place (view s)
+  unfolding rule.alloc_top ◌>>=◌
+  alloc-top i t = rw (sym t.is)
 
-  pub alloc-in-none : (o : Option rule.Found) → o ≡ none → record { next = view s; says = Refused 4 } ≡ told at (view s) (rule.alloc_in place o (view s))
+  pub alloc-in-none : (o : Option rule.Found) → none ≡ o → record { next = view s; says = refused 4 } ≡ told (λ a. a) (view s) (rule.alloc_in place o (view s))
   unfolding rule.alloc_in ◌>>=◌ refuse◌unless◌
-  alloc-in-none o e = rw e
+  alloc-in-none o e = rw (sym e)
 
-  pub alloc-in-is : (o : Option rule.Found) (i : ℕ) → Known s o i → rule.allocate place (found_at s i) 1 (view s) ≡ rule.alloc_in place o (view s)
+  pub alloc-in-is : (o : Option rule.Found) (i : ℕ) → some (found_at s i) ≡ o → rule.allocate place (found_at s i) 1 (view s) ≡ rule.alloc_in place o (view s)
   unfolding rule.alloc_in ◌>>=◌ refuse◌unless◌
-  alloc-in-is o i e = rw e.is
+  alloc-in-is o i e = rw (sym e)
 
-  pub run-no-top : (n : ℕ) → s.top ≡ SCOPES → record { next = view s; says = Refused 3 } ≡ told at_first (view s) (rule.alloc_run place n (view s))
-  unfolding rule.alloc_run ◌>>=◌ refuse◌unless◌
-  run-no-top zero e = rw (no_top s e)
-  run-no-top (suc m) e = rw (no_top s e)
+  pub run-no-top : (n : ℕ) (e : Refusal) → Tops s (Err e) → record { next = view s; says = refused (number_of e) } ≡ told (λ a. a) (view s) (rule.alloc_run place n (view s))
+  unfolding rule.alloc_run ◌>>=◌
+  run-no-top zero e t = rw (sym t.is)
+  run-no-top (suc m) e t = rw (sym t.is)
 
-  pub run-empty : (n : ℕ) → Topped s → n ≡ 0 → record { next = view s; says = Empty } ≡ told at_first (view s) (rule.alloc_run place n (view s))
-  unfolding rule.alloc_run ◌>>=◌ refuse◌unless◌
-  run-empty n t e = rw (e, t.is)
+  pub run-empty : (i n : ℕ) → Tops s (Ok i) → n ≡ 0 → record { next = view s; says = given none } ≡ told (λ a. a) (view s) (rule.alloc_run place n (view s))
+  unfolding rule.alloc_run ◌>>=◌
+  run-empty i n t e = rw (e, sym t.is)
 
-  pub run_is : (n : ℕ) → Topped s → n ≢ 0 → told at (view s) (rule.allocate place (found_at s s.top) n (view s)) ≡ told at_first (view s) (rule.alloc_run place n (view s))
-  unfolding rule.alloc_run ◌>>=◌ refuse◌unless◌
-  run_is zero t ne = absurd (ne refl)
-  run_is (suc m) t ne = rw t.is (go (rule.allocate place (found_at s s.top) (suc m) (view s)))
-    where
-      go : (r : Answer (ℕ × rule.Scopes)) → told at (view s) r ≡ told at_first (view s) (r >>= (λ x. given (some x.0, x.1)))
-      go (given x) = refl
-      go (refused m) = refl
+  -- what `allocate` tells of the first slot, it tells of the run
+  run-told : (c : rule.Scopes) (r : Answer (ℕ × rule.Scopes)) (z : Seen ℕ) → z ≡ told (λ a. a) c r → record { next = z.next; says = replied some z.says } ≡ told (λ a. a) c (r >>= (λ x. given (some x.0, x.1)))
+  unfolding ◌>>=◌
+  run-told c (given x) z e = ap (λ (y : Seen ℕ). record { next = y.next; says = replied some y.says }) e
+  run-told c (refused n) z e = ap (λ (y : Seen ℕ). record { next = y.next; says = replied some y.says }) e
+
+  run-refusal : (x : Answer ℕ) → is_refusal (replied some x) ≡ is_refusal x
+  run-refusal (given n) = refl
+  run-refusal (refused n) = refl
+
+  pub run_is : (i n : ℕ) → Tops s (Ok i) → n ≢ 0 → (t : Scopes) (x : Answer ℕ) → Becomes s t x (λ c. told (λ a. a) c (rule.allocate place (found_at s i) n c))
+      → Becomes s t (replied some x) (λ c. told (λ a. a) c (rule.alloc_run place n c))
+  unfolding rule.alloc_run ◌>>=◌
+  run_is i zero p ne t x b = absurd (ne refl)
+  run_is i (suc m) p ne t x b =
+      record {
+        is = rw (sym p.is) (run-told (view s) (rule.allocate place (found_at s i) (suc m) (view s)) (record { next = view t; says = x }) b.is);
+        whole = b.whole;
+        kept = λ q. b.kept (sym (run-refusal x) ∙ q);
+      }

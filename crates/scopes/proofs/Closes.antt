@@ -1,7 +1,8 @@
 -- A scope is closed: its addresses go to the dangling list one by one, then the scope itself goes. Assumes nothing.
 use Rattle.std.proofs.Common.{◌≡◌, ℕ, ◌+◌, ◌<◌, ◌≤◌, Bool, true, false, ◌≢◌, ◌⊎◌, List, [], ◌∷◌, length, get_or, set, sym, refl, ap, ◌∙◌, subst, inl, inr, arith, length-set, get_or-set_other, get_or-set_same, eq-eqb, ne_eqb, eqb-true}
 use mathlib.Core.Logic.{by_cases}
-use mathlib.Core.Option.{Option, none}
+use mathlib.Core.Option.{none}
+use mathlib.Core.Option as maybe
 use native.Mathlib.Decide.{ℕ_discrete}
 use borrow.Author.Tests.{eqb-false}
 use Rattle.rules.specs.Sizes.{BINDINGS, CELLS, HALVES, LINKS, LISTS, SCOPES, SLOTS}
@@ -13,12 +14,13 @@ use Rattle.rules.proofs.Sets.{member-same}
 use Rattle.rules.proofs.Tells.{clash}
 use Rattle.slots.specs.Halves.{occ}
 use Rattle.links.specs.Links.{Held, Ring, next_in, prev_in, leaves, gains}
-use Rattle.links.specs.Follow.{Ahead}
+use Rattle.std.specs.Prelude.{Option, Some, None}
+use Rattle.links.specs.Follow.{first_of}
 use Rattle.links.proofs.Walks.{without-first}
 use Rattle.scopes.specs.View.{list_of, index, view, bindings_of, found_at}
 use Rattle.scopes.specs.Sound.{Sound, LeadsToRoot, root, up, Each, BoundOnce, Sized}
 use Rattle.scopes.specs.Leaves.{NoChild}
-use Rattle.scopes.specs.Lent.{Whole}
+use Rattle.scopes.specs.Steps.{Whole}
 use Rattle.scopes.specs.declared.Scopes.{Scopes}
 use Rattle.scopes.proofs.Tables.{put-ext, put-again}
 use Rattle.scopes.proofs.Finds.{in-range}
@@ -35,14 +37,18 @@ pub record Turn (t : Scopes) (i a : ℕ) : Type 0 where
   pub owner : get_or t.owner a 0 ≡ i
   pub rest : without a (list_of t.links i) ≡ zs
 
-module _ (t : Scopes) (h : Sound t) (i a : ℕ) (hi : i < LISTS) (at : Ahead (next_in t.links) a (list_of t.links i) (SLOTS + i)) where
-  pub turn : a ≢ SLOTS + i → Turn t i a
-  turn ne = go (list_of t.links i) refl at (h.ringed.rings.ring i hi)
+-- what `links::first` answers of list i
+abbrev pub Firsts : Scopes → ℕ → Option ℕ → Type 0
+Firsts t i o = (xs : ℕ → List ℕ) → Held SLOTS LISTS t.links xs → o ≡ first_of (xs i)
+
+module _ (t : Scopes) (h : Sound t) (i : ℕ) (hi : i < LISTS) where
+  pub turn : (a : ℕ) → Firsts t i (Some a) → Turn t i a
+  turn a e = go (list_of t.links i) refl (e (list_of t.links) h.ringed.rings) (h.ringed.rings.ring i hi)
     where
-      go : (xs : List ℕ) → list_of t.links i ≡ xs → Ahead (next_in t.links) a xs (SLOTS + i) → Ring SLOTS (next_in t.links) (prev_in CELLS t.links) (SLOTS + i) xs → Turn t i a
-      go [] q w r = absurd (ne w)
+      go : (xs : List ℕ) → list_of t.links i ≡ xs → Some a ≡ first_of xs → Ring SLOTS (next_in t.links) (prev_in CELLS t.links) (SLOTS + i) xs → Turn t i a
+      go [] q w r = cc
       go (z ∷ zs) q w r =
-          let az : a ≡ z = w.0 in
+          let az : a ≡ z = cc in
           let is : list_of t.links i ≡ a ∷ zs = q ∙ ap (λ (x : ℕ). x ∷ zs) (sym az) in
           let small : a < SLOTS = omega (arith, r.addr z (member-same z zs)) in
           record {
@@ -53,12 +59,12 @@ module _ (t : Scopes) (h : Sound t) (i a : ℕ) (hi : i < LISTS) (at : Ahead (ne
             rest = ap (without a) q ∙ ap (λ (x : ℕ). without x (z ∷ zs)) az ∙ without-first SLOTS (next_in t.links) (prev_in CELLS t.links) (SLOTS + i) z zs (omega arith) r;
           }
 
-  pub ended : a ≡ SLOTS + i → list_of t.links i ≡ []
-  ended e = go (list_of t.links i) refl at (h.ringed.rings.ring i hi)
+  pub ended : Firsts t i None → list_of t.links i ≡ []
+  ended e = go (list_of t.links i) (e (list_of t.links) h.ringed.rings)
     where
-      go : (xs : List ℕ) → list_of t.links i ≡ xs → Ahead (next_in t.links) a xs (SLOTS + i) → Ring SLOTS (next_in t.links) (prev_in CELLS t.links) (SLOTS + i) xs → list_of t.links i ≡ []
-      go [] q w r = q
-      go (z ∷ zs) q w r = absurd (omega (arith, w.0, r.addr z (member-same z zs)))
+      go : (xs : List ℕ) → None ≡ first_of xs → xs ≡ []
+      go [] q = refl
+      go (x ∷ xs) q = cc
 
 -- ---- one address has gone: closing the scope then comes to the same
 
@@ -85,29 +91,32 @@ module _ (t : Scopes) (h : Sound t) (z : Sized t) (i a : ℕ) (hi : i < SCOPES) 
       ∙ ap (added_all u.zs) lists.1
       ∙ sym (ap (λ (l : List ℕ). added_all l (list_of t.links SCOPES)) u.is) in
       let l : put (view then).live i none ≡ put (view t).live i none =
-      ap (λ (f : ℕ → Option rule.Scope). put f i none) (back-live t h z a i u.small hi u.owner halves slot links c) ∙ put-again (view t).live i _ none in
+      ap (λ (f : ℕ → maybe.Option rule.Scope). put f i none) (back-live t h z a i u.small hi u.owner halves slot links c) ∙ put-again (view t).live i _ none in
       λ v. record { slots = s v; live = l v; top = index (get_or t.parent i 0); counter = t.counter; bindings = rule.unbound i (view t).bindings; dangling = d v; size = t.size }
 
--- the loop: t has come from t₀, and a is next
-pub record Closing (i : ℕ) (t₀ t : Scopes) (a : ℕ) : Type 0 where
-  pub at : Ahead (next_in t.links) a (list_of t.links i) (SLOTS + i)
+-- the loop: t has come from t₀
+pub record Closing (i : ℕ) (t₀ t : Scopes) : Type 0 where
   pub sound : Sound t
   pub sized : Sized t
   pub live : get_or t.live i false ≡ true
+  pub scopes : (t.live ≡ t₀.live) × (t.parent ≡ t₀.parent)
   pub closes : rule.closed (found_at t i) (view t) ≡ rule.closed (found_at t₀ i) (view t₀)
 
-module _ (i : ℕ) (t₀ t : Scopes) (a : ℕ) (hi : i < SCOPES) (g : Closing i t₀ t a) (u : Turn t i a) (halves links : List ℕ) (lh : length halves ≡ HALVES) (ll : length links ≡ LINKS)
+pub closing-turn : (i : ℕ) (t₀ t : Scopes) (a : ℕ) → i < SCOPES → Closing i t₀ t → Firsts t i (Some a) → Turn t i a
+closing-turn i t₀ t a hi g = turn t g.sound i (omega (arith, hi)) a
+
+module _ (i : ℕ) (t₀ t : Scopes) (a : ℕ) (hi : i < SCOPES) (g : Closing i t₀ t) (u : Turn t i a) (halves links : List ℕ) (lh : length halves ≡ HALVES) (ll : length links ≡ LINKS)
     (slot : occ halves ≡ put (occ t.halves) a false) (c : Held SLOTS LISTS links (gains SCOPES a (leaves a (list_of t.links)))) where
-  pub closing-sound : Sound (released t a SCOPES halves links)
+  closing-sound : Sound (released t a SCOPES halves links)
   closing-sound = back-sound t g.sound g.sized a i u.small hi u.owner halves slot links c
 
-  pub closing-on : (b : ℕ) → Ahead (next_in links) b (list_of links i) (SLOTS + i) → Closing i t₀ (released t a SCOPES halves links) b
-  closing-on b at =
+  pub closing-on : Closing i t₀ (released t a SCOPES halves links)
+  closing-on =
       record {
-        at = at;
         sound = closing-sound;
         sized = released-sized t g.sized a SCOPES halves links lh ll;
         live = g.live;
+        scopes = g.scopes;
         closes = step-closes t g.sound g.sized i a hi u halves links slot c ∙ g.closes;
       }
 
@@ -118,21 +127,14 @@ module _ (i : ℕ) (t₀ t : Scopes) (a : ℕ) (hi : i < SCOPES) (g : Closing i 
 
 abbrev pub gone : Scopes → ℕ → List ℕ → ℕ → ℕ → Scopes
 gone t i bindings count top =
-    record {
-      halves = t.halves;
-      links = t.links;
-      owner = t.owner;
+    record t {
       live = set t.live i false;
       dangled = set t.dangled i false;
       parent = set t.parent i SCOPES;
       number = set t.number i 0;
       bindings = bindings;
       count = count;
-      segments = t.segments;
-      head = t.head;
       top = top;
-      counter = t.counter;
-      size = t.size;
     }
 
 each_left : {P Q : rule.Binding → Type 0} (i : ℕ) → ((b : rule.Binding) → b.scope ≢ i → P b → Q b) → (l : List rule.Binding) → Each P l → Each Q (rule.unbound i l)

@@ -1,8 +1,10 @@
 -- The bindings of a scope go; the others keep their order. Assumes nothing.
-use Rattle.std.proofs.Common.{◌≡◌, ℕ, ◌+◌, ◌/◌, ◌<◌, ◌≤◌, Bool, true, false, eqb, ◌≢◌, List, [], ◌∷◌, ◌++◌, map, length, get_or, take, set, refl, ap, ◌∙◌, append-nil, add-one, arith, length-set, get_or-set_other, take-suc, get_or-set_same, take-suc-set, eq-eqb, ne_eqb}
+use Rattle.std.proofs.Common.{◌≡◌, ℕ, ◌+◌, ◌-◌, replicate, drop, length-append, length-drop, length-take-le, ◌/◌, ◌<◌, ◌≤◌, Bool, true, false, eqb, ◌≢◌, List, [], ◌∷◌, ◌++◌, map, length, get_or, take, set, refl, ap, ◌∙◌, append-nil, add-one, arith, length-set, get_or-set_other, take-suc, take-suc-set, eq-eqb, ne_eqb}
 use mathlib.Core.Logic.{by_cases}
 use native.Mathlib.Decide.{ℕ_discrete, dec_lt}
-use lib.Seq.{take-set-le}
+use borrow.Rule.Slice.PartMut.{put_mid}
+use Rattle.std.proofs.lemmas.Slice.{take-put_mid_below}
+use Rattle.std.proofs.lemmas.List.{get_or_append_left, get_or-append_right, get_or-drop, get_or-replicate, length-replicate}
 use Rattle.rules.specs.Sizes.{BINDINGS}
 use Rattle.rules.specs.Scopes as rule
 use Rattle.scopes.specs.View.{binding, bindings_of, SCOPE_PART}
@@ -62,16 +64,29 @@ module _ (old : List ℕ) (count i : ℕ) (lo : length old ≡ BINDINGS) (hc : c
 
 -- ---- the places that are left over
 
-pub wiped-none : (old : List ℕ) (from : ℕ) → length old ≡ BINDINGS → Wiped old from from old
-wiped-none old from l = record { long = l; front = refl; zeros = λ k a b. absurd (omega arith); ahead = λ k a. refl }
-
-pub wiped-more : (old : List ℕ) (from w : ℕ) (new : List ℕ) → from ≤ w → w < BINDINGS → Wiped old from w new → Wiped old from (w + 1) (set new w 0)
-wiped-more old from w new l hw h =
+pub wiped : (old : List ℕ) (from to : ℕ) (zs : List ℕ) → from ≤ to → to ≤ BINDINGS → length old ≡ BINDINGS → zs ≡ replicate (to - from) 0 → Wiped old from to (put_mid from (to - from) old zs)
+wiped old from to zs a b l e =
+    let n : length zs ≡ to - from = ap length e ∙ length-replicate (to - from) 0 in
+    let f : length (take from old) ≡ from = length-take-le from old (omega arith) in
+    let rest : List ℕ = drop (to - from) (drop from old) in
     record {
-      long = length-set new w 0 ∙ h.long;
-      front = take-set-le from new w 0 l ∙ h.front;
-      zeros = λ k a b. by_cases (ℕ_discrete k w) (λ e. rw (e, get_or-set_same new w 0 0 (omega (arith, h.long)))) (λ q. get_or-set_other new w k 0 0 q ∙ h.zeros k a (omega arith));
-      ahead = λ k a. get_or-set_other new w k 0 0 (omega arith) ∙ h.ahead k (omega arith);
+      long =
+          let d : length rest ≡ length old - from - (to - from) = length-drop (to - from) (drop from old) ∙ ap (λ (x : ℕ). x - (to - from)) (length-drop from old) in
+          let m : length (zs ++ rest) ≡ length zs + length rest = length-append zs rest in
+          length-append (take from old) (zs ++ rest) ∙ omega (arith, f, m, n, d);
+      front = take-put_mid_below from (to - from) old zs from (omega arith) (omega arith);
+      zeros = λ k x y.
+          get_or-append_right (take from old) (zs ++ rest) from k 0 f x
+          ∙ get_or_append_left zs rest 0 (k - from) (omega arith)
+          ∙ ap (λ (x : List ℕ). get_or x (k - from) 0) e
+          ∙ get_or-replicate {A = ℕ} (to - from) (k - from) 0 0 (omega arith);
+      ahead = λ k x.
+          let at : from + (to - from + (k - from - (to - from))) ≡ k = omega arith in
+          get_or-append_right (take from old) (zs ++ rest) from k 0 f (omega arith)
+          ∙ get_or-append_right zs rest (to - from) (k - from) 0 n (omega arith)
+          ∙ get_or-drop (to - from) (drop from old) (k - from - (to - from)) 0
+          ∙ get_or-drop from old (to - from + (k - from - (to - from))) 0
+          ∙ ap (λ (i : ℕ). get_or old i 0) at;
     }
 
 -- all are passed, w are kept, and the places from there on are wiped

@@ -7,40 +7,25 @@ use Rattle.rules.specs.AddressSets.{without}
 use Rattle.rules.specs.Scopes as rule
 use Rattle.rules.proofs.Sets.{without-none}
 use Rattle.slots.specs.Halves.{occ}
-use Rattle.links.specs.Links.{Held, On, next_in, leaves}
-use Rattle.links.specs.Follow.{Ahead}
+use Rattle.links.specs.Links.{Held, On, leaves}
+use Rattle.std.specs.Prelude.{Some}
 use Rattle.links.proofs.Walks.{chains-lists, walk}
 use Rattle.links.proofs.Moves.{told-on, leaves-tells}
 use Rattle.scopes.specs.View.{list_of, index, view}
 use Rattle.scopes.specs.Sound.{Sound, Sized}
+use Rattle.scopes.specs.Steps.{Drains}
 use Rattle.scopes.specs.declared.Scopes.{Scopes}
 use Rattle.scopes.proofs.Tables.{put-nothing}
 use Rattle.scopes.proofs.Finds.{in-range}
 use Rattle.scopes.proofs.Moves.{owners, ringed, owned, scopes-other}
-use Rattle.scopes.proofs.Closes.{Turn}
+use Rattle.scopes.proofs.Closes.{Firsts, Turn, turn}
 
 abbrev pub lighter : Scopes → ℕ → List ℕ → Scopes
 lighter t a links =
-    record {
-      halves = t.halves;
-      links = links;
-      owner = set t.owner a LISTS;
-      live = t.live;
-      dangled = t.dangled;
-      parent = t.parent;
-      number = t.number;
-      bindings = t.bindings;
-      count = t.count;
-      segments = t.segments;
-      head = t.head;
-      top = t.top;
-      counter = t.counter;
-      size = t.size;
-    }
+    record t { links = links; owner = set t.owner a LISTS }
 
--- the loop: n addresses have gone from t₀ into `out`, and a is next
-pub record Draining (t₀ : Scopes) (out₀ : List ℕ) (t : Scopes) (a n : ℕ) (out : List ℕ) : Type 0 where
-  pub at : Ahead (next_in t.links) a (list_of t.links SCOPES) (SLOTS + SCOPES)
+-- the loop: n addresses have gone from t₀ into `out`
+pub record Draining (t₀ : Scopes) (out₀ : List ℕ) (t : Scopes) (n : ℕ) (out : List ℕ) : Type 0 where
   pub sound : Sound t
   pub sized : Sized t
   pub rest : (rule.drain_dangling (view t)).1 ≡ (rule.drain_dangling (view t₀)).1
@@ -49,11 +34,14 @@ pub record Draining (t₀ : Scopes) (out₀ : List ℕ) (t : Scopes) (a n : ℕ)
   pub long : length out ≡ SLOTS
   pub kept : (k : ℕ) → n ≤ k → get_or out k 0 ≡ get_or out₀ k 0
 
-pub draining-none : (t : Scopes) (out : List ℕ) (a : ℕ) → Ahead (next_in t.links) a (list_of t.links SCOPES) (SLOTS + SCOPES) → Sound t → Sized t → length out ≡ SLOTS → Draining t out t a 0 out
-draining-none t out a e h z l =
-    record { at = e; sound = h; sized = z; rest = refl; done = refl; room = omega (arith, (walk SLOTS LISTS t.links (list_of t.links) h.ringed.rings SCOPES (omega arith)).1); long = l; kept = λ k _. refl }
+pub draining-none : (t : Scopes) (out : List ℕ) → Sound t → Sized t → length out ≡ SLOTS → Draining t out t 0 out
+draining-none t out h z l =
+    record { sound = h; sized = z; rest = refl; done = refl; room = omega (arith, (walk SLOTS LISTS t.links (list_of t.links) h.ringed.rings SCOPES (omega arith)).1); long = l; kept = λ k _. refl }
 
-module _ (t₀ : Scopes) (out₀ : List ℕ) (t : Scopes) (a n : ℕ) (out : List ℕ) (g : Draining t₀ out₀ t a n out) (u : Turn t SCOPES a) where
+pub draining-turn : (t₀ : Scopes) (out₀ : List ℕ) (t : Scopes) (a n : ℕ) (out : List ℕ) → Draining t₀ out₀ t n out → Firsts t SCOPES (Some a) → Turn t SCOPES a
+draining-turn t₀ out₀ t a n out g = turn t g.sound SCOPES (omega arith) a
+
+module _ (t₀ : Scopes) (out₀ : List ℕ) (t : Scopes) (a n : ℕ) (out : List ℕ) (g : Draining t₀ out₀ t n out) (u : Turn t SCOPES a) where
   pub on : On LISTS (list_of t.links) a
   on = told-on SLOTS LISTS (owners t.owner) (list_of t.links) g.sound.ringed.tells a u.small (omega (arith, u.owner))
 
@@ -97,13 +85,9 @@ module _ (t₀ : Scopes) (out₀ : List ℕ) (t : Scopes) (a n : ℕ) (out : Lis
           size = t.size;
         }
 
-    pub draining-rings : Held SLOTS LISTS links (list_of links)
-    draining-rings = sound.ringed.rings
-
-    pub draining-on : (b : ℕ) → Ahead (next_in links) b (list_of links SCOPES) (SLOTS + SCOPES) → Draining t₀ out₀ (lighter t a links) b (n + 1) (set out n a)
-    draining-on b at =
+    pub draining-on : Draining t₀ out₀ (lighter t a links) (n + 1) (set out n a)
+    draining-on =
         record {
-          at = at;
           sound = sound;
           sized = record { halves = g.sized.halves; links = ll; owner = length-set t.owner a LISTS ∙ g.sized.owner; live = g.sized.live; dangled = g.sized.dangled; parent = g.sized.parent; number = g.sized.number; bindings = g.sized.bindings };
           rest = rest ∙ g.rest;
@@ -116,10 +100,11 @@ module _ (t₀ : Scopes) (out₀ : List ℕ) (t : Scopes) (a n : ℕ) (out : Lis
     pub draining-less : length (list_of links SCOPES) < length (list_of t.links SCOPES)
     draining-less = rw (now-64, u.is) (omega arith)
 
-pub drained : (t₀ : Scopes) (out₀ : List ℕ) (t : Scopes) (a n : ℕ) (out : List ℕ) → Draining t₀ out₀ t a n out → list_of t.links SCOPES ≡ []
-    → (view t ≡ (rule.drain_dangling (view t₀)).1) × (take n out ≡ (rule.drain_dangling (view t₀)).0)
+pub drained : (t₀ : Scopes) (out₀ : List ℕ) (t : Scopes) (n : ℕ) (out : List ℕ) → Draining t₀ out₀ t n out → list_of t.links SCOPES ≡ []
+    → Drains t₀ t n out
 unfolding rule.drain_dangling
-drained t₀ out₀ t a n out g e = (
-  (λ v. record { slots = (view t).slots; live = (view t).live; top = (view t).top; counter = t.counter; bindings = (view t).bindings; dangling = e v; size = t.size }) ∙ g.rest,
-  sym (g.done ∙ ap (λ (l : List ℕ). take n out ++ l) e ∙ append-nil (take n out)),
-)
+drained t₀ out₀ t n out g e = record {
+  next = (λ v. record { slots = (view t).slots; live = (view t).live; top = (view t).top; counter = t.counter; bindings = (view t).bindings; dangling = e v; size = t.size }) ∙ g.rest;
+  first = sym (g.done ∙ ap (λ (l : List ℕ). take n out ++ l) e ∙ append-nil (take n out));
+  whole = record { sound = g.sound; sized = g.sized };
+}

@@ -1,38 +1,19 @@
 -- Which scope is meant: the top, or the one with an id, or with a number. Assumes nothing.
-use Rattle.std.proofs.Common.{◌≡◌, ℕ, ◌<◌, ◌≤◌, Bool, true, false, ◌&&◌, ltb, ◌≢◌, List, length, get_or, sym, refl, ap, ◌∙◌, subst, ⊎_elim, arith, ltb-true, le-ltb, lt-ltb, eq-eqb, ne_eqb, eqb-true}
+use Rattle.std.proofs.Common.{Ok, ◌≡◌, ℕ, ◌<◌, ◌≤◌, Bool, true, false, ◌&&◌, ltb, ◌≢◌, length, get_or, sym, refl, ap, ◌∙◌, ⊎_elim, arith, le-ltb, lt-ltb, eq-eqb, ne_eqb}
 use mathlib.Core.Logic.{by_cases}
-use mathlib.Core.Option.{Option, none, some}
+use mathlib.Core.Option.{none, some}
 use native.Mathlib.Decide.{dec_lt}
 use lib.ListN.{get_or-eq_default}
-use Rattle.rules.specs.Notation.{refuse◌unless◌, is_some, first}
+use Rattle.rules.specs.Notation.{is_some, first}
 use Rattle.rules.specs.Sizes.{base, SCOPES}
 use Rattle.rules.specs.Scopes as rule
 use Rattle.rules.proofs.Searches.{first-none}
 use Rattle.rules.proofs.Tells.{clash}
-use Rattle.scopes.specs.View.{view, found_at, opened, replied}
+use Rattle.scopes.specs.View.{view, found_at}
 use Rattle.scopes.specs.Sound.{Sound}
-use Rattle.scopes.specs.Leaves.{lowest, has_number, child_of, has_child, place_of, NoChild}
+use Rattle.scopes.specs.Leaves.{has_number, child_of, has_child, NoChild, Tops}
 use Rattle.scopes.specs.declared.Scopes.{Scopes}
-use Rattle.scopes.specs.declared.Reply.TheVariants.{Refused}
-use Rattle.scopes.proofs.Tables.{and_left, and_right, none_is, Low, low}
-
--- ---- the leaf that looks at an id
-
-module _ (live : List Bool) (number : List ℕ) (i n r : ℕ) (e : r ≡ i) where
-  pub place_here : r < SCOPES → get_or live r false ≡ true → get_or number r 0 ≡ n → r ≡ place_of live number i n
-  place_here a b c = subst (λ (x : ℕ). r ≡ place_of live number x n) e (rw (lt-ltb r SCOPES a, b, eq-eqb (get_or number r 0) n c, place_of))
-
-  pub place_other : r < SCOPES → get_or live r false ≡ true → get_or number r 0 ≢ n → SCOPES ≡ place_of live number i n
-  place_other a b c = subst (λ (x : ℕ). SCOPES ≡ place_of live number x n) e (rw (lt-ltb r SCOPES a, b, ne_eqb (get_or number r 0) n c, place_of))
-
-  pub place-dead : r < SCOPES → get_or live r false ≡ false → SCOPES ≡ place_of live number i n
-  place-dead a b = subst (λ (x : ℕ). SCOPES ≡ place_of live number x n) e (rw (lt-ltb r SCOPES a, b, place_of))
-
-  pub place-far : SCOPES ≤ r → SCOPES ≡ place_of live number i n
-  place-far a = subst (λ (x : ℕ). SCOPES ≡ place_of live number x n) e (rw (le-ltb r SCOPES a, place_of))
-
-pub number_small : (live : List Bool) (number : List ℕ) (n r : ℕ) → r ≡ lowest (has_number live number n) 0 → r ≢ SCOPES → r < SCOPES
-number_small live number n r e q = omega (arith, (low (has_number live number n) 0 (omega arith) r e).most)
+use Rattle.scopes.proofs.Tables.{none_is, first-here, first-nowhere}
 
 -- ---- the arrays' tests are the rules'
 
@@ -80,65 +61,57 @@ module _ (s : Scopes) where
   unfolding rule.top_scope
   topped h n = ⊎_elim (λ t. record { small = t.0; live = t.1; is = rw (lt-ltb s.top SCOPES t.0, t.1, rule.top_scope) }) (λ t. absurd (n t.0)) h.rooted.topped
 
+  -- .. from the leaf that asks for it
+  pub tops : Sound s → (i : ℕ) → Tops s (Ok i) → Topped
+  tops h i t = topped h (λ e. omega (arith, t.lives.0, t.top))
+
   -- ---- by id
 
-  pub record Known (o : Option rule.Found) (i : ℕ) : Type 0 where
-    pub small : i < SCOPES
-    pub live : get_or s.live i false ≡ true
-    pub is : o ≡ some (found_at s i)
-
-  module _ (id : rule.Id) (r : ℕ) (e : r ≡ place_of s.live s.number id.index id.number) where
-    abbrev test : Bool
-    test = ltb id.index SCOPES && has_number s.live s.number id.number id.index
-
-    same : (ltb id.index SCOPES && rule.has_number id.number ((view s).live id.index)) ≡ test
-    same = ap (λ (b : Bool). ltb id.index SCOPES && b) (has-number id.number id.index)
-
-    pub unknown : r ≡ SCOPES → rule.by_id base (view s) id ≡ none
+  module _ (id : rule.Id) (i : ℕ) (e : i ≡ id.index) where
+    pub by-id-here : i < SCOPES → get_or s.live i false ≡ true → get_or s.number i 0 ≡ id.number → some (found_at s i) ≡ rule.by_id base (view s) id
     unfolding rule.by_id base
-    unknown q = go test refl
+    by-id-here a l n = sym here ∙ ap (rule.by_id base (view s)) (λ t. record { index = e t; number = n t })
       where
-        go : (b : Bool) → test ≡ b → rule.by_id base (view s) id ≡ none
-        go false t = rw (same ∙ t, rule.by_id)
-        go true t =
-            let d : r ≡ id.index = e ∙ ap (λ (b : Bool). elim b [ true ↦ id.index | false ↦ SCOPES ]) t in
-            absurd (omega (arith, ltb-true id.index SCOPES (and_left _ _ t)))
+        here : rule.by_id base (view s) (record { index = i; number = get_or s.number i 0 }) ≡ some (found_at s i)
+        here =
+            let f : (ltb i SCOPES && rule.has_number (get_or s.number i 0) ((view s).live i)) ≡ true = rw (lt-ltb i SCOPES a, l, eq-eqb (get_or s.number i 0) (get_or s.number i 0) refl) in
+            rw (f, l, rule.by_id)
 
-    pub known : r ≢ SCOPES → Known (rule.by_id base (view s) id) r
+    by-id-missed : (ltb i SCOPES && has_number s.live s.number id.number i) ≡ false → none ≡ rule.by_id base (view s) id
     unfolding rule.by_id base
-    known q = go test refl
-      where
-        go : (b : Bool) → test ≡ b → Known (rule.by_id base (view s) id) r
-        go false t = absurd (q (e ∙ ap (λ (b : Bool). elim b [ true ↦ id.index | false ↦ SCOPES ]) t))
-        go true t =
-            let d : r ≡ id.index = e ∙ ap (λ (b : Bool). elim b [ true ↦ id.index | false ↦ SCOPES ]) t in
-            let l : get_or s.live id.index false ≡ true = and_left _ _ (and_right (ltb id.index SCOPES) _ t) in
-            subst (λ (x : ℕ). Known (rule.by_id base (view s) id) x) (sym d)
-            (record { small = ltb-true id.index SCOPES (and_left _ _ t); live = l; is = rw (same ∙ t, l, rule.by_id) })
+    by-id-missed t =
+        let f : (ltb id.index SCOPES && rule.has_number id.number ((view s).live id.index)) ≡ false =
+        ap (λ (b : Bool). ltb id.index SCOPES && b) (has-number id.number id.index) ∙ ap (λ (x : ℕ). ltb x SCOPES && has_number s.live s.number id.number x) (sym e) ∙ t in
+        sym (rw (f, rule.by_id))
+
+    pub by-id-other : i < SCOPES → get_or s.live i false ≡ true → get_or s.number i 0 ≢ id.number → none ≡ rule.by_id base (view s) id
+    by-id-other a l n = by-id-missed (rw (lt-ltb i SCOPES a, l, ne_eqb (get_or s.number i 0) id.number n))
+
+    pub by-id-dead : i < SCOPES → get_or s.live i false ≡ false → none ≡ rule.by_id base (view s) id
+    by-id-dead a l = by-id-missed (rw (lt-ltb i SCOPES a, l))
+
+    pub by-id-far : SCOPES ≤ i → none ≡ rule.by_id base (view s) id
+    by-id-far a = by-id-missed (rw (le-ltb i SCOPES a))
 
   -- ---- by number
 
-  module _ (n r : ℕ) (e : r ≡ lowest (has_number s.live s.number n) 0) where
-    lw : Low (has_number s.live s.number n) 0 (omega arith) r
-    lw = low (has_number s.live s.number n) 0 (omega arith) r e
-
+  module _ (n : ℕ) where
     numbers : ◌≡◌ {A = ℕ → Bool} (λ j. rule.has_number n ((view s).live j)) (has_number s.live s.number n)
     numbers = λ t j. has-number n j t
 
-    pub numbered-none : r ≡ SCOPES → Refused 4 ≡ replied (λ (k : rule.Found). opened (rule.id_of k)) (refuse 4 unless (rule.by_number base (view s) n))
-    unfolding rule.by_number base refuse◌unless◌
-    numbered-none q =
-        let f : first (λ j. rule.has_number n ((view s).live j)) 0 SCOPES ≡ none = ap (λ (g : ℕ → Bool). first g 0 SCOPES) numbers ∙ lw.none (omega arith) in
-        rw (f, rule.by_number)
+    pub by-number-here : (i : ℕ) → i < SCOPES → ((j : ℕ) → 0 ≤ j → j < i → has_number s.live s.number n j ≡ false) → get_or s.live i false ≡ true → get_or s.number i 0 ≡ n
+        → some (found_at s i) ≡ rule.by_number base (view s) n
+    unfolding rule.by_number base
+    by-number-here i h before l m =
+        let f : first (λ j. rule.has_number n ((view s).live j)) 0 SCOPES ≡ some i =
+        ap (λ (g : ℕ → Bool). first g 0 SCOPES) numbers ∙ sym (first-here (has_number s.live s.number n) 0 i (omega arith) h before (rw (l, eq-eqb (get_or s.number i 0) n m))) in
+        sym (rw (f, l, rule.by_number))
 
-    pub numbered_is : r ≢ SCOPES → opened (record { index = r; number = n }) ≡ replied (λ (k : rule.Found). opened (rule.id_of k)) (refuse 4 unless (rule.by_number base (view s) n))
-    unfolding rule.by_number base refuse◌unless◌
-    numbered_is q =
-        let l : r < SCOPES = omega (arith, lw.most) in
-        let f : first (λ j. rule.has_number n ((view s).live j)) 0 SCOPES ≡ some r = ap (λ (g : ℕ → Bool). first g 0 SCOPES) numbers ∙ lw.is l in
-        let a : get_or s.live r false ≡ true = and_left _ _ (lw.at l) in
-        let b : get_or s.number r 0 ≡ n = eqb-true _ _ (and_right (get_or s.live r false) _ (lw.at l)) in
-        rw (f, a, b, rule.by_number)
+    pub by-number-none : ((j : ℕ) → 0 ≤ j → j < SCOPES → has_number s.live s.number n j ≡ false) → none ≡ rule.by_number base (view s) n
+    unfolding rule.by_number base
+    by-number-none before =
+        let f : first (λ j. rule.has_number n ((view s).live j)) 0 SCOPES ≡ none = ap (λ (g : ℕ → Bool). first g 0 SCOPES) numbers ∙ sym (first-nowhere (has_number s.live s.number n) 0 (omega arith) before) in
+        sym (rw (f, rule.by_number))
 
   -- ---- children
 

@@ -4,7 +4,7 @@ use mathlib.Core.Logic.{by_cases}
 use mathlib.Core.Option.{some}
 use native.Mathlib.Decide.{dec_lt}
 use Rattle.rules.specs.Sizes.{HALVES, LINKS, LISTS, SCOPES, SLOTS}
-use Rattle.rules.specs.Notation.{◌>>=◌, refuse◌unless◌, refuse◌when◌, put}
+use Rattle.rules.specs.Notation.{given, refused, ◌>>=◌, refuse◌unless◌, refuse◌when◌, put}
 use Rattle.rules.specs.AddressSets.{member, added, without}
 use Rattle.rules.specs.Slots.{remove}
 use Rattle.rules.specs.Scopes as rule
@@ -18,31 +18,16 @@ use Rattle.links.proofs.Walks.{chains-lists}
 use Rattle.links.proofs.Moves.{Tells, told-on, leaves-tells, places-tells}
 use Rattle.scopes.specs.View.{list_of, index, view, scope_of, told_only}
 use Rattle.scopes.specs.Sound.{Slotted, Ringed, Sound, Sized}
-use Rattle.scopes.specs.Lent.{Whole}
+use Rattle.scopes.specs.Steps.{Becomes}
 use Rattle.scopes.specs.declared.Scopes.{Scopes}
-use Rattle.scopes.specs.declared.Reply.TheVariants.{Done, Refused}
 use Rattle.scopes.proofs.Finds.{no_top, Topped, in-range}
+use Rattle.scopes.proofs.Becoming.{does}
 use Rattle.scopes.proofs.Moves.{owners, ringed, owned, scopes-put}
 
 -- the state s with slot a clear, and on list o (LISTS: on none)
 abbrev pub released : Scopes → ℕ → ℕ → List ℕ → List ℕ → Scopes
 released s a o halves links =
-    record {
-      halves = halves;
-      links = links;
-      owner = set s.owner a o;
-      live = s.live;
-      dangled = s.dangled;
-      parent = s.parent;
-      number = s.number;
-      bindings = s.bindings;
-      count = s.count;
-      segments = s.segments;
-      head = a / 128;
-      top = s.top;
-      counter = s.counter;
-      size = s.size;
-    }
+    record s { halves = halves; links = links; owner = set s.owner a o; head = a / 128 }
 
 pub released-sized : (s : Scopes) → Sized s → (a o : ℕ) (halves links : List ℕ) → length halves ≡ HALVES → length links ≡ LINKS → Sized (released s a o halves links)
 released-sized s z a o halves links lh ll =
@@ -53,11 +38,11 @@ pub far : (links owner : List ℕ) (a i : ℕ) → Ringed links owner → SLOTS 
 far links owner a i h l hi = no_member a (list_of links i) (λ m. omega (arith, (h.rings.ring i hi).addr a m))
 
 module _ (s : Scopes) (dangles : Bool) (a : ℕ) where
-  pub free-no-top : s.top ≡ SCOPES → record { next = view s; says = Refused 12 } ≡ told_only (view s) (give_back dangles a (view s))
+  pub free-no-top : s.top ≡ SCOPES → record { next = view s; says = refused 12 } ≡ told_only (view s) (give_back dangles a (view s))
   unfolding give_back ◌>>=◌ refuse◌unless◌
   free-no-top e = rw (no_top s e)
 
-  pub free-not-owned : Topped s → member a (list_of s.links s.top) ≡ false → record { next = view s; says = Refused 12 } ≡ told_only (view s) (give_back dangles a (view s))
+  pub free-not-owned : Topped s → member a (list_of s.links s.top) ≡ false → record { next = view s; says = refused 12 } ≡ told_only (view s) (give_back dangles a (view s))
   unfolding give_back ◌>>=◌ refuse◌unless◌ refuse◌when◌
   free-not-owned t e = rw (t.is, e)
 
@@ -119,7 +104,7 @@ module _ (s : Scopes) (h : Sound s) (z : Sized s) (a k : ℕ) (ha : a < SLOTS) (
 
       -- where k is the top
       rule-is : (dangles : Bool) → s.top ≡ k → Topped s → ys SCOPES ≡ elim dangles [ true ↦ added a (list_of s.links SCOPES) | false ↦ list_of s.links SCOPES ]
-          → record { next = view (released s a o halves links); says = Done } ≡ told_only (view s) (give_back dangles a (view s))
+          → record { next = view (released s a o halves links); says = given tt } ≡ told_only (view s) (give_back dangles a (view s))
       unfolding give_back rule.set_scope ◌>>=◌ refuse◌unless◌ refuse◌when◌
       rule-is dangles et top e64 =
           let l : (view (released s a o halves links)).live ≡ put (view s).live s.top (some (rule.owned≔ (without a (list_of s.links s.top)) (scope_of s s.top))) =
@@ -129,7 +114,7 @@ module _ (s : Scopes) (h : Sound s) (z : Sized s) (a k : ℕ) (ha : a < SLOTS) (
           let m : member a (list_of s.links s.top) ≡ true = ap (λ (x : ℕ). member a (list_of s.links x)) et ∙ owns in
           rw (top.is, m) (λ u. record {
             next = record { slots = sym r u; live = l u; top = index s.top; counter = s.counter; bindings = (view s).bindings; dangling = d u; size = s.size };
-            says = Done;
+            says = given tt;
           })
 
     -- ---- to the dangling list
@@ -160,19 +145,19 @@ module _ (s : Scopes) (h : Sound s) (z : Sized s) (a k : ℕ) (ha : a < SLOTS) (
       )
 
       pub gives_back : length halves ≡ HALVES → length links ≡ LINKS → (dangles : Bool) → dangles ≡ true → s.top ≡ k → Topped s
-          → (record { next = view (released s a SCOPES halves links); says = Done } ≡ told_only (view s) (give_back dangles a (view s))) × Whole (released s a SCOPES halves links)
-      gives_back lh ll dangles e et top = (
-        rule-is links SCOPES (omega arith) (omega arith) _ c told-there back-k back-other dangles et top (back-64 ∙ rw e),
-        record { sound = back-sound; sized = released-sized s z a SCOPES halves links lh ll },
-      )
+          → Becomes s (released s a SCOPES halves links) (given tt) (λ c. told_only c (give_back dangles a c))
+      gives_back lh ll dangles e et top =
+          does s (released s a SCOPES halves links) tt (λ c. told_only c (give_back dangles a c))
+          (rule-is links SCOPES (omega arith) (omega arith) _ c told-there back-k back-other dangles et top (back-64 ∙ rw e))
+          (record { sound = back-sound; sized = released-sized s z a SCOPES halves links lh ll })
 
     -- ---- to none
 
     pub gives-quietly : (links : List ℕ) → Held SLOTS LISTS links (leaves a (list_of s.links)) → length halves ≡ HALVES → length links ≡ LINKS → (dangles : Bool) → dangles ≡ false → s.top ≡ k → Topped s
-        → (record { next = view (released s a LISTS halves links); says = Done } ≡ told_only (view s) (give_back dangles a (view s))) × Whole (released s a LISTS halves links)
+        → Becomes s (released s a LISTS halves links) (given tt) (λ c. told_only c (give_back dangles a c))
     gives-quietly links c lh ll dangles e et top =
         let t = leaves-tells SLOTS LISTS (owners s.owner) (list_of s.links) h.ringed.tells a ha LISTS (omega arith) in
-        let other : (j : ℕ) → j < SCOPES → j ≢ k → leaves a (list_of s.links) j ≡ list_of s.links j = λ j hj n. unowned j (omega arith) n in (
-          rule-is links LISTS (omega arith) (omega arith) _ c t refl other dangles et top (unowned SCOPES (omega arith) (omega arith) ∙ rw e),
-          record { sound = sound links LISTS (omega arith) (omega arith) _ c t refl other; sized = released-sized s z a LISTS halves links lh ll },
-        )
+        let other : (j : ℕ) → j < SCOPES → j ≢ k → leaves a (list_of s.links) j ≡ list_of s.links j = λ j hj n. unowned j (omega arith) n in
+        does s (released s a LISTS halves links) tt (λ c. told_only c (give_back dangles a c))
+        (rule-is links LISTS (omega arith) (omega arith) _ c t refl other dangles et top (unowned SCOPES (omega arith) (omega arith) ∙ rw e))
+        (record { sound = sound links LISTS (omega arith) (omega arith) _ c t refl other; sized = released-sized s z a LISTS halves links lh ll })

@@ -1,4 +1,5 @@
 pub mod Tables
+pub mod Becoming
 pub mod Finds
 pub mod Refusals
 pub mod Start
@@ -18,4 +19,3 @@ pub mod Closes
 pub mod Pops
 pub mod Drains
 pub mod Unique
-pub mod Wraps

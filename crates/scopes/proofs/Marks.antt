@@ -1,38 +1,24 @@
 -- A scope is dangled, or restored. Assumes nothing.
-use Rattle.std.proofs.Common.{◌≡◌, ℕ, ◌<◌, Bool, true, false, not, ◌||◌, eqb, ◌≢◌, List, length, get_or, set, sym, refl, ap, ◌∙◌, subst, inl, arith, length-set, get_or-set_other, get_or-set_same, lt-ltb, ne_eqb}
+use Rattle.std.proofs.Common.{Ok, Err, ◌≡◌, ℕ, ◌<◌, Bool, true, false, ◌≢◌, List, length, get_or, set, sym, refl, ap, ◌∙◌, subst, inl, arith, length-set, get_or-set_other, get_or-set_same, lt-ltb}
 use mathlib.Core.Option.{Option, some}
-use Rattle.rules.specs.Notation.{◌>>=◌, refuse◌unless◌, refuse◌when◌, put}
+use Rattle.rules.specs.Notation.{given, refused, put}
+use Rattle.rules.specs.Refusals.{number_of}
+use Rattle.rules.specs.declared.refusal.Refusal.{Refusal}
 use Rattle.rules.specs.Sizes.{base, SCOPES}
 use Rattle.rules.specs.Scopes as rule
 use Rattle.rules.proofs.Tells.{clash}
-use Rattle.scopes.specs.View.{index, view, scope_of, told_only}
+use Rattle.scopes.specs.View.{index, view, scope_of, Seen, told_only}
 use Rattle.scopes.specs.Sound.{Sound, LeadsToRoot, root, up, Sized}
-use Rattle.scopes.specs.Leaves.{place_of, refusal}
-use Rattle.scopes.specs.Lent.{Whole}
+use Rattle.scopes.specs.Leaves.{Admits}
+use Rattle.scopes.specs.Steps.{Whole, Becomes}
 use Rattle.scopes.specs.declared.Scopes.{Scopes}
-use Rattle.scopes.specs.declared.Reply.TheVariants.{Done, Refused}
 use Rattle.scopes.proofs.Tables.{put-ext}
-use Rattle.scopes.proofs.Finds.{Known, in-range}
-use Rattle.scopes.proofs.Refusals.{refused-by}
+use Rattle.scopes.proofs.Finds.{in-range}
+use Rattle.scopes.proofs.Refusals.{refused-by, admitted}
+use Rattle.scopes.proofs.Becoming.{refuses, does}
 
 abbrev pub marked : Scopes → ℕ → Bool → ℕ → Scopes
-marked s i b top =
-    record {
-      halves = s.halves;
-      links = s.links;
-      owner = s.owner;
-      live = s.live;
-      dangled = set s.dangled i b;
-      parent = s.parent;
-      number = s.number;
-      bindings = s.bindings;
-      count = s.count;
-      segments = s.segments;
-      head = s.head;
-      top = top;
-      counter = s.counter;
-      size = s.size;
-    }
+marked s i b top = record s { dangled = set s.dangled i b; top = top }
 
 pub leads-live : {live : List Bool} {parent : List ℕ} {j : ℕ} → LeadsToRoot live parent j → get_or live j false ≡ true
 leads-live (root l q) = l
@@ -77,42 +63,48 @@ marked-sized : (s : Scopes) → Sized s → (i : ℕ) (b : Bool) (top : ℕ) →
 marked-sized s z i b top =
     record { halves = z.halves; links = z.links; owner = z.owner; live = z.live; dangled = length-set s.dangled i b ∙ z.dangled; parent = z.parent; number = z.number; bindings = z.bindings }
 
-module _ (s : Scopes) (id : rule.Id) (r : ℕ) where
-  pub dangle-refused : r ≡ refusal s.dangled false (place_of s.live s.number id.index id.number) → r ≢ 0 → record { next = view s; says = Refused r } ≡ told_only (view s) (rule.dangle_scope (rule.by_id base (view s) id) (view s))
-  unfolding rule.dangle_scope
-  dangle-refused e n = sym (ap (told_only (view s)) (refused-by s id false r e _ n))
+module _ (s : Scopes) (id : rule.Id) where
+  abbrev o : Option rule.Found
+  o = rule.by_id base (view s) id
 
-  pub restore-refused : r ≡ refusal s.dangled true (place_of s.live s.number id.index id.number) → r ≢ 0 → record { next = view s; says = Refused r } ≡ told_only (view s) (rule.restore_scope (rule.by_id base (view s) id) (view s))
-  unfolding rule.restore_scope
-  restore-refused e n = sym (ap (told_only (view s)) (refused-by s id true r e _ n))
+  abbrev Dangles : rule.Scopes → Seen (Unit {0})
+  Dangles c = told_only c (rule.dangle_scope (rule.by_id base c id) c)
 
-module _ (s : Scopes) (o : Option rule.Found) where
-  module _ (i : ℕ) (k : Known s o i) where
-    module _ (h : Sound s) (z : Sized s) (nz : i ≢ 0) where
-      pub dangle-marks : get_or s.dangled i false ≡ false → (p : ℕ) → p ≡ get_or s.parent i 0
-          → (record { next = view (marked s i true p); says = Done } ≡ told_only (view s) (rule.dangle_scope o (view s))) × Whole (marked s i true p)
-      unfolding rule.dangle_scope rule.set_scope ◌>>=◌ refuse◌unless◌ refuse◌when◌
-      dangle-marks d p ep =
-          let l = live-is s h i k.small k.live z.dangled true p in
-          let y : (get_or s.dangled i false || eqb i 0) ≡ false = rw (d, ne_eqb i 0 nz) in
-          let q : get_or s.live p false ≡ true = subst (λ (x : ℕ). get_or s.live x false ≡ true) (sym ep) (parent_live s h i k.live nz) in (
-            rw (k.is, y) (λ u. record {
-              next = record { slots = (view s).slots; live = l u; top = index (ep u); counter = s.counter; bindings = (view s).bindings; dangling = (view s).dangling; size = s.size };
-              says = Done;
-            }),
-            record { sound = marked-sound s h i k.small k.live z.dangled true p (in-range s z.live p q) q; sized = marked-sized s z i true p },
-          )
+  abbrev Restores : rule.Scopes → Seen (Unit {0})
+  Restores c = told_only c (rule.restore_scope (rule.by_id base c id) c)
 
-      pub restore-unmarks : get_or s.dangled i false ≡ true
-          → (record { next = view (marked s i false i); says = Done } ≡ told_only (view s) (rule.restore_scope o (view s))) × Whole (marked s i false i)
-      unfolding rule.restore_scope rule.set_scope ◌>>=◌ refuse◌unless◌ refuse◌when◌
-      restore-unmarks d =
-          let l = live-is s h i k.small k.live z.dangled false i in
-          let y : (not (get_or s.dangled i false) || eqb i 0) ≡ false = rw (d, ne_eqb i 0 nz) in
-          let x : index i ≡ some i = rw (lt-ltb i SCOPES k.small, index) in (
-            rw (k.is, y) (λ u. record {
-              next = record { slots = (view s).slots; live = l u; top = x u; counter = s.counter; bindings = (view s).bindings; dangling = (view s).dangling; size = s.size };
-              says = Done;
-            }),
-            record { sound = marked-sound s h i k.small k.live z.dangled false i k.small k.live; sized = marked-sized s z i false i },
-          )
+  module _ (h : Whole s) where
+    pub dangle-refused : (e : Refusal) → Admits s false o (Err e) → Becomes s s (refused (number_of e)) Dangles
+    unfolding rule.dangle_scope
+    dangle-refused e a = refuses s (number_of e) Dangles h (sym (ap (told_only (view s)) (refused-by false _ s o e a)))
+
+    pub restore-refused : (e : Refusal) → Admits s true o (Err e) → Becomes s s (refused (number_of e)) Restores
+    unfolding rule.restore_scope
+    restore-refused e a = refuses s (number_of e) Restores h (sym (ap (told_only (view s)) (refused-by true _ s o e a)))
+
+    module _ (i : ℕ) where
+      pub dangle-marks : Admits s false o (Ok i) → (p : ℕ) → p ≡ get_or s.parent i 0 → Becomes s (marked s i true p) (given tt) Dangles
+      unfolding rule.dangle_scope rule.set_scope
+      dangle-marks a p ep =
+          let l = live-is s h.sound i a.lives.0 a.lives.1 h.sized.dangled true p in
+          let q : get_or s.live p false ≡ true = subst (λ (x : ℕ). get_or s.live x false ≡ true) (sym ep) (parent_live s h.sound i a.lives.1 a.inner) in
+          does s (marked s i true p) tt Dangles
+          ((λ u. record {
+            next = record { slots = (view s).slots; live = l u; top = index (ep u); counter = s.counter; bindings = (view s).bindings; dangling = (view s).dangling; size = s.size };
+            says = given tt;
+          })
+          ∙ sym (ap (told_only (view s)) (admitted false _ s o i a)))
+          (record { sound = marked-sound s h.sound i a.lives.0 a.lives.1 h.sized.dangled true p (in-range s h.sized.live p q) q; sized = marked-sized s h.sized i true p })
+
+      pub restore-unmarks : Admits s true o (Ok i) → Becomes s (marked s i false i) (given tt) Restores
+      unfolding rule.restore_scope rule.set_scope
+      restore-unmarks a =
+          let l = live-is s h.sound i a.lives.0 a.lives.1 h.sized.dangled false i in
+          let x : index i ≡ some i = rw (lt-ltb i SCOPES a.lives.0, index) in
+          does s (marked s i false i) tt Restores
+          ((λ u. record {
+            next = record { slots = (view s).slots; live = l u; top = x u; counter = s.counter; bindings = (view s).bindings; dangling = (view s).dangling; size = s.size };
+            says = given tt;
+          })
+          ∙ sym (ap (told_only (view s)) (admitted true _ s o i a)))
+          (record { sound = marked-sound s h.sound i a.lives.0 a.lives.1 h.sized.dangled false i a.lives.0 a.lives.1; sized = marked-sized s h.sized i false i })

@@ -1,42 +1,28 @@
 -- A scope is opened. Assumes nothing.
-use Rattle.std.proofs.Common.{◌≡◌, ℕ, ◌+◌, ◌%◌, ◌<◌, Bool, true, false, not, ◌≢◌, List, [], ◌∷◌, length, get_or, set, sym, refl, ap, ◌∙◌, subst, inl, arith, length-set, get_or-set_other, get_or-set_same, lt-ltb, ne_eqb}
+use Rattle.std.proofs.Common.{◌≡◌, ℕ, ◌+◌, ◌-◌, Err, ◌%◌, ◌<◌, Bool, true, false, not, ◌≢◌, List, [], ◌∷◌, length, get_or, set, sym, refl, ap, ◌∙◌, subst, inl, arith, length-set, get_or-set_other, get_or-set_same, lt-ltb, ne_eqb}
 use mathlib.Core.Logic.{by_cases}
 use mathlib.Core.Option.{none, some}
 use native.Mathlib.Decide.{ℕ_discrete}
 use borrow.Author.Tests.{not-true}
-use Rattle.rules.specs.Notation.{◌>>=◌, refuse◌unless◌, is_some, put, first}
+use Rattle.rules.specs.Notation.{given, refused, ◌>>=◌, refuse◌unless◌, is_some, put, first}
+use Rattle.rules.specs.Refusals.{number_of}
+use Rattle.rules.specs.declared.refusal.Refusal.{Refusal}
 use Rattle.rules.specs.AddressSets.{member}
 use Rattle.rules.specs.Sizes.{base, SCOPES, SLOTS, COUNTERS}
 use Rattle.rules.specs.Scopes as rule
+use Rattle.rules.proofs.Searches.{Least, first_found}
 use Rattle.rules.proofs.Sets.{member-same}
 use Rattle.rules.proofs.Tells.{clash}
-use Rattle.scopes.specs.View.{list_of, index, bindings_of, view, opened, told}
+use Rattle.scopes.specs.View.{list_of, index, bindings_of, view, told}
 use Rattle.scopes.specs.Sound.{Sound, LeadsToRoot, root, up, Each, Sized}
-use Rattle.scopes.specs.Lent.{Whole}
-use Rattle.scopes.specs.Leaves.{lowest, is_free}
+use Rattle.scopes.specs.Steps.{Whole}
+use Rattle.scopes.specs.Leaves.{is_free, Tops}
 use Rattle.scopes.specs.declared.Scopes.{Scopes}
-use Rattle.scopes.specs.declared.Reply.TheVariants.{Refused}
-use Rattle.scopes.proofs.Tables.{put-ext, Low, low}
-use Rattle.scopes.proofs.Finds.{lives, no_top, Topped}
+use Rattle.scopes.proofs.Tables.{put-ext}
+use Rattle.scopes.proofs.Finds.{lives, Topped}
 
 abbrev pub with_child : Scopes → ℕ → ℕ → Scopes
-with_child s i n =
-    record {
-      halves = s.halves;
-      links = s.links;
-      owner = s.owner;
-      live = set s.live i true;
-      dangled = s.dangled;
-      parent = set s.parent i s.top;
-      number = set s.number i s.counter;
-      bindings = s.bindings;
-      count = s.count;
-      segments = s.segments;
-      head = s.head;
-      top = i;
-      counter = n;
-      size = s.size;
-    }
+with_child s i n = record s { live = set s.live i true; parent = set s.parent i s.top; number = set s.number i s.counter; top = i; counter = n }
 
 pub each_map : {P Q : rule.Binding → Type 0} → ((b : rule.Binding) → P b → Q b) → (l : List rule.Binding) → Each P l → Each Q l
 each_map f [] h = tt
@@ -76,26 +62,26 @@ module _ (live : List Bool) (parent : List ℕ) (i p : ℕ) (d : get_or live i f
       (subst (λ (x : ℕ). LeadsToRoot (set live i true) (set parent i p) x) (sym (get_or-set_other parent i j p 0 (differs j l))) (leads-on r))
 
 module _ (s : Scopes) where
-  pub child-no-top : s.top ≡ SCOPES → record { next = view s; says = Refused 3 } ≡ told opened (view s) (rule.open_child base (view s))
-  unfolding rule.open_child ◌>>=◌ refuse◌unless◌
-  child-no-top e = rw (no_top s e)
+  pub child-no-top : (e : Refusal) → Tops s (Err e) → record { next = view s; says = refused (number_of e) } ≡ told (λ i. i) (view s) (rule.open_child base (view s))
+  unfolding rule.open_child ◌>>=◌
+  child-no-top e t = rw (sym t.is)
 
-  module _ (h : Sound s) (t : Topped s) (i : ℕ) (ei : i ≡ lowest (is_free s.live) 1) where
-    f : Low (is_free s.live) 1 (omega arith) i
-    f = low (is_free s.live) 1 (omega arith) i ei
-
-    pub child-full : i ≡ SCOPES → record { next = view s; says = Refused 8 } ≡ told opened (view s) (rule.open_child base (view s))
+  module _ (h : Sound s) (t : Topped s) where
+    pub child-full : none ≡ first (is_free s.live) 1 (SCOPES - 1) → record { next = view s; says = refused 8 } ≡ told (λ i. i) (view s) (rule.open_child base (view s))
     unfolding rule.open_child ◌>>=◌ refuse◌unless◌ base
     child-full e =
-        let q : first (λ j. not (is_some ((view s).live j))) 1 63 ≡ none = ap (λ (g : ℕ → Bool). first g 1 63) (free-is s) ∙ f.none (omega arith) in
+        let q : first (λ j. not (is_some ((view s).live j))) 1 63 ≡ none = ap (λ (g : ℕ → Bool). first g 1 63) (free-is s) ∙ sym e in
         rw (t.is, q)
 
-    module _ (ne : i ≢ SCOPES) where
+    module _ (i : ℕ) (e : some i ≡ first (is_free s.live) 1 (SCOPES - 1)) where
+      f : Least (is_free s.live) 1 63 i
+      f = first_found (is_free s.live) 1 63 i (sym e)
+
       pub below : i < SCOPES
-      below = omega (arith, f.most)
+      below = omega (arith, f.high)
 
       dead : get_or s.live i false ≡ false
-      dead = not-true _ (f.at below)
+      dead = not-true _ f.passes
 
       module _ (n : ℕ) (en : n ≡ (s.counter + 1) % COUNTERS) (z : Sized s) where
         new : (view (with_child s i n)).live ≡ put (view s).live i (some (rule.new_scope s.counter (index s.top)))
@@ -104,14 +90,14 @@ module _ (s : Scopes) where
             (rw (get_or-set_same s.live i true false (omega (arith, below, z.live)), get_or-set_same s.parent i s.top 0 (omega (arith, below, z.parent)), get_or-set_same s.number i s.counter 0 (omega (arith, below, z.number)), owns_none s h i below dead, (h.rooted.dead i below dead).0))
             (λ j q. rw (get_or-set_other s.live i j true false q, get_or-set_other s.parent i j s.top 0 q, get_or-set_other s.number i j s.counter 0 q))
 
-        pub child-rule : record { next = view (with_child s i n); says = opened (record { index = i; number = s.counter }) } ≡ told opened (view s) (rule.open_child base (view s))
+        pub child-rule : record { next = view (with_child s i n); says = given (record { index = i; number = s.counter }) } ≡ told (λ i. i) (view s) (rule.open_child base (view s))
         unfolding rule.open_child ◌>>=◌ refuse◌unless◌ base
         child-rule =
-            let q : first (λ j. not (is_some ((view s).live j))) 1 63 ≡ some i = ap (λ (g : ℕ → Bool). first g 1 63) (free-is s) ∙ f.is below in
+            let q : first (λ j. not (is_some ((view s).live j))) 1 63 ≡ some i = ap (λ (g : ℕ → Bool). first g 1 63) (free-is s) ∙ sym e in
             let x : index i ≡ some i = rw (lt-ltb i SCOPES below, index) in
             rw (t.is, q) (λ u. record {
               next = record { slots = (view s).slots; live = new u; top = x u; counter = en u; bindings = (view s).bindings; dangling = (view s).dangling; size = s.size };
-              says = opened (record { index = i; number = s.counter });
+              says = given (record { index = i; number = s.counter });
             })
 
         child-sound : Sound (with_child s i n)
@@ -125,7 +111,7 @@ module _ (s : Scopes) where
                 leads = λ j l. leads j l (ℕ_discrete j i);
                 dead = λ j hj l. let q : j ≢ i = λ e. clash here (subst (λ (x : ℕ). get_or (set s.live i true) x false ≡ false) e l) in
                     rw (get_or-set_other s.parent i j s.top 0 q, get_or-set_other s.number i j s.counter 0 q) (h.rooted.dead j hj (sym (get_or-set_other s.live i j true false q) ∙ l));
-                first = get_or-set_other s.number i 0 s.counter 0 (omega (arith, f.above)) ∙ h.rooted.first;
+                first = get_or-set_other s.number i 0 s.counter 0 (omega (arith, f.low)) ∙ h.rooted.first;
               };
               named = record {
                 most = h.named.most;
@@ -141,7 +127,7 @@ module _ (s : Scopes) where
             leads : (j : ℕ) → get_or (set s.live i true) j false ≡ true → Dec (j ≡ i) → LeadsToRoot (set s.live i true) (set s.parent i s.top) j
             leads j l (yes e) =
                 subst (λ (x : ℕ). LeadsToRoot (set s.live i true) (set s.parent i s.top) x) (sym e)
-                (up (omega (arith, f.above)) here
+                (up (omega (arith, f.low)) here
                 (subst (λ (x : ℕ). LeadsToRoot (set s.live i true) (set s.parent i s.top) x) (sym (get_or-set_same s.parent i s.top 0 (omega (arith, below, z.parent))))
                 (leads-on s.live s.parent i s.top dead (h.rooted.leads s.top t.live))))
             leads j l (no q) = leads-on s.live s.parent i s.top dead (h.rooted.leads j (sym (get_or-set_other s.live i j true false q) ∙ l))

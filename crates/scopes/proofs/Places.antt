@@ -20,22 +20,7 @@ use Rattle.scopes.proofs.Moves.{owners, ringed, owned, scopes-put}
 -- the state s with slot a given to scope k
 abbrev pub taken : Scopes → ℕ → ℕ → List ℕ → List ℕ → ℕ → ℕ → ℕ → Scopes
 taken s k a halves links segments head size =
-    record {
-      halves = halves;
-      links = links;
-      owner = set s.owner a k;
-      live = s.live;
-      dangled = s.dangled;
-      parent = s.parent;
-      number = s.number;
-      bindings = s.bindings;
-      count = s.count;
-      segments = segments;
-      head = head;
-      top = s.top;
-      counter = s.counter;
-      size = size;
-    }
+    record s { halves = halves; links = links; owner = set s.owner a k; segments = segments; head = head; size = size }
 
 module _ (s : Scopes) (h : Sound s) (z : Sized s) (k : ℕ) (hk : k < SCOPES) (lk : get_or s.live k false ≡ true) (a : ℕ) (ha : a < SLOTS) (clear : occ s.halves a ≡ false)
     (halves links : List ℕ) (slot : occ halves ≡ put (occ s.halves) a true) (c : Held SLOTS LISTS links (gains k a (leaves a (list_of s.links)))) where

@@ -1,42 +1,46 @@
 -- Which scope is popped, and by which number it is refused; root at the end. Assumes nothing.
-use Rattle.std.proofs.Common.{◌≡◌, ℕ, ◌<◌, Bool, true, false, ◌||◌, eqb, ◌≢◌, get_or, sym, refl, ap, ◌∙◌, ne_eqb}
-use Rattle.rules.specs.Notation.{Answer, given, ◌>>=◌, refuse◌unless◌, refuse◌when◌}
-use Rattle.rules.specs.Sizes.{base, SCOPES}
+use Rattle.std.proofs.Common.{Ok, Err, ◌≡◌, ℕ, Bool, true, false, get_or, sym, refl, ap, ◌∙◌}
+use mathlib.Core.Option.{Option}
+use Rattle.rules.specs.Notation.{Answer, given, refused, ◌>>=◌, refuse◌unless◌, refuse◌when◌}
+use Rattle.rules.specs.Refusals.{number_of}
+use Rattle.rules.specs.declared.refusal.Refusal.{Refusal}
+use Rattle.rules.specs.Sizes.{base}
 use Rattle.rules.specs.Scopes as rule
 use Rattle.scopes.specs.View.{view, found_at, told_only}
 use Rattle.scopes.specs.Sound.{Sound}
-use Rattle.scopes.specs.Leaves.{has_child, place_of, refusal}
-use Rattle.scopes.specs.Lent.{shut}
+use Rattle.scopes.specs.Leaves.{Admits, Tops}
+use Rattle.scopes.specs.Steps.{shut}
 use Rattle.scopes.specs.declared.Scopes.{Scopes}
-use Rattle.scopes.specs.declared.Reply.TheVariants.{Done, Refused}
-use Rattle.scopes.proofs.Finds.{no_top, Topped, has-child}
-use Rattle.scopes.proofs.Refusals.{Admitted, refused-by}
+use Rattle.scopes.proofs.Finds.{Topped}
+use Rattle.scopes.proofs.Refusals.{refused-by, admitted}
 use Rattle.scopes.proofs.Marks.{leads-root}
 
 -- ---- pop
 
-module _ (s : Scopes) (id : rule.Id) (r : ℕ) (e : r ≡ refusal s.dangled false (place_of s.live s.number id.index id.number)) where
-  pub pop-refused : r ≢ 0 → record { next = view s; says = Refused r } ≡ told_only (view s) (rule.pop_scope base (rule.by_id base (view s) id) (view s))
+module _ (s : Scopes) (id : rule.Id) where
+  abbrev o : Option rule.Found
+  o = rule.by_id base (view s) id
+
+  pub pop-refused : (e : Refusal) → Admits s false o (Err e) → record { next = view s; says = refused (number_of e) } ≡ told_only (view s) (rule.pop_scope base o (view s))
   unfolding rule.pop_scope rule.poppable ◌>>=◌
-  pop-refused n = sym (ap (λ (a : Answer rule.Found). told_only (view s) (a >>= λ k. given (rule.closed k (view s)))) (refused-by s id false r e _ n))
+  pop-refused e a = sym (ap (λ (x : Answer rule.Found). told_only (view s) (x >>= λ k. given (rule.closed k (view s)))) (refused-by false _ s o e a))
 
-  pub pop-shuts : (i : ℕ) → Admitted s id false r e i → rule.pop_scope base (rule.by_id base (view s) id) (view s) ≡ shut (found_at s i) (view s)
-  unfolding rule.pop_scope rule.poppable ◌>>=◌ refuse◌unless◌ refuse◌when◌
-  pop-shuts i a = go (rule.has_child base (view s) i) refl
+  pub pop-shuts : (i : ℕ) → Admits s false o (Ok i) → rule.pop_scope base o (view s) ≡ shut (found_at s i) (view s)
+  unfolding rule.pop_scope rule.poppable ◌>>=◌ refuse◌when◌
+  pop-shuts i a =
+      ap (λ (x : Answer rule.Found). x >>= λ k. given (rule.closed k (view s))) (admitted false _ s o i a)
+      ∙ tested (rule.has_child base (view s) i)
     where
-      free : (get_or s.dangled i false || eqb i 0) ≡ false
-      free = rw (a.marked, ne_eqb i 0 a.inner)
-
-      go : (b : Bool) → rule.has_child base (view s) i ≡ b → rule.pop_scope base (rule.by_id base (view s) id) (view s) ≡ shut (found_at s i) (view s)
-      go true q = rw (a.known.is, free, q)
-      go false q = rw (a.known.is, free, q)
+      tested : (b : Bool) → ((refuse 6 when b >>= λ _. given (found_at s i)) >>= λ k. given (rule.closed k (view s))) ≡ (refuse 6 when b >>= λ _. given (rule.closed (found_at s i) (view s)))
+      tested true = refl
+      tested false = refl
 
 -- ---- pop last
 
 module _ (s : Scopes) where
-  pub last-no-top : s.top ≡ SCOPES → record { next = view s; says = Refused 3 } ≡ told_only (view s) (rule.pop_last_scope base (view s))
-  unfolding rule.pop_last_scope rule.last_poppable ◌>>=◌ refuse◌unless◌
-  last-no-top e = rw (no_top s e)
+  pub last-no-top : (e : Refusal) → Tops s (Err e) → record { next = view s; says = refused (number_of e) } ≡ told_only (view s) (rule.pop_last_scope base (view s))
+  unfolding rule.pop_last_scope rule.last_poppable ◌>>=◌
+  last-no-top e t = rw (sym t.is)
 
   -- where there is a top, root is live
   pub root_live : Sound s → Topped s → get_or s.live 0 false ≡ true
@@ -52,11 +56,11 @@ module _ (s : Scopes) where
 
 -- ---- what closing comes to
 
-module _ (s : Scopes) (i : ℕ) (hi : i < SCOPES) (r : Bool) (e : r ≡ has_child s.live s.parent i) where
-  pub shut-child : r ≡ true → record { next = view s; says = Refused 6 } ≡ told_only (view s) (shut (found_at s i) (view s))
+module _ (s : Scopes) (i : ℕ) (r : Bool) (e : r ≡ rule.has_child base (view s) i) where
+  pub shut-child : r ≡ true → record { next = view s; says = refused 6 } ≡ told_only (view s) (shut (found_at s i) (view s))
   unfolding ◌>>=◌ refuse◌when◌
-  shut-child l = rw (has-child s i hi r e ∙ l)
+  shut-child l = rw (sym e ∙ l)
 
-  pub shut-closes : r ≡ false → (c : rule.Scopes) → c ≡ rule.closed (found_at s i) (view s) → record { next = c; says = Done } ≡ told_only (view s) (shut (found_at s i) (view s))
+  pub shut-closes : r ≡ false → (c : rule.Scopes) → c ≡ rule.closed (found_at s i) (view s) → record { next = c; says = given tt } ≡ told_only (view s) (shut (found_at s i) (view s))
   unfolding ◌>>=◌ refuse◌when◌
-  shut-closes l c w = rw (has-child s i hi r e ∙ l) (λ t. record { next = w t; says = Done })
+  shut-closes l c w = rw (sym e ∙ l) (λ t. record { next = w t; says = given tt })

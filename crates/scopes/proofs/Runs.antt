@@ -11,7 +11,7 @@ use Rattle.slots.specs.Spots.{Vacant, filled}
 use Rattle.links.specs.Links.{Held, leaves, gains}
 use Rattle.scopes.specs.View.{list_of, index, view, scope_of, run_for}
 use Rattle.scopes.specs.Sound.{Slotted, Sound, Sized}
-use Rattle.scopes.specs.Lent.{Whole, Lives, roomy, Handed}
+use Rattle.scopes.specs.Steps.{Whole, Lives, roomy, Handed}
 use Rattle.scopes.specs.declared.Scopes.{Scopes}
 use Rattle.scopes.proofs.Tables.{put-nothing, put-again}
 use Rattle.scopes.proofs.Places.{taken, at-k, at-64, live-is, sound, sized}

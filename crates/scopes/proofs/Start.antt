@@ -10,7 +10,7 @@ use Rattle.slots.specs.Halves.{occ}
 use Rattle.slots.proofs.Occupied.{none-occupied}
 use Rattle.links.specs.Links.{Held}
 use Rattle.links.proofs.Walks.{chains-lists, held-lists}
-use Rattle.scopes.specs.View.{list_of, view}
+use Rattle.scopes.specs.View.{blank, list_of, view}
 use Rattle.scopes.specs.Sound.{Sound, Sized, LeadsToRoot, root}
 use Rattle.scopes.specs.declared.Scopes.{Scopes}
 
@@ -45,6 +45,10 @@ fresh-sized links l =
       number = length-replicate {A = ℕ} SCOPES 0;
       bindings = length-replicate {A = ℕ} BINDINGS 0;
     }
+
+-- what a blank state becomes where it stands
+pub begun : (s : Scopes) (links : List ℕ) → s ≡ blank → record s { links = links; owner = replicate SLOTS LISTS; live = set s.live 0 true; parent = replicate SCOPES SCOPES; counter = 1 } ≡ fresh_state links
+begun s links e = ap (λ (x : Scopes). record x { links = links; owner = replicate SLOTS LISTS; live = set x.live 0 true; parent = replicate SCOPES SCOPES; counter = 1 }) e
 
 all_same : {A : Type 0} (n i : ℕ) (d : A) → get_or (replicate n d) i d ≡ d
 all_same zero i d = refl

@@ -1,14 +1,13 @@
 -- Tables, searches and tests in the forms that the operations meet. Assumes nothing.
-use Rattle.std.proofs.Common.{◌≡◌, ℕ, ◌+◌, ◌-◌, ◌<◌, ◌≤◌, Bool, true, false, ◌&&◌, ◌||◌, ◌≢◌, sym, refl, ap, ◌∙◌, subst, true≢false, arith}
+use Rattle.std.proofs.Common.{◌≡◌, ℕ, ◌+◌, ◌-◌, ◌<◌, ◌≤◌, Bool, true, false, ◌&&◌, ◌||◌, ◌≢◌, sym, refl, ap, ◌∙◌, true≢false, arith}
 use mathlib.Core.Logic.{by_cases}
 use mathlib.Core.Option.{Option, none, some}
 use native.Mathlib.Decide.{ℕ_discrete}
 use Rattle.rules.specs.Sizes.{SCOPES}
-use Rattle.rules.specs.Notation.{put, first, or_else, is_some}
+use Rattle.rules.specs.Notation.{put, first, is_some}
 use Rattle.rules.proofs.Tables as rules
 use Rattle.rules.proofs.Tables.{put_same, put_other}
-use Rattle.rules.proofs.Searches.{first_found, first-none, first-is, first-is-none, first_on}
-use Rattle.scopes.specs.Leaves.{lowest}
+use Rattle.rules.proofs.Searches.{first-is, first-is-none, first_on}
 
 pub and_left : (a b : Bool) → (a && b) ≡ true → a ≡ true
 and_left true b e = refl
@@ -42,47 +41,12 @@ put-again f i x y = put-ext f (put (put f i x) i y) i y (put_same (put f i x) i 
 pub more : (f : ℕ → Bool) (i : ℕ) (k : ℕ) → ((j : ℕ) → k ≤ j → j < i → f j ≡ false) → f i ≡ false → (j : ℕ) → k ≤ j → j < i + 1 → f j ≡ false
 more f i k h e j a l = by_cases (ℕ_discrete j i) (λ q. rw q e) (λ q. h j a (omega arith))
 
-module _ (f : ℕ → Bool) (k : ℕ) (hk : k ≤ SCOPES) where
-  pub lowest-here : (i : ℕ) → k ≤ i → i < SCOPES → ((j : ℕ) → k ≤ j → j < i → f j ≡ false) → f i ≡ true → i ≡ lowest f k
-  lowest-here i l h before e = sym (ap (λ (o : Option ℕ). or_else o SCOPES) (first-is f k (SCOPES - k) i (record { low = l; high = omega arith; before = before; passes = e })))
+module _ (f : ℕ → Bool) (k : ℕ) where
+  pub first-here : (i : ℕ) → k ≤ i → i < SCOPES → ((j : ℕ) → k ≤ j → j < i → f j ≡ false) → f i ≡ true → some i ≡ first f k (SCOPES - k)
+  first-here i l h before e = sym (first-is f k (SCOPES - k) i (record { low = l; high = omega arith; before = before; passes = e }))
 
-  pub lowest-none : ((j : ℕ) → k ≤ j → j < SCOPES → f j ≡ false) → SCOPES ≡ lowest f k
-  lowest-none before = sym (ap (λ (o : Option ℕ). or_else o SCOPES) (first-is-none f k (SCOPES - k) (λ j a b. before j a (omega arith))))
-
-  -- what the answer says of the rules' search
-  pub record Low (r : ℕ) : Type 0 where
-    pub most : r ≤ SCOPES
-    pub above : k ≤ r
-    pub before : (j : ℕ) → k ≤ j → j < r → f j ≡ false
-    pub at : r < SCOPES → f r ≡ true
-    pub is : r < SCOPES → first f k (SCOPES - k) ≡ some r
-    pub none : SCOPES ≤ r → first f k (SCOPES - k) ≡ none
-
-  pub low : (r : ℕ) → r ≡ lowest f k → Low r
-  low r e = go (first f k (SCOPES - k)) refl
-    where
-      go : (o : Option ℕ) → first f k (SCOPES - k) ≡ o → Low r
-      go none q =
-          let d : r ≡ SCOPES = e ∙ ap (λ (o : Option ℕ). or_else o SCOPES) q in
-          record {
-            most = omega arith;
-            above = omega arith;
-            before = λ j a b. first-none f k (SCOPES - k) q j a (omega arith);
-            at = λ l. absurd (omega arith);
-            is = λ l. absurd (omega arith);
-            none = λ l. q;
-          }
-      go (some a) q =
-          let d : r ≡ a = e ∙ ap (λ (o : Option ℕ). or_else o SCOPES) q in
-          let l = first_found f k (SCOPES - k) a q in
-          record {
-            most = omega (arith, l.high);
-            above = omega (arith, l.low);
-            before = λ j x y. l.before j x (omega arith);
-            at = λ x. subst (λ (b : ℕ). f b ≡ true) (sym d) l.passes;
-            is = λ x. q ∙ ap some (sym d);
-            none = λ x. absurd (omega (arith, l.high));
-          }
+  pub first-nowhere : k ≤ SCOPES → ((j : ℕ) → k ≤ j → j < SCOPES → f j ≡ false) → none ≡ first f k (SCOPES - k)
+  first-nowhere hk before = sym (first-is-none f k (SCOPES - k) (λ j a b. before j a (omega arith)))
 
 -- ---- whether one below n passes
 

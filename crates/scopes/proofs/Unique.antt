@@ -4,17 +4,20 @@ use mathlib.Core.Logic.{by_cases}
 use mathlib.Core.Option.{Option, none, some}
 use native.Mathlib.Decide.{ℕ_discrete, dec_lt}
 use lib.ListN.{length-map}
+use Rattle.std.specs.Prelude.{Result}
+use Rattle.rules.specs.Refusals.{says}
+use Rattle.rules.specs.declared.refusal.Refusal.{Refusal}
+use Rattle.rules.proofs.Says.{says-one}
 use Rattle.rules.specs.Sizes.{LISTS, SCOPES, SLOTS, WORD}
 use Rattle.rules.specs.AddressSets.{member}
 use Rattle.rules.specs.Scopes as rule
 use Rattle.slots.proofs.Occupied.{halves-ext}
 use Rattle.links.proofs.Rings.{chains-alike}
 use Rattle.links.proofs.Same.{same-cells}
-use Rattle.scopes.specs.View.{list_of, view, index, binding, bindings_of, Seen, seen, ADDRESS_PART, HANDLE_PART, NAME_PART, SCOPE_PART}
+use Rattle.scopes.specs.View.{list_of, view, index, binding, bindings_of, Seen, ADDRESS_PART, HANDLE_PART, NAME_PART, SCOPE_PART}
 use Rattle.scopes.specs.Sound.{Sound, Sized, Typed}
+use Rattle.scopes.specs.Steps.{Drains}
 use Rattle.scopes.specs.declared.Scopes.{Scopes}
-use Rattle.scopes.specs.declared.Outcome.{Outcome}
-use Rattle.scopes.specs.declared.drain.Drained.{Drained}
 use Rattle.scopes.proofs.Opens.{owns_none}
 use Rattle.scopes.proofs.Closes.{parent-fits}
 
@@ -172,33 +175,35 @@ module _ (s t : Scopes) (h : Sound s) (k : Sound t) (ts : Typed s) (tt' : Typed 
 
 -- ---- any two results that a promise admits are equal
 
--- the promise of an operation is `(seen r ≡ x) × Sound r.state`
-pub admits-one : (x : Seen) (r q : Outcome) → Typed r.state → Typed q.state → (seen r ≡ x) × Sound r.state → (seen q ≡ x) × Sound q.state → r ≡ q
-admits-one x r q tr tq hr hq =
-    let e : seen r ≡ seen q = hr.0 ∙ sym hq.0 in
-    let s : r.state ≡ q.state = same-state r.state q.state hr.1 hq.1 tr tq (ap (λ (y : Seen). y.next) e) in
-    λ i. record { state = s i; reply = (e i).says }
+-- an operation's promise is `(what it did and said ≡ x) × Sound` of the state that it leaves: it is in `Becomes`. The code's own results are equal, where
+-- `g` tells its values apart.
+pub admits-one : {T B : Type 0} (g : T → B) → ((v w : T) → g v ≡ g w → v ≡ w) → (x : Seen B) (t u : Scopes) (r q : Result T Refusal) → Typed t → Typed u
+    → (record { next = view t; says = says g r } ≡ x) × Sound t → (record { next = view u; says = says g q } ≡ x) × Sound u → (t ≡ u) × (r ≡ q)
+admits-one {T} {B} g one x t u r q tt' tu ht hu =
+    let e : ◌≡◌ {A = Seen B} (record { next = view t; says = says g r }) (record { next = view u; says = says g q }) = ht.0 ∙ sym hu.0 in
+    (same-state t u ht.1 hu.1 tt' tu (ap (λ (z : Seen B). z.next) e), says-one g one r q (ap (λ (z : Seen B). z.says) e))
 
--- a question's promise is `r ≡ x`; fresh's is `(view r ≡ c) × Sound r`
+-- a question's promise is `says g r ≡ x`: `says-one` of the rules; fresh's is `(view r ≡ c) × Sound r`
 pub fresh-one : (c : rule.Scopes) (r q : Scopes) → Typed r → Typed q → (view r ≡ c) × Sound r → (view q ≡ c) × Sound q → r ≡ q
 fresh-one c r q tr tq hr hq = same-state r q hr.1 hq.1 tr tq (hr.0 ∙ sym hq.0)
 
 -- drain: the state, the count, and the memory that it was lent
-pub record DrainPromise (s : Scopes) (lent : List ℕ) (r : Drained) (out : List ℕ) : Type 0 where
-  pub promise : (view r.state ≡ (rule.drain_dangling (view s)).1) × (take r.count out ≡ (rule.drain_dangling (view s)).0) × Sound r.state
-  pub kept : (k : ℕ) → r.count ≤ k → get_or out k 0 ≡ get_or lent k 0
+pub record DrainPromise (s t : Scopes) (lent : List ℕ) (n : ℕ) (out : List ℕ) : Type 0 where
+  pub promise : Drains s t n out
+  pub kept : (k : ℕ) → n ≤ k → get_or out k 0 ≡ get_or lent k 0
   pub long : length out ≡ SLOTS
-  pub fits : r.count ≤ SLOTS
+  pub fits : n ≤ SLOTS
 
-pub drain-one : (s : Scopes) (lent : List ℕ) (r q : Drained) (out other : List ℕ) → Typed r.state → Typed q.state → DrainPromise s lent r out → DrainPromise s lent q other → (r ≡ q) × (out ≡ other)
-drain-one s lent r q out other tr tq hr hq =
-    let st : r.state ≡ q.state = same-state r.state q.state hr.promise.2 hq.promise.2 tr tq (hr.promise.0 ∙ sym hq.promise.0) in
-    let tk : take r.count out ≡ take q.count other = hr.promise.1 ∙ sym hq.promise.1 in
-    let ln : r.count ≡ q.count =
-    sym (length-take-le r.count out (omega (arith, hr.long, hr.fits))) ∙ ap length tk ∙ length-take-le q.count other (omega (arith, hq.long, hq.fits)) in (
-      (λ i. record { state = st i; count = ln i }),
-      ext_get_or 0 out other (hr.long ∙ sym hq.long)
-          (λ k l. by_cases (dec_lt k r.count)
-          (λ b. sym (get_or-take r.count out k 0 b) ∙ ap (λ (x : List ℕ). get_or x k 0) tk ∙ get_or-take q.count other k 0 (omega arith))
-          (λ b. hr.kept k (omega arith) ∙ sym (hq.kept k (omega arith)))),
+pub drain-one : (s : Scopes) (lent : List ℕ) (t u : Scopes) (n m : ℕ) (out other : List ℕ) → Typed t → Typed u → DrainPromise s t lent n out → DrainPromise s u lent m other → (t ≡ u) × (n ≡ m) × (out ≡ other)
+drain-one s lent t u n m out other tt' tu ht hu =
+    let st : t ≡ u = same-state t u ht.promise.whole.sound hu.promise.whole.sound tt' tu (ht.promise.next ∙ sym hu.promise.next) in
+    let tk : take n out ≡ take m other = ht.promise.first ∙ sym hu.promise.first in
+    let ln : n ≡ m =
+    sym (length-take-le n out (omega (arith, ht.long, ht.fits))) ∙ ap length tk ∙ length-take-le m other (omega (arith, hu.long, hu.fits)) in (
+      st,
+      ln,
+      ext_get_or 0 out other (ht.long ∙ sym hu.long)
+          (λ k l. by_cases (dec_lt k n)
+          (λ b. sym (get_or-take n out k 0 b) ∙ ap (λ (x : List ℕ). get_or x k 0) tk ∙ get_or-take m other k 0 (omega arith))
+          (λ b. ht.kept k (omega arith) ∙ sym (hu.kept k (omega arith)))),
     )

@@ -1,17 +1,18 @@
 -- What the leaves answer: functions that borrow some of the arrays. Assumes nothing.
-use Rattle.std.specs.Prelude.{◌≡◌, ℕ, ◌-◌, ◌<◌, ◌≤◌, Bool, true, false, not, ◌&&◌, ◌||◌, ◌≢◌, List, [], ◌∷◌, ◌++◌, length, take, ◌==◌, nat_lt, slice_index, slice_index_or, slice_set}
+use Rattle.std.specs.Prelude.{◌≡◌, ℕ, ◌%◌, ◌<◌, ◌≤◌, Bool, true, false, not, ◌&&◌, ◌||◌, ◌≢◌, List, [], ◌∷◌, ◌++◌, length, take, ◌==◌, slice_index, slice_index_or, slice_set, Result, IfOk, IfSome, MatchOption}
+use Rattle.std.specs.Prelude as code
 use Rattle.std.proofs.Math.Option.{Option, none, some}
-use Rattle.rules.specs.Sizes.{BINDINGS, SCOPES}
-use Rattle.rules.specs.Notation.{or_else, first, is_some}
+use Rattle.rules.specs.Sizes.{base, BINDINGS, SCOPES}
+use Rattle.rules.specs.Notation.{Answer, given, ◌>>=◌, refuse◌when◌, refuse◌unless◌, first, is_some}
+use Rattle.rules.specs.Refusals.{says}
+use Rattle.rules.specs.Options.{option_of}
+use Rattle.rules.specs.declared.refusal.Refusal.{Refusal}
 use Rattle.rules.specs.Scopes as rule
-use Rattle.scopes.specs.View.{index, scopes_from, binding, bindings_of}
-use Rattle.scopes.specs.Lent.{LentArray, ReadArray}
+use Rattle.scopes.specs.View.{index, binding, bindings_of, view, found_at}
+use Rattle.scopes.specs.Steps.{LentArray, ReadArray, Lives}
+use Rattle.scopes.specs.declared.Scopes.{Scopes}
 
 -- ---- which scope
-
--- the first below SCOPES, from i on, that passes, or SCOPES
-abbrev pub lowest : (ℕ → Bool) → ℕ → ℕ
-lowest f i = or_else (first f i (SCOPES - i)) SCOPES
 
 abbrev pub is_free : List Bool → ℕ → Bool
 is_free live j = not (slice_index_or live j false)
@@ -30,17 +31,33 @@ has_child live parent i = is_some (first (child_of live parent i) 0 SCOPES)
 abbrev pub NoChild : List Bool → List ℕ → ℕ → Type 0
 NoChild live parent i = (j : ℕ) → slice_index_or live j false ≡ true → slice_index parent j ≢ i
 
--- the index of the live scope that has this id, or SCOPES
-abbrev pub place_of : List Bool → List ℕ → ℕ → ℕ → ℕ
-place_of live number i n = elim (nat_lt i SCOPES && has_number live number n i) [ true ↦ i | false ↦ SCOPES ]
+-- r is the index of the scope that was found, which is live
+pub record Means (s : Scopes) (found : Option rule.Found) (r : code.Option ℕ) : Type 0 where
+  pub is : option_of (found_at s) r ≡ found
+  pub lives : IfSome r (Lives s)
 
 abbrev pub differs : Bool → Bool → Bool
 differs true b = not b
 differs false b = b
 
--- why the scope at index i, or SCOPES, is refused: 4 where there is none, 5 where it is root or its mark differs; 0 where it isn't
-abbrev pub refusal : List Bool → Bool → ℕ → ℕ
-refusal dangled mark i = elim (i == SCOPES) [ true ↦ 4 | false ↦ elim (differs mark (slice_index_or dangled i false) || i == 0) [ true ↦ 5 | false ↦ 0 ] ]
+-- the scope that pop and dangle (`mark` false) or restore (`mark` true) mean: 4 where there is none, 5 where it is root or its mark differs
+abbrev pub meant : Bool → Option rule.Found → Answer rule.Found
+meant mark o = do
+  k ← refuse 4 unless o
+  _ ← refuse 5 when (differs mark k.scope.dangled || k.index == 0)
+  given k
+
+-- r is its index, or why it is refused
+pub record Admits (s : Scopes) (mark : Bool) (o : Option rule.Found) (r : Result ℕ Refusal) : Type 0 where
+  pub is : says (found_at s) r ≡ meant mark o
+  pub lives : IfOk r (Lives s)
+  pub inner : IfOk r (λ i. i ≢ 0)
+
+-- r is the index of the top: 3
+pub record Tops (s : Scopes) (r : Result ℕ Refusal) : Type 0 where
+  pub is : says (found_at s) r ≡ (refuse 3 unless (rule.top_scope (view s)))
+  pub top : IfOk r (λ i. i ≡ s.top)
+  pub lives : IfOk r (Lives s)
 
 -- ---- which binding
 
@@ -61,6 +78,14 @@ pub record Spot (bindings : List ℕ) (count i name r : ℕ) : Type 0 where
   pub most : r ≤ BINDINGS
   pub there : r < BINDINGS → There bindings count i name r
   pub missing : BINDINGS ≤ r → Missing bindings count i name
+
+-- .. the same as an option of the code
+abbrev pub Spots : List ℕ → ℕ → ℕ → ℕ → code.Option ℕ → Type 0
+Spots bindings count i name r = MatchOption r (Missing bindings count i name) (There bindings count i name)
+
+-- the binding at place j
+abbrev pub binding_at : Scopes → ℕ → rule.Binding
+binding_at s j = binding (slice_index s.bindings j)
 
 -- for each scope, the list has the place of the binding of `name` there, or BINDINGS
 abbrev pub Placed : List ℕ → ℕ → ℕ → List ℕ → Type 0
@@ -86,19 +111,16 @@ NotesFrom places bindings from to name =
     (length places.exit.now ≡ SCOPES) × ((count : ℕ) → to ≤ count → count ≤ BINDINGS → Noted bindings.entry.now name to count places.entry.now
     → Noted bindings.entry.now name from count places.exit.now)
 
-abbrev pub spotted : List ℕ → ℕ → Option rule.Binding
-spotted bindings r = elim (nat_lt r BINDINGS) [ true ↦ some (binding (slice_index bindings r)) | false ↦ none ]
+-- r is the place of the nearest binding of `name`, from the scope at index i upwards, over `left` scopes at most
+pub record Nearest (s : Scopes) (name i left : ℕ) (r : code.Option ℕ) : Type 0 where
+  pub is : option_of (binding_at s) r ≡ rule.lookup left (view s) name (index i)
+  pub spot : IfSome r (λ j. (k : ℕ) × There s.bindings s.count k name j)
 
--- from the scope at index i upwards, over `left` scopes at most, the nearest binding is at r (BINDINGS: there is none), whatever else the state has
-pub record Climbs (live : List Bool) (parent bindings : List ℕ) (count name i left r : ℕ) : Type 0 where
-  pub is : (c : rule.Scopes) (dangled : List Bool) (number : List ℕ) (owned : ℕ → List ℕ) → c.live ≡ scopes_from live dangled parent number owned → c.bindings ≡ bindings_of bindings count
-      → rule.lookup left c name (index i) ≡ spotted bindings r
-  pub spot : r < BINDINGS → (k : ℕ) × There bindings count k name r
-
--- the same by `places`, of whatever bindings and name these are
-abbrev pub ClimbsBy : ReadArray Bool → (parent places : ReadArray ℕ) → (i left r : ℕ) → Type 0
-ClimbsBy live parent places i left r =
-    (bindings : List ℕ) (count name : ℕ) → Placed bindings count name places.entry.now → Climbs live.entry.now parent.entry.now bindings count name i left r
+-- r is the place of the binding that get and take mean, or why it is refused: 3, 10, 11
+pub record Readable (s : Scopes) (name : ℕ) (r : Result ℕ Refusal) : Type 0 where
+  pub is : says (binding_at s) r ≡ rule.get_name base name (view s)
+  pub spot : IfOk r (λ j. (k : ℕ) × There s.bindings s.count k name j)
+  pub unmoved : IfOk r (λ j. slice_index s.bindings j % 2 ≢ 1)
 
 -- of `count` bindings those of scope i are gone, and r are left, in their order
 abbrev pub Unbinds : LentArray ℕ → (count i r : ℕ) → Type 0

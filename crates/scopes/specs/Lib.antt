@@ -1,4 +1,4 @@
 pub mod View
 pub mod Sound
 pub mod Leaves
-pub mod Lent
+pub mod Steps

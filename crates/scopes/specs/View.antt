@@ -1,8 +1,8 @@
 -- The state as the rules see it, and what an operation did and said in the rules' terms. Assumes nothing.
-use Rattle.std.specs.Prelude.{ℕ, ◌+◌, ◌*◌, ◌/◌, ◌%◌, max, Bool, true, false, List, map, take, ◌==◌, nat_lt, slice_index, slice_index_or}
+use Rattle.std.specs.Prelude.{ℕ, ◌+◌, ◌*◌, ◌/◌, ◌%◌, max, Bool, true, false, List, map, replicate, take, ◌==◌, nat_lt, slice_index, slice_index_or}
 use Rattle.std.proofs.Math.Option.{Option, none, some}
 use Rattle.rules.specs.Notation.{Answer, given, refused, ◌▹◌}
-use Rattle.rules.specs.Sizes.{SCOPES, SLOTS, DANGLING, WORD}
+use Rattle.rules.specs.Sizes.{BINDINGS, HALVES, LINKS, SCOPES, SLOTS, DANGLING, WORD}
 use Rattle.rules.specs.AddressSets.{added_all, without_all, run}
 use Rattle.rules.specs.Scopes as rule
 use Rattle.slots.specs.Halves.{occ, slots_of}
@@ -10,9 +10,8 @@ use Rattle.slots.specs.Spots.{filled}
 use Rattle.links.specs.Follow.{lists}
 use Rattle.scopes.specs.declared.Scopes.{Scopes}
 use Rattle.scopes.specs.declared.ScopeId.{ScopeId}
-use Rattle.scopes.specs.declared.Reply.{Reply}
-use Rattle.scopes.specs.declared.Reply.TheVariants.{Done, At, Empty, Opened, Found, Refused}
-use Rattle.scopes.specs.declared.Outcome.{Outcome}
+use Rattle.scopes.specs.declared.Bound.{Bound}
+use Rattle.slots.specs.declared.SlotAddress.{SlotAddress}
 
 -- ---- the state
 
@@ -73,6 +72,26 @@ view s =
       size = s.size;
     }
 
+-- where every number is 0: no state yet
+abbrev pub blank : Scopes
+blank =
+    record {
+      halves = replicate HALVES 0;
+      links = replicate LINKS 0;
+      owner = replicate SLOTS 0;
+      live = replicate SCOPES false;
+      dangled = replicate SCOPES false;
+      parent = replicate SCOPES 0;
+      number = replicate SCOPES 0;
+      bindings = replicate BINDINGS 0;
+      count = 0;
+      segments = 0;
+      head = 0;
+      top = 0;
+      counter = 0;
+      size = 0;
+    }
+
 abbrev pub id_of : ScopeId → rule.Id
 id_of i = record { index = i.index; number = i.number }
 
@@ -83,44 +102,38 @@ scope_of s i = scope_at s.dangled s.parent s.number (list_of s.links) i
 abbrev pub found_at : Scopes → ℕ → rule.Found
 found_at s i = record { index = i; scope = scope_of s i }
 
--- ---- replies: for each case of the enum the numbers that document 01 has for it
+-- ---- what the results of the operations say, in the rules' terms
 
-abbrev pub at : ℕ → Reply
-at a = At (record { 0 = a })
+abbrev pub address_of : SlotAddress → ℕ
+address_of a = a.0
 
-abbrev pub at_first : Option ℕ → Reply
-at_first none = Empty
-at_first (some a) = at a
+-- what a name is bound to: an address and a handle
+abbrev pub bound_to : Bound → ℕ × ℕ
+bound_to b = (b.address.0, b.handle.0)
 
-abbrev pub opened : rule.Id → Reply
-opened i = Opened (record { index = i.index; number = i.number })
-
-abbrev pub bound : rule.Binding → Reply
-bound b = Found (record { address = record { 0 = b.address }; handle = record { 0 = b.handle } })
+abbrev pub target : rule.Binding → ℕ × ℕ
+target b = (b.address, b.handle)
 
 -- ---- what an operation did and said
 
-pub record Seen : Type 0 where
+pub record Seen (B : Type 0) : Type 0 where
   pub next : rule.Scopes
-  pub says : Reply
-
-abbrev pub seen : Outcome → Seen
-seen o = record { next = view o.state; says = o.reply }
+  pub says : Answer B
 
 -- the same of a rule's answer, in the state c; "All leave state and lent memory unchanged"
-abbrev pub told : {A : Type 0} → (A → Reply) → rule.Scopes → Answer (A × rule.Scopes) → Seen
-told f c (given x) = record { next = x.1; says = f x.0 }
-told f c (refused n) = record { next = c; says = Refused n }
+abbrev pub told : {A B : Type 0} → (A → B) → rule.Scopes → Answer (A × rule.Scopes) → Seen B
+told f c (given x) = record { next = x.1; says = given (f x.0) }
+told f c (refused n) = record { next = c; says = refused n }
 
 -- where the rule gives the next state alone
-abbrev pub told_only : rule.Scopes → Answer rule.Scopes → Seen
-told_only c (given x) = record { next = x; says = Done }
-told_only c (refused n) = record { next = c; says = Refused n }
+abbrev pub told_only : rule.Scopes → Answer rule.Scopes → Seen (Unit {0})
+told_only c (given x) = record { next = x; says = given tt }
+told_only c (refused n) = record { next = c; says = refused n }
 
--- a question's reply
-abbrev pub replied : {A : Type 0} → (A → Reply) → Answer A → Reply
-replied f (given x) = f x
-replied f (refused n) = Refused n
+-- a question's answer
+abbrev pub replied : {A B : Type 0} → (A → B) → Answer A → Answer B
+replied f (given x) = given (f x)
+replied f (refused n) = refused n
 
 -- what the n slots from a on leave, given to the scope at index k; L and H stay
 abbrev pub run_for : Scopes → ℕ → ℕ → ℕ → rule.Scopes

@@ -1,126 +1,77 @@
-// Scopes are closed: by id, and root at the end: `lent::close` by value.
+// Scopes are closed: by id, and root at the end.
 ghost use Rattle.std.specs.Prelude.{◌≡◌, ◌<◌};
+ghost use Rattle.rules.specs.Refusals.{says};
 ghost use Rattle.rules.specs.Sizes.{base, SCOPES};
 ghost use Rattle.rules.specs.Scopes as rule;
-ghost use Rattle.scopes.specs.View.{view, id_of, found_at, seen, told_only};
-ghost use Rattle.scopes.specs.Sound.{Sound};
-ghost use Rattle.scopes.specs.Leaves.{has_child};
-ghost use Rattle.scopes.specs.Lent.{made, Lives, shut};
+ghost use Rattle.scopes.specs.View.{view, id_of, found_at, told_only};
+ghost use Rattle.scopes.specs.Steps.{Whole, Lives, Empties, shut, Becomes};
 
-use crate::lent::close as lent;
-use crate::{LentOutcome, Outcome, Reply, ScopeId, Scopes, numbers_of, open};
-use rules::{BINDINGS, HALVES, LINKS, SCOPES, SLOTS};
+use crate::{NO_PARENT, OF_DANGLING, ScopeId, Scopes, names};
+use rules::refusal::Refusal;
+use rules::{DANGLING, SCOPES};
+use slots::halves as bits;
 
-// Whether a live scope has i as its parent; all are looked at, so that they are compared side by side.
-pub fn has_child<'a>(live: &'a [bool; SCOPES], parent: &'a [u8; SCOPES], i: usize) -> bool
-    requires { i < SCOPES }
-    ensures { result ≡ has_child live.now parent.now i }
-{
-    let up = i as u8;
-    let mut hit = false;
-    let mut j: usize = 0;
-    while j < SCOPES {
-        hit = hit | (live[j] & (parent[j] == up));
-        j += 1;
+impl Scopes {
+    // Whether a live scope has i as its parent; all are looked at, so that they are compared side by side.
+    fn has_child(&self, i: usize) -> bool
+        requires { i < SCOPES }
+        ensures { result ≡ rule.has_child base (view self.now) i }
+    {
+        let up = i as u8;
+        let mut hit = false;
+        for j in 0..SCOPES {
+            hit = hit | (self.live[j] & (self.parent[j] == up));
+        }
+        hit
     }
-    hit
-}
 
-// ---- by value
-
-// Scope i, which is live, is closed. 6.
-fn close(s: Scopes, i: usize) -> Outcome
-    requires { Sound s × Lives s i }
-    ensures { (seen result ≡ told_only (view s) (shut (found_at s i) (view s))) × Sound result.state }
-{
-    let n = numbers_of(s);
-    let mut halves = s.halves;
-    let mut links = s.links;
-    let mut owner = s.owner;
-    let mut live = s.live;
-    let mut dangled = s.dangled;
-    let mut parent = s.parent;
-    let mut number = s.number;
-    let mut bindings = s.bindings;
-    let o = lent::close(
-        &mut halves,
-        &mut links,
-        &mut owner,
-        &mut live,
-        &mut dangled,
-        &mut parent,
-        &mut number,
-        &mut bindings,
-        n,
-        i,
-    );
-    made(
-        halves, links, owner, live, dangled, parent, number, bindings, o,
-    )
-}
-
-// The outcome for the whole state, where all its arrays were lent.
-fn made(
-    halves: [u64; HALVES],
-    links: [u16; LINKS],
-    owner: [u8; SLOTS],
-    live: [bool; SCOPES],
-    dangled: [bool; SCOPES],
-    parent: [u8; SCOPES],
-    number: [u32; SCOPES],
-    bindings: [u64; BINDINGS],
-    o: LentOutcome,
-) -> Outcome
-    ensures { result ≡ record { state = made halves links owner live dangled parent number bindings o.numbers; reply = o.reply } }
-{
-    let n = o.numbers;
-    let reply = o.reply;
-    Outcome {
-        state: Scopes {
-            halves,
-            links,
-            owner,
-            live,
-            dangled,
-            parent,
-            number,
-            bindings,
-            count: n.count,
-            segments: n.segments,
-            head: n.head,
-            top: n.top,
-            counter: n.counter,
-            size: n.size,
-        },
-        reply,
+    // The addresses of scope i, which is live, go to the dangling list in order.
+    fn empty(&mut self, i: usize)
+        requires { Whole self.old × Lives self.old i }
+        ensures { Empties self.old i self.new }
+    {
+        // Each turn takes the first of the list away, so this is no count.
+        while let Some(a) = links::first(&self.links, i) {
+            bits::vacate(&mut self.halves, a);
+            links::place(&mut self.links, DANGLING, a);
+            self.owner[a] = OF_DANGLING;
+            self.head = a / 128;
+        }
     }
-}
 
-// pop s: 4, 5, 6.
-pub fn pop(s: Scopes, id: ScopeId) -> Outcome
-    requires { Sound s }
-    ensures { (seen result ≡ told_only (view s) (rule.pop_scope base (rule.by_id base (view s) (id_of id)) (view s))) × Sound result.state }
-{
-    let no = open::refusal(&s.live, &s.dangled, &s.number, id, false);
-    if no != 0 {
-        return Outcome {
-            state: s,
-            reply: Reply::Refused(no),
-        };
+    // Scope i, which is live, is closed: its addresses dangle, its bindings go, top becomes its parent. 6.
+    fn close(&mut self, i: usize) -> Result<(), Refusal>
+        requires { Whole self.old × Lives self.old i }
+        ensures { Becomes self.old self.new (says (λ u. u) result) (λ c. told_only c (shut (found_at self.old i) c)) }
+    {
+        if self.has_child(i) {
+            return Err(Refusal::HasChild);
+        }
+        self.empty(i);
+        self.count = names::forget_names(&mut self.bindings, self.count, i);
+        self.top = usize::from(self.parent[i]);
+        self.live[i] = false;
+        self.dangled[i] = false;
+        self.parent[i] = NO_PARENT;
+        self.number[i] = 0;
+        Ok(())
     }
-    close(s, open::wide8(id.index))
-}
 
-// pop last: root is closed; then there is no top. 3, 6.
-pub fn pop_last(s: Scopes) -> Outcome
-    requires { Sound s }
-    ensures { (seen result ≡ told_only (view s) (rule.pop_last_scope base (view s))) × Sound result.state }
-{
-    if s.top == SCOPES {
-        return Outcome {
-            state: s,
-            reply: Reply::Refused(3),
-        };
+    // pop s: 4, 5 and 6 are looked at first.
+    pub fn pop(&mut self, id: ScopeId) -> Result<(), Refusal>
+        requires { Whole self.old }
+        ensures { Becomes self.old self.new (says (λ u. u) result) (λ c. told_only c (rule.pop_scope base (rule.by_id base c (id_of id)) c)) }
+    {
+        let i = self.admitted(id, false)?;
+        self.close(i)
     }
-    close(s, 0)
+
+    // pop last: root is closed; then there is no top. 3, 6.
+    pub fn pop_last(&mut self) -> Result<(), Refusal>
+        requires { Whole self.old }
+        ensures { Becomes self.old self.new (says (λ u. u) result) (λ c. told_only c (rule.pop_last_scope base c)) }
+    {
+        self.top_index()?;
+        self.close(0)
+    }
 }

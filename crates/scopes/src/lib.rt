@@ -1,21 +1,21 @@
-// The allocator state, by value: scopes, their slots and their names. Beside the original's scopes.rs.
-// `open` opens, dangles and restores scopes, `place` gives slots and takes them back, `close` pops, `names` binds and finds names,
-// `drain` hands out the dangling list. Their work is done in `lent`, in modules of the same names, over the state's arrays where they stand.
+// The allocator state: scopes, their slots and their names. Beside the original's scopes.rs.
+// Its operations are methods: `open` opens, dangles and restores scopes, `place` gives slots and takes them back, `close` pops, `names`
+// binds and finds names, `drain` hands out the dangling list. They change the state where it stands, and leave it as it was on a refusal.
+// A number that is proved to fit goes to a narrower type by `as`: `try_from` would bring an error that can't be.
 
 #![tactic(auto)]
 
 pub mod close;
 pub mod drain;
-pub mod lent;
 pub mod names;
 pub mod open;
 pub mod place;
 
 ghost use Rattle.std.specs.Prelude.{◌≡◌};
 ghost use Rattle.rules.specs.Scopes.{fresh_scopes};
-ghost use Rattle.scopes.specs.View.{view};
+ghost use Rattle.scopes.specs.View.{blank, view};
 ghost use Rattle.scopes.specs.Sound.{Sound};
-ghost use Rattle.scopes.specs.Lent.{numbers_of};
+ghost use Rattle.scopes.specs.Steps.{Whole};
 
 use rules::{BINDINGS, DANGLING, HALVES, LINKS, LISTS, SCOPES, SLOTS};
 use slots::SlotAddress;
@@ -37,11 +37,14 @@ pub struct ScopeId {
     pub number: u32,
 }
 
+// Fixed memory, no heap: arrays of the rules' sizes. What is told of a scope stands in arrays side by side, so that one test of all scopes compares
+// many at once; `specs/View` and the crate `soundness` read the fields, and so a field says by a number beyond its range that there is none.
+// `links` and `owner`, which aren't 0 at first, come first: so the 0s of a blank state are written behind them alone, and each byte once.
 #[derive(Clone, Copy)]
 pub struct Scopes {
-    pub halves: [u64; HALVES], // slots: bit a % 64 of half a / 64
     pub links: [u16; LINKS], // the lists of the scopes, and at DANGLING the dangling list
     pub owner: [u8; SLOTS], // the scope that owns the slot; OF_DANGLING: it is dangling, OF_NOBODY: neither
+    pub halves: [u64; HALVES], // slots: bit a % 64 of half a / 64
     pub live: [bool; SCOPES],
     pub dangled: [bool; SCOPES],
     pub parent: [u8; SCOPES], // or NO_PARENT
@@ -55,17 +58,6 @@ pub struct Scopes {
     pub size: usize,
 }
 
-// The numbers of a state: they go in and come back by value where the arrays are lent.
-#[derive(Clone, Copy)]
-pub struct Numbers {
-    pub count: usize,
-    pub segments: usize,
-    pub head: usize,
-    pub top: usize,
-    pub counter: u32,
-    pub size: usize,
-}
-
 // What a name is bound to.
 #[derive(Clone, Copy)]
 pub struct Bound {
@@ -73,63 +65,47 @@ pub struct Bound {
     pub handle: HandleNumber,
 }
 
-#[derive(Clone, Copy)]
-pub enum Reply {
-    Done,
-    At(SlotAddress),
-    Empty,
-    Opened(ScopeId),
-    Found(Bound),
-    Refused(u8),
-}
+// A state that is returned is copied. One that is to stand where it was made is made blank, each number 0, and begun there.
+impl Scopes {
+    pub fn blank() -> Scopes
+        ensures { result ≡ blank }
+    {
+        Scopes {
+            halves: [0; HALVES],
+            links: [0; LINKS],
+            owner: [0; SLOTS],
+            live: [false; SCOPES],
+            dangled: [false; SCOPES],
+            parent: [0; SCOPES],
+            number: [0; SCOPES],
+            bindings: [0; BINDINGS],
+            count: 0,
+            segments: 0,
+            head: 0,
+            top: 0,
+            counter: 0,
+            size: 0,
+        }
+    }
 
-#[derive(Clone, Copy)]
-pub struct Outcome {
-    pub state: Scopes,
-    pub reply: Reply,
-}
-
-// An outcome where the arrays are lent.
-#[derive(Clone, Copy)]
-pub struct LentOutcome {
-    pub numbers: Numbers,
-    pub reply: Reply,
-}
-
-pub fn numbers_of(s: Scopes) -> Numbers
-    ensures { result ≡ numbers_of s }
-{
-    Numbers {
-        count: s.count,
-        segments: s.segments,
-        head: s.head,
-        top: s.top,
-        counter: s.counter,
-        size: s.size,
+    // Root alone is live, and is the top.
+    pub fn begin(&mut self)
+        requires { self.old ≡ blank }
+        ensures { (view self.new ≡ fresh_scopes) × Whole self.new }
+    {
+        links::clear(&mut self.links);
+        self.owner = [OF_NOBODY; SLOTS];
+        self.parent = [NO_PARENT; SCOPES];
+        self.live[0] = true;
+        self.counter = 1;
     }
 }
 
-// Root alone is live, and is the top.
+// A state that has begun, by value.
 pub fn fresh() -> Scopes
     ensures { (view result ≡ fresh_scopes) × Sound result }
 {
-    let links = links::fresh();
-    let mut live = [false; SCOPES];
-    live[0] = true;
-    Scopes {
-        halves: [0u64; HALVES],
-        links: links,
-        owner: [OF_NOBODY; SLOTS],
-        live: live,
-        dangled: [false; SCOPES],
-        parent: [NO_PARENT; SCOPES],
-        number: [0u32; SCOPES],
-        bindings: [0u64; BINDINGS],
-        count: 0,
-        segments: 0,
-        head: 0,
-        top: 0,
-        counter: 1,
-        size: 0,
-    }
+    let mut s = Scopes::blank();
+    s.begin();
+    s
 }

@@ -1,15 +1,14 @@
-// Names are bound in the top scope, and looked for from there up to root: what `lent::names` is made of, and the same by value.
-ghost use Rattle.std.specs.Prelude.{◌≡◌, ℕ, ◌+◌, ◌%◌, ◌<◌, ◌≤◌, false, ◌≢◌, length};
+// Names are bound in the top scope, and looked for from there up to root.
+ghost use Rattle.std.specs.Prelude.{◌≡◌, ℕ, ◌+◌, ◌<◌, ◌≤◌, false, length};
+ghost use Rattle.rules.specs.Refusals.{says};
 ghost use Rattle.rules.specs.Sizes.{base, BINDINGS, SCOPES};
 ghost use Rattle.rules.specs.Scopes as rule;
-ghost use Rattle.scopes.specs.View.{view, binding, bound, seen, told, told_only, replied};
-ghost use Rattle.scopes.specs.Sound.{Sound};
-ghost use Rattle.scopes.specs.Lent.{with_names};
-ghost use Rattle.scopes.specs.Leaves.{binds, Spot, NotesFrom, ClimbsBy, Climbs, Unbinds, ClearsFrom, Wiped};
+ghost use Rattle.scopes.specs.View.{view, binding, bound_to, target, told, told_only, replied};
+ghost use Rattle.scopes.specs.Steps.{Whole, Becomes};
+ghost use Rattle.scopes.specs.Leaves.{binds, Spots, Placed, NotesFrom, Nearest, Readable, Unbinds, ClearsFrom};
 
-use crate::lent::names as lent;
-use crate::open::wide8;
-use crate::{Bound, HandleNumber, LentOutcome, Outcome, Reply, Scopes, numbers_of};
+use crate::{Bound, HandleNumber, Scopes};
+use rules::refusal::Refusal;
 use rules::{BINDINGS, SCOPES, WORD};
 use slots::SlotAddress;
 
@@ -24,25 +23,43 @@ pub const NAME_PART: u64 = WORD * ADDRESS_PART;
 
 pub const SCOPE_PART: u64 = WORD * NAME_PART;
 
-// No place among the bindings.
+// A binding in one number, not moved.
+fn packed(i: usize, name: u16, address: SlotAddress, handle: HandleNumber) -> u64
+    requires { i < SCOPES }
+    ensures { binding result ≡ record { scope = i; name = name; address = address.0; handle = handle.0; moved = false } }
+{
+    let key = (i as u64) * WORD + u64::from(name);
+    let place = u64::from(address.0) * ADDRESS_PART + u64::from(handle.0) * HANDLE_PART;
+    key * NAME_PART + place
+}
+
+// What a binding says.
+fn bound_of(b: u64) -> Bound
+    ensures { bound_to result ≡ target (binding b) }
+{
+    Bound {
+        address: SlotAddress((b / ADDRESS_PART % WORD) as u16),
+        handle: HandleNumber((b / HANDLE_PART % WORD) as u16),
+    }
+}
+
+// ---- where a name is bound
+
+// No place among the bindings, in a table of places. They stay numbers of 16 bits, so that a look-up fills a short table and tests it fast.
 const NO_PLACE: u16 = BINDINGS as u16;
 
-const WIDE_SCOPES: u64 = SCOPES as u64;
-
-// The place of the binding of `name` in scope i, or BINDINGS.
-pub fn find(bindings: &[u64; BINDINGS], count: usize, i: usize, name: u16) -> usize
+// The place of the binding of `name` in scope i.
+fn find(bindings: &[u64; BINDINGS], count: usize, i: usize, name: u16) -> Option<usize>
     requires { (count ≤ BINDINGS) × (i < SCOPES) × (length bindings.now ≡ BINDINGS) }
-    ensures { Spot bindings.now count i name result }
+    ensures { Spots bindings.now count i name result }
 {
-    let key = (i as u64) * WORD + (name as u64);
-    let mut j: usize = 0;
-    while j < count {
+    let key = (i as u64) * WORD + u64::from(name);
+    for j in 0..count {
         if bindings[j] / NAME_PART == key {
-            return j;
+            return Some(j);
         }
-        j += 1;
     }
-    BINDINGS
+    None
 }
 
 // Whether one of the eight bindings from `from` on is of `name`, in whatever scope: so that `lookup` may pass over eight at a time.
@@ -51,14 +68,10 @@ fn named(bindings: &[u64; BINDINGS], from: usize, name: u16) -> bool
     requires { (from + 8 ≤ BINDINGS) × (length bindings.now ≡ BINDINGS) }
     ensures { result ≡ false → (i j : ℕ) → from ≤ j → j < from + 8 → binds bindings.now name i j ≡ false }
 {
-    let key = name as u64;
+    let key = u64::from(name);
     let mut hit = false;
-    let mut k: usize = 0;
-    while k < 8 {
-        if bindings[from + k] / NAME_PART % WORD == key {
-            hit = true;
-        }
-        k += 1;
+    for k in 0..8 {
+        hit = hit | (bindings[from + k] / NAME_PART % WORD == key);
     }
     hit
 }
@@ -69,185 +82,135 @@ fn note(places: &mut [u16; SCOPES], bindings: &[u64; BINDINGS], from: usize, to:
     requires { (from ≤ to) × (to ≤ BINDINGS) × (length bindings.now ≡ BINDINGS) × (length places.old ≡ SCOPES) }
     ensures { NotesFrom places bindings from to name }
 {
-    let key = name as u64;
-    let mut j = to;
-    while from < j {
-        j -= 1;
+    let key = u64::from(name);
+    for j in (from..to).rev() {
         let b = bindings[j];
-        let i = b / SCOPE_PART;
-        if b / NAME_PART % WORD == key {
-            if i < WIDE_SCOPES {
-                places[i as usize] = j as u16;
+        let i = (b / SCOPE_PART) as usize;
+        if b / NAME_PART % WORD == key && i < SCOPES {
+            places[i] = j as u16;
+        }
+    }
+}
+
+impl Scopes {
+    // The place of the nearest binding of `name`, where `places` has that in each scope: in scope i, else in its parent, and so on, over `left`
+    // scopes at most.
+    fn climb(&self, places: &[u16; SCOPES], i: usize, left: usize) -> Option<usize>
+        ensures { (name : ℕ) → Placed self.now.bindings self.now.count name places.now → Nearest self.now name i left result }
+    {
+        if left == 0 {
+            return None;
+        }
+        if SCOPES <= i || !self.live[i] {
+            return None;
+        }
+        let j = usize::from(places[i]);
+        if j < BINDINGS {
+            return Some(j);
+        }
+        self.climb(places, usize::from(self.parent[i]), left - 1)
+    }
+
+    // The place of the nearest binding of `name`. One walk over the bindings notes the places for all scopes; then the parents are climbed.
+    fn lookup(&self, name: u16) -> Option<usize>
+        requires { Whole self.now }
+        ensures { Nearest self.now name self.now.top SCOPES result }
+    {
+        let mut places = [NO_PLACE; SCOPES];
+        // Eights from the end on: those from the start on were slower by a twentieth.
+        let eights = self.count / 8;
+        for e in 0..eights {
+            let from = self.count - 8 * e - 8;
+            if named(&self.bindings, from, name) {
+                note(&mut places, &self.bindings, from, from + 8, name);
             }
         }
+        note(
+            &mut places,
+            &self.bindings,
+            0,
+            self.count - 8 * eights,
+            name,
+        );
+        self.climb(&places, self.top, SCOPES)
     }
-}
 
-fn wide16(x: u16) -> usize
-    ensures { result ≡ x }
-{
-    x as usize
-}
-
-// The nearest binding of a name, when `places` says where each scope binds it: that of scope i, else of its parent, and so on,
-// over `left` scopes at most. BINDINGS where none of them does.
-fn climb<'a>(
-    live: &'a [bool; SCOPES],
-    parent: &'a [u8; SCOPES],
-    places: &'a [u16; SCOPES],
-    i: usize,
-    left: usize,
-) -> usize
-    ensures { ClimbsBy live parent places i left result }
-{
-    if left == 0 {
-        return BINDINGS;
-    }
-    if SCOPES <= i {
-        return BINDINGS;
-    }
-    if !live[i] {
-        return BINDINGS;
-    }
-    let j = wide16(places[i]);
-    if j < BINDINGS {
-        return j;
-    }
-    climb(live, parent, places, wide8(parent[i]), left - 1)
-}
-
-// Where the nearest binding of `name` is: looked for in scope i, then in its parent, `left` scopes at most. BINDINGS where there is none.
-// One walk over the bindings notes the places for all scopes; then the parents are climbed.
-pub fn lookup<'a>(
-    live: &'a [bool; SCOPES],
-    parent: &'a [u8; SCOPES],
-    bindings: &'a [u64; BINDINGS],
-    count: usize,
-    name: u16,
-    i: usize,
-    left: usize,
-) -> usize
-    requires { (count ≤ BINDINGS) × (length bindings.now ≡ BINDINGS) × (length live.now ≡ SCOPES) }
-    ensures { Climbs live.now parent.now bindings.now count name i left result }
-{
-    let mut places: [u16; SCOPES] = [NO_PLACE; SCOPES];
-    let mut j = count;
-    while 8 <= j {
-        j -= 8;
-        if named(bindings, j, name) {
-            note(&mut places, bindings, j, j + 8, name);
+    // The place of the binding that get and take mean. 3, 10, 11.
+    fn readable(&self, name: u16) -> Result<usize, Refusal>
+        requires { Whole self.now }
+        ensures { Readable self.now name result }
+    {
+        self.top_index()?;
+        let Some(j) = self.lookup(name) else {
+            return Err(Refusal::NameMissing);
+        };
+        if self.bindings[j] % 2 == 1 {
+            return Err(Refusal::NameMoved);
         }
+        Ok(j)
     }
-    note(&mut places, bindings, 0, j, name);
-    climb(live, parent, &places, i, left)
-}
 
-// What a binding says.
-pub fn bound_of(b: u64) -> Bound
-    ensures { (result.address.0 ≡ (binding b).address) × (result.handle.0 ≡ (binding b).handle) }
-{
-    Bound {
-        address: SlotAddress((b / ADDRESS_PART % WORD) as u16),
-        handle: HandleNumber((b / HANDLE_PART % WORD) as u16),
+    // get: the nearest binding of the name, from the top up to root. 3, 10, 11.
+    pub fn get(&self, name: u16) -> Result<Bound, Refusal>
+        requires { Whole self.now }
+        ensures { says bound_to result ≡ replied target (rule.get_name base name (view self.now)) }
+    {
+        let j = self.readable(name)?;
+        Ok(bound_of(self.bindings[j]))
+    }
+
+    // take: the same, and the binding is marked moved where it stands. 3, 10, 11.
+    pub fn take(&mut self, name: u16) -> Result<Bound, Refusal>
+        requires { Whole self.old }
+        ensures { Becomes self.old self.new (says bound_to result) (λ c. told target c (rule.take_name base name c)) }
+    {
+        let j = self.readable(name)?;
+        let b = self.bindings[j];
+        self.bindings[j] = b + 1;
+        Ok(bound_of(b))
+    }
+
+    // define: binds in the top, replacing an equal name there and its moved mark. 3, 9.
+    pub fn define(
+        &mut self,
+        name: u16,
+        address: SlotAddress,
+        handle: HandleNumber,
+    ) -> Result<(), Refusal>
+        requires { Whole self.old }
+        ensures { Becomes self.old self.new (says (λ u. u) result) (λ c. told_only c (rule.define_name base name address.0 handle.0 c)) }
+    {
+        let top = self.top_index()?;
+        let b = packed(top, name, address, handle);
+        if let Some(j) = find(&self.bindings, self.count, top, name) {
+            self.bindings[j] = b;
+            return Ok(());
+        }
+        if self.count == BINDINGS {
+            return Err(Refusal::BindingsFull);
+        }
+        self.bindings[self.count] = b;
+        self.count += 1;
+        Ok(())
     }
 }
 
-// An unmoved binding, marked moved.
-pub fn moved(b: u64) -> u64
-    requires { b % 2 ≢ 1 }
-    ensures { result ≡ b + 1 }
-{
-    b + 1
-}
+// ---- the bindings of a scope that is closed
 
-// A binding in one number.
-pub fn packed(i: usize, name: u16, address: SlotAddress, handle: HandleNumber) -> u64
-    requires { i < SCOPES }
-    ensures { binding result ≡ record { scope = i; name = name; address = address.0; handle = handle.0; moved = false } }
-{
-    let key = (i as u64) * WORD + (name as u64);
-    let place = (address.0 as u64) * ADDRESS_PART + (handle.0 as u64) * HANDLE_PART;
-    key * NAME_PART + place
-}
-
-// The bindings of scope i go; the others keep their order. How many are left.
+// The bindings of scope i go; the others keep their order, and 0 stands behind them. How many are left.
 pub fn forget_names(bindings: &mut [u64; BINDINGS], count: usize, i: usize) -> usize
     requires { (count ≤ BINDINGS) × (length bindings.old ≡ BINDINGS) }
     ensures unbinds { Unbinds bindings count i result }
     ensures clears_from { ClearsFrom bindings count result }
 {
-    let mut w: usize = 0;
-    let mut j: usize = 0;
-    while j < count {
+    let mut w = 0;
+    for j in 0..count {
         let b = bindings[j];
         if b / SCOPE_PART != i as u64 {
             bindings[w] = b;
             w += 1;
         }
-        j += 1;
     }
-    wipe(bindings, w, count);
+    bindings[w..count].fill(0);
     w
-}
-
-// The places from `from` up to `to` hold 0 then.
-fn wipe(bindings: &mut [u64; BINDINGS], from: usize, to: usize)
-    requires { (from ≤ to) × (to ≤ BINDINGS) × (length bindings.old ≡ BINDINGS) }
-    ensures { Wiped bindings.old from to bindings.new }
-{
-    let mut j = from;
-    while j < to {
-        bindings[j] = 0;
-        j += 1;
-    }
-}
-
-// ---- by value
-
-// The outcome for the whole state, where its bindings were lent.
-fn with_names(s: Scopes, bindings: [u64; BINDINGS], o: LentOutcome) -> Outcome
-    ensures { result ≡ record { state = with_names s bindings o.numbers; reply = o.reply } }
-{
-    let n = o.numbers;
-    let reply = o.reply;
-    let mut t = s;
-    t.bindings = bindings;
-    t.count = n.count;
-    t.segments = n.segments;
-    t.head = n.head;
-    t.top = n.top;
-    t.counter = n.counter;
-    t.size = n.size;
-    Outcome { state: t, reply }
-}
-
-// get: the nearest binding of the name, from the top up to root.
-pub fn get(s: Scopes, name: u16) -> Reply
-    requires { Sound s }
-    ensures { result ≡ replied bound (rule.get_name base name (view s)) }
-{
-    let n = numbers_of(s);
-    lent::get(&s.live, &s.parent, &s.bindings, n, name)
-}
-
-// take: the same, and the binding is marked moved where it stands.
-pub fn take(s: Scopes, name: u16) -> Outcome
-    requires { Sound s }
-    ensures { (seen result ≡ told bound (view s) (rule.take_name base name (view s))) × Sound result.state }
-{
-    let n = numbers_of(s);
-    let mut bindings = s.bindings;
-    let o = lent::take(&s.live, &s.parent, &mut bindings, n, name);
-    with_names(s, bindings, o)
-}
-
-// define: binds in the top, replacing an equal name there and its moved mark.
-pub fn define(s: Scopes, name: u16, address: SlotAddress, handle: HandleNumber) -> Outcome
-    requires { Sound s }
-    ensures { (seen result ≡ told_only (view s) (rule.define_name base name address.0 handle.0 (view s))) × Sound result.state }
-{
-    let n = numbers_of(s);
-    let mut bindings = s.bindings;
-    let o = lent::define(&mut bindings, n, name, address, handle);
-    with_names(s, bindings, o)
 }

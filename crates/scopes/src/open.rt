@@ -1,166 +1,132 @@
-// Scopes are opened, dangled and restored, and looked up by id or by number: the leaves, and `lent::open` by value.
-ghost use Rattle.std.specs.Prelude.{◌≡◌, ◌<◌};
-ghost use Rattle.rules.specs.Notation.{refuse◌unless◌};
-ghost use Rattle.rules.specs.Sizes.{base};
+// Scopes are opened, dangled and restored, and looked up by id or by number.
+ghost use Rattle.std.specs.Prelude.{◌≡◌, ◌-◌, ◌<◌, IfSome};
+ghost use Rattle.rules.specs.Notation.{first, refuse◌unless◌};
+ghost use Rattle.rules.specs.Options.{option_of};
+ghost use Rattle.rules.specs.Refusals.{says};
+ghost use Rattle.rules.specs.Sizes.{base, SCOPES};
 ghost use Rattle.rules.specs.Scopes as rule;
-ghost use Rattle.scopes.specs.View.{view, id_of, opened, seen, told, told_only, replied};
-ghost use Rattle.scopes.specs.Sound.{Sound};
-ghost use Rattle.scopes.specs.Lent.{with_scopes};
-ghost use Rattle.scopes.specs.Leaves.{lowest, is_free, has_number, place_of, refusal};
+ghost use Rattle.scopes.specs.View.{view, id_of, told, told_only, replied};
+ghost use Rattle.scopes.specs.Steps.{Whole, Becomes};
+ghost use Rattle.scopes.specs.Leaves.{is_free, Means, Admits, Tops};
 
-use crate::lent::open as lent;
-use crate::{LentOutcome, Outcome, Reply, ScopeId, Scopes, numbers_of};
+use crate::{ScopeId, Scopes};
 use rules::SCOPES;
+use rules::refusal::Refusal;
 
-pub fn wide8(x: u8) -> usize
-    ensures { result ≡ x }
-{
-    x as usize
-}
-
-// The lowest scope from 1 on that is not live, or SCOPES.
-pub fn free_index(live: &[bool; SCOPES]) -> usize
-    ensures { result ≡ lowest (is_free live.now) 1 }
-{
-    let mut i: usize = 1;
-    while i < SCOPES {
-        if !live[i] {
-            return i;
+impl Scopes {
+    // The index of the top. 3.
+    pub fn top_index(&self) -> Result<usize, Refusal>
+        requires { Whole self.now }
+        ensures { Tops self.now result }
+    {
+        if self.top == SCOPES {
+            return Err(Refusal::NoTop);
         }
-        i += 1;
+        Ok(self.top)
     }
-    SCOPES
-}
 
-// The lowest live scope with this number, or SCOPES.
-pub fn with_number<'a>(live: &'a [bool; SCOPES], number: &'a [u32; SCOPES], n: u32) -> usize
-    ensures { result ≡ lowest (has_number live.now number.now n) 0 }
-{
-    let mut i: usize = 0;
-    while i < SCOPES {
-        if live[i] {
-            if number[i] == n {
-                return i;
+    // The lowest index from 1 on at which no scope is live.
+    fn free_index(&self) -> Option<usize>
+        ensures is { option_of (λ i. i) result ≡ first (is_free self.now.live) 1 (SCOPES - 1) }
+        ensures below { IfSome result (λ i. i < SCOPES) }
+    {
+        for i in 1..SCOPES {
+            if !self.live[i] {
+                return Some(i);
             }
         }
-        i += 1;
+        None
     }
-    SCOPES
-}
 
-// The index of the live scope with this id, or SCOPES.
-pub fn place_of<'a>(live: &'a [bool; SCOPES], number: &'a [u32; SCOPES], id: ScopeId) -> usize
-    ensures { result ≡ place_of live.now number.now id.index id.number }
-{
-    let i = wide8(id.index);
-    if i < SCOPES {
-        if live[i] {
-            if number[i] == id.number {
-                return i;
+    // The lowest index of a live scope with this number.
+    pub fn with_number(&self, n: u32) -> Option<usize>
+        ensures { Means self.now (rule.by_number base (view self.now) n) result }
+    {
+        for i in 0..SCOPES {
+            if self.live[i] && self.number[i] == n {
+                return Some(i);
             }
         }
+        None
     }
-    SCOPES
-}
 
-// Why pop and dangle (`mark` false) or restore (`mark` true) refuse a scope: 4 or 5, and 0 where they don't.
-pub fn refusal<'a>(
-    live: &'a [bool; SCOPES],
-    dangled: &'a [bool; SCOPES],
-    number: &'a [u32; SCOPES],
-    id: ScopeId,
-    mark: bool,
-) -> u8
-    ensures { result ≡ refusal dangled.now mark (place_of live.now number.now id.index id.number) }
-{
-    let i = place_of(live, number, id);
-    if i == SCOPES {
-        return 4;
+    // The index of the live scope with this id.
+    pub fn index_of(&self, id: ScopeId) -> Option<usize>
+        ensures { Means self.now (rule.by_id base (view self.now) (id_of id)) result }
+    {
+        let i = usize::from(id.index);
+        if i < SCOPES && self.live[i] && self.number[i] == id.number {
+            return Some(i);
+        }
+        None
     }
-    if i == 0 {
-        return 5;
+
+    // The index of the scope that pop and dangle (`mark` false) or restore (`mark` true) mean. 4, 5.
+    pub(crate) fn admitted(&self, id: ScopeId, mark: bool) -> Result<usize, Refusal>
+        ensures { Admits self.now mark (rule.by_id base (view self.now) (id_of id)) result }
+    {
+        let Some(i) = self.index_of(id) else {
+            return Err(Refusal::NotLive);
+        };
+        if i == 0 || self.dangled[i] != mark {
+            return Err(Refusal::DangledOrRoot);
+        }
+        Ok(i)
     }
-    if dangled[i] != mark {
-        return 5;
+
+    // child: the parent is the top; the new scope becomes the top. 3, 8.
+    pub fn child(&mut self) -> Result<ScopeId, Refusal>
+        requires { Whole self.old }
+        ensures { Becomes self.old self.new (says id_of result) (λ c. told (λ i. i) c (rule.open_child base c)) }
+    {
+        self.top_index()?;
+        let Some(i) = self.free_index() else {
+            return Err(Refusal::ScopesFull);
+        };
+        let id = ScopeId {
+            index: i as u8,
+            number: self.counter,
+        };
+        self.live[i] = true;
+        self.parent[i] = self.top as u8;
+        self.number[i] = id.number;
+        self.top = i;
+        self.counter = id.number.wrapping_add(1);
+        Ok(id)
     }
-    0
-}
 
-// ---- by value
+    // dangle s: marks it; top becomes its parent. 4, 5.
+    pub fn dangle(&mut self, id: ScopeId) -> Result<(), Refusal>
+        requires { Whole self.old }
+        ensures { Becomes self.old self.new (says (λ u. u) result) (λ c. told_only c (rule.dangle_scope (rule.by_id base c (id_of id)) c)) }
+    {
+        let i = self.admitted(id, false)?;
+        self.dangled[i] = true;
+        self.top = usize::from(self.parent[i]);
+        Ok(())
+    }
 
-// The outcome for the whole state, where the arrays of its scopes were lent.
-fn with_scopes(
-    s: Scopes,
-    live: [bool; SCOPES],
-    dangled: [bool; SCOPES],
-    parent: [u8; SCOPES],
-    number: [u32; SCOPES],
-    o: LentOutcome,
-) -> Outcome
-    ensures { result ≡ record { state = with_scopes s live dangled parent number o.numbers; reply = o.reply } }
-{
-    let n = o.numbers;
-    let reply = o.reply;
-    let mut t = s;
-    t.live = live;
-    t.dangled = dangled;
-    t.parent = parent;
-    t.number = number;
-    t.count = n.count;
-    t.segments = n.segments;
-    t.head = n.head;
-    t.top = n.top;
-    t.counter = n.counter;
-    t.size = n.size;
-    Outcome { state: t, reply }
-}
+    // restore s: unmarks it; top becomes s. 4, 5.
+    pub fn restore(&mut self, id: ScopeId) -> Result<(), Refusal>
+        requires { Whole self.old }
+        ensures { Becomes self.old self.new (says (λ u. u) result) (λ c. told_only c (rule.restore_scope (rule.by_id base c (id_of id)) c)) }
+    {
+        let i = self.admitted(id, true)?;
+        self.dangled[i] = false;
+        self.top = i;
+        Ok(())
+    }
 
-// child: the parent is the top; the new scope becomes the top.
-pub fn child(s: Scopes) -> Outcome
-    requires { Sound s }
-    ensures { (seen result ≡ told opened (view s) (rule.open_child base (view s))) × Sound result.state }
-{
-    let n = numbers_of(s);
-    let mut live = s.live;
-    let dangled = s.dangled;
-    let mut parent = s.parent;
-    let mut number = s.number;
-    let o = lent::child(&mut live, &mut parent, &mut number, n);
-    with_scopes(s, live, dangled, parent, number, o)
-}
-
-// dangle s: marks it; top becomes its parent.
-pub fn dangle(s: Scopes, id: ScopeId) -> Outcome
-    requires { Sound s }
-    ensures { (seen result ≡ told_only (view s) (rule.dangle_scope (rule.by_id base (view s) (id_of id)) (view s))) × Sound result.state }
-{
-    let n = numbers_of(s);
-    let live = s.live;
-    let mut dangled = s.dangled;
-    let parent = s.parent;
-    let number = s.number;
-    let o = lent::dangle(&live, &mut dangled, &parent, &number, n, id);
-    with_scopes(s, live, dangled, parent, number, o)
-}
-
-// restore s: unmarks it; top becomes s.
-pub fn restore(s: Scopes, id: ScopeId) -> Outcome
-    requires { Sound s }
-    ensures { (seen result ≡ told_only (view s) (rule.restore_scope (rule.by_id base (view s) (id_of id)) (view s))) × Sound result.state }
-{
-    let n = numbers_of(s);
-    let live = s.live;
-    let mut dangled = s.dangled;
-    let parent = s.parent;
-    let number = s.number;
-    let o = lent::restore(&live, &mut dangled, &number, n, id);
-    with_scopes(s, live, dangled, parent, number, o)
-}
-
-// A script names a scope by its number: the id of the one that is meant.
-pub fn numbered(s: Scopes, n: u32) -> Reply
-    requires { Sound s }
-    ensures { result ≡ replied (λ k. opened (rule.id_of k)) (refuse 4 unless (rule.by_number base (view s) n)) }
-{
-    lent::numbered(&s.live, &s.number, n)
+    // A script names a scope by its number: the id of the one that is meant. 4.
+    pub fn numbered(&self, n: u32) -> Result<ScopeId, Refusal>
+        ensures { says id_of result ≡ replied rule.id_of (refuse 4 unless (rule.by_number base (view self.now) n)) }
+    {
+        let Some(i) = self.with_number(n) else {
+            return Err(Refusal::NotLive);
+        };
+        Ok(ScopeId {
+            index: i as u8,
+            number: self.number[i],
+        })
+    }
 }

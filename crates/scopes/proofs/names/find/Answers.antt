@@ -1,29 +1,20 @@
 -- A binding's place. Assumes nothing.
-use Rattle.std.proofs.Common.{◌<◌, sym, refl, ◌∙◌, arith, rules}
+use Rattle.std.proofs.Common.{◌<◌, sym, ◌∙◌, arith, rules}
 use Rattle.rules.specs.Sizes.{WORD}
 use Rattle.scopes.proofs.Bindings.{hit, miss, missed_more, spot-none, spot-some}
 use Rattle.scopes.proofs.names.find.Goals as goal
 
-pub overflow_add-key : goal.overflow_add-key
-overflow_add-key c =
-    let word : c.args.name < WORD = search rules in
-    omega (arith, word)
-
-pub loop-j-init : goal.loop-j-init
-loop-j-init c = (search rules, refl, tt)
-
-pub bounds-bindings-j : goal.bounds-bindings-j
-bounds-bindings-j c = omega (arith, c.requires)
-
 pub returns-then-bindings-j : goal.returns-then-bindings-j
 returns-then-bindings-j c =
     let word : c.args.name < WORD = search rules in
-    let l = c.loop-j in let t = c.loop-j-test.true in spot-some c.args.i c.args.name c.args.bindings.now c.args.count c.requires.2 c.requires.0 l.j t l.invariant.2 (hit _ c.args.i c.args.name word (c.if-bindings-j.true ∙ l.invariant.1))
+    let l = c.loop-j in
+    (spot-some c.args.i c.args.name c.args.bindings.now c.args.count c.requires.2 c.requires.0 l.j c.loop-j-test.true l.invariant.1 (hit _ c.args.i c.args.name word (c.if-bindings-j.true ∙ l.invariant.0))).there (omega (arith, c.loop-j-test.true, c.requires))
 
 pub loop-j-preserved : goal.loop-j-preserved
 loop-j-preserved c =
     let word : c.args.name < WORD = search rules in
-    let l = c.loop-j in let t = c.loop-j-test.true in (search rules, l.invariant.1, missed_more c.args.i c.args.name c.args.bindings.now c.args.count c.requires.2 c.requires.0 l.j t l.invariant.2 (miss _ c.args.i c.args.name word (λ e. c.if-bindings-j.false (e ∙ sym l.invariant.1))))
+    let l = c.loop-j in
+    (l.invariant.0, missed_more c.args.i c.args.name c.args.bindings.now c.args.count c.requires.2 c.requires.0 l.j c.loop-j-test.true l.invariant.1 (miss _ c.args.i c.args.name word (λ e. c.if-bindings-j.false (e ∙ sym l.invariant.0))))
 
 pub returns : goal.returns
-returns c = let l = c.loop-j in spot-none c.args.i c.args.name c.args.bindings.now c.args.count c.requires.2 c.requires.0 l.j c.loop-j-test.false l.invariant.2
+returns c = let l = c.loop-j in (spot-none c.args.i c.args.name c.args.bindings.now c.args.count c.requires.2 c.requires.0 l.j c.loop-j-test.false l.invariant.1).missing (omega arith)

@@ -1,10 +1,7 @@
-use Rattle.std.proofs.Common.{◌≡◌, ℕ, ◌-◌, ◌≤◌, length}
+use Rattle.std.proofs.Common.{◌≡◌, ℕ, ◌≤◌, length}
 use Rattle.rules.specs.Sizes.{BINDINGS, SCOPES}
 use Rattle.scopes.specs.Leaves.{Noted}
 use Rattle.scopes.proofs.names.note.Given as goal
 
 abbrev pub invariant-loop-j : goal.invariant-loop-j
-invariant-loop-j l = (l.from ≤ l.j) × (l.j ≤ l.to) × (length l.places ≡ SCOPES) × ((count : ℕ) → l.to ≤ count → count ≤ BINDINGS → Noted l.bindings l.name l.to count l.initial.places → Noted l.bindings l.name l.j count l.places)
-
-abbrev pub decreases-loop-j : goal.decreases-loop-j
-decreases-loop-j l = l.j - l.from
+invariant-loop-j l = (l.from ≤ l.j) × (length l.places ≡ SCOPES) × ((count : ℕ) → l.to ≤ count → count ≤ BINDINGS → Noted l.bindings l.name l.to count l.initial.places → Noted l.bindings l.name l.j count l.places)
