@@ -1,7 +1,8 @@
-pub mod Replies
+pub mod Goes
 pub mod Keeps
 pub mod Frees
 pub mod Downwards
 pub mod Rounds
 pub mod Served
+pub mod FirstGiven
 pub mod Unique

@@ -1,6 +1,6 @@
 -- The loop that gives a run's slots back, and freeing a run by cases. Assumes nothing.
-use mathlib.Core.Path.{◌≡◌, sym, ap, ◌∙◌}
-use mathlib.Core.Bool.{Bool, true, false, true≢false}
+use mathlib.Core.Path.{◌≡◌, refl, sym, ap, ◌∙◌}
+use mathlib.Core.Bool.{Bool, true, false}
 use mathlib.Core.List.{List}
 use Prim.Native.Nat.{ℕ, suc, ◌+◌, ◌-◌, ◌<◌}
 use native.Mathlib.Omega.{arith}
@@ -8,20 +8,13 @@ use Rattle.rules.specs.Notation.{Answer, given, refused, ◌>>=◌}
 use Rattle.rules.specs.Scopes.{Scopes}
 use Rattle.rules.specs.Needs as need
 use Rattle.rules.specs.Sizes.{WORD}
-use Rattle.scopes.specs.View as state
-use Rattle.scopes.specs.View.{view, told_only}
-use Rattle.scopes.specs.Sound.{Sound}
-use Rattle.scopes.specs.declared.Scopes as declared
-use Rattle.scopes.specs.declared.Reply.{Reply}
-use Rattle.needs.specs.Kinds.{kind_of, addresses, run_of}
-use Rattle.needs.specs.Inner.{is_done, back_from}
-use Rattle.needs.specs.declared.Run.{Run}
-use Rattle.needs.specs.declared.FreeAnswer.{FreeAnswer}
-use Rattle.needs.proofs.Tops.{back_from_lem}
+use Rattle.scopes.specs.View.{view, told, told_only, replied}
+use Rattle.scopes.specs.Steps.{Whole, Becomes}
+use Rattle.scopes.specs.declared.Scopes as state
+use Rattle.needs.specs.Kinds.{addresses}
 use Rattle.needs.proofs.Runs.{of_kind}
-use Rattle.allocations.specs.Outcomes.{SeenState, told_state}
-use Rattle.allocations.specs.Inner.{freed_by, down_from, back_each}
-use Rattle.allocations.proofs.Replies.{reply_in, answer_in, once_back, freed-told}
+use Rattle.allocations.specs.Inner.{down_from, back_each}
+use Rattle.allocations.proofs.Goes.{told-as, goes-with, stays}
 use Rattle.allocations.proofs.Keeps.{no_slot}
 use Rattle.allocations.proofs.Downwards.{run_down, each_spent, each-kept, each_back}
 
@@ -39,17 +32,21 @@ module _ (dangles : Bool) (a : ℕ) where
   unfolding down_from back_each
   down-none i c e = ap (λ (n : ℕ). back_each dangles (down_from a n) c) e
 
-module _ (f : Scopes → Answer Scopes) (d t : Scopes) (r : Reply) where
-  pub turn-done : (m : Answer Scopes) → is_done r ≡ true → reply_in t r ≡ told_only d m → f t ≡ (m >>= f)
+  -- the slot b, which comes first of i, went back
+  pub turn-done : (i j b : ℕ) (c d : Scopes) → i ≡ suc j → b ≡ a + j → need.give_back dangles b c ≡ given d → back_each dangles (down_from a j) d ≡ back_each dangles (down_from a i) c
   unfolding ◌>>=◌
-  turn-done (given x) y e = ap (λ (s : state.Seen). f s.next) e
-  turn-done (refused n) y e = absurd (true≢false (sym y ∙ ap (λ (s : state.Seen). is_done s.says) e))
+  turn-done i j b c d e p g =
+      sym (down_step i j c e ∙ ap (λ (m : Answer Scopes). m >>= back_each dangles (down_from a j)) (ap (λ (x : ℕ). need.give_back dangles x c) (sym p) ∙ g))
 
-  -- what came in is handed back
-  pub turn-refused : (c : Scopes) (m b : Answer Scopes) → is_done r ≡ false → reply_in t r ≡ told_only d m → (m >>= f) ≡ b → reply_in c r ≡ told_only c b
+  -- .. or was refused
+  pub turn-refused : (i j b n : ℕ) (c : Scopes) → i ≡ suc j → b ≡ a + j → need.give_back dangles b c ≡ refused n → back_each dangles (down_from a i) c ≡ refused n
   unfolding ◌>>=◌
-  turn-refused c (given x) b y e q = absurd (true≢false (sym (ap (λ (s : state.Seen). is_done s.says) e) ∙ y))
-  turn-refused c (refused n) b y e q = ap (λ (s : state.Seen). reply_in c s.says) e ∙ ap (told_only c) q
+  turn-refused i j b n c e p g =
+      down_step i j c e ∙ ap (λ (m : Answer Scopes). m >>= back_each dangles (down_from a j)) (ap (λ (x : ℕ). need.give_back dangles x c) (sym p) ∙ g)
+
+-- the last address goes first, and is no slot
+pub far-refused : {s : state.Scopes} → Whole s → (dangles : Bool) (a n : ℕ) → a < WORD → WORD < a + n → back_each dangles (down_from a n) (view s) ≡ refused 12
+far-refused {s} whole dangles a n l h = turn-refused dangles a n (n - 1) (a + (n - 1)) 12 (view s) (omega arith) refl (no_slot s whole.sound dangles (a + (n - 1)) (omega arith))
 
 -- ---- a run is freed: empty, Freed, kept by its owner, given back
 
@@ -81,36 +78,21 @@ module _ (dangles : Bool) (k : need.Kind) (a n : ℕ) (c : Scopes) where
   pub run-back : need.is_freed k ≡ false → need.goes_back c k ≡ true → need.free_run dangles (addresses k a n) c ≡ (back_each dangles (down_from a n) c >>= freed_run)
   run-back e g = freed-each _ (each_back dangles k (down_from a n) c e g)
 
--- ---- of a sound state
+-- ---- of the state s, which is whole
 
--- the last address goes first, and is no slot
-pub far-refused : (s : declared.Scopes) → Sound s → (dangles : Bool) (a n : ℕ) → a < WORD → WORD < a + n → refused 12 ≡ back_each dangles (down_from a n) (view s)
-unfolding ◌>>=◌
-far-refused s sound dangles a n l h =
-    sym
-    (down_step dangles a n (n - 1) (view s) (omega arith)
-    ∙ ap (λ (m : Answer Scopes). m >>= back_each dangles (down_from a (n - 1))) (no_slot s sound dangles (a + (n - 1)) (omega arith)))
+module _ {s : state.Scopes} (whole : Whole s) (dangles : Bool) (k : need.Kind) (a n : ℕ) where
+  pub run-freed-empty : n ≡ 0 → Becomes s s (given (need.forget_run (addresses k a n))) (λ c. told (λ l. l) c (need.free_run dangles (addresses k a n) c))
+  run-freed-empty z = stays whole (ap (told (λ l. l) (view s)) (run-empty dangles k a n (view s) z))
 
-module _ (s : declared.Scopes) (sound : Sound s) (dangles : Bool) (r : Run) where
-  -- what freeing the run tells
-  abbrev pub run_told : SeenState (List need.Address)
-  run_told = told_state (view s) (need.free_run dangles (run_of r) (view s))
+  pub run-freed-spent : (n ≡ 0 → ⊥) → need.is_freed k ≡ true → Becomes s s (refused 13) (λ c. told (λ l. l) c (need.free_run dangles (addresses k a n) c))
+  run-freed-spent z e = stays whole (ap (told (λ l. l) (view s)) (run-spent dangles k a n (view s) z e))
 
-  pub told-empty : r.count ≡ 0 → answer_in (view s) (given (need.forget_run (run_of r))) ≡ run_told
-  told-empty z = sym (ap (told_state (view s)) (run-empty dangles (kind_of r.kind) r.first.0 r.count (view s) z))
+  pub run-freed-kept : need.is_freed k ≡ false → need.goes_back (view s) k ≡ false
+      → Becomes s s (given (need.forget_run (addresses k a n))) (λ c. told (λ l. l) c (need.free_run dangles (addresses k a n) c))
+  run-freed-kept e g = stays whole (ap (told (λ l. l) (view s)) (run-kept dangles k a n (view s) e g))
 
-  pub told-spent : (r.count ≡ 0 → ⊥) → need.is_freed (kind_of r.kind) ≡ true → answer_in (view s) (refused 13) ≡ run_told
-  told-spent z e = sym (ap (told_state (view s)) (run-spent dangles (kind_of r.kind) r.first.0 r.count (view s) z e))
-
-  pub told-kept : need.is_freed (kind_of r.kind) ≡ false → back_from s.number s.top r.kind ≡ false
-      → answer_in (view s) (given (need.forget_run (run_of r))) ≡ run_told
-  told-kept e g = sym (ap (told_state (view s)) (run-kept dangles (kind_of r.kind) r.first.0 r.count (view s) e (sym (back_from_lem s sound r.kind) ∙ g)))
-
-  module _ (e : need.is_freed (kind_of r.kind) ≡ false) (g : back_from s.number s.top r.kind ≡ true) where
-    back-each : told_state (view s) (back_each dangles (down_from r.first.0 r.count) (view s) >>= λ d. given (need.forget_run (run_of r), d)) ≡ run_told
-    back-each = sym (ap (told_state (view s)) (run-back dangles (kind_of r.kind) r.first.0 r.count (view s) e (sym (back_from_lem s sound r.kind) ∙ g)))
-
-    pub told_back : (t : Scopes) (reply : Reply) (a b : FreeAnswer) → a ≡ freed_by reply → a ≡ b
-        → reply_in t reply ≡ told_only (view s) (back_each dangles (down_from r.first.0 r.count) (view s))
-        → answer_in t (once_back (need.forget_run (run_of r)) b) ≡ run_told
-    told_back t reply a b p q e = freed-told (need.forget_run (run_of r)) (view s) t reply _ a b p q e ∙ back-each
+  pub run-freed-back : need.is_freed k ≡ false → need.goes_back (view s) k ≡ true
+      → {t : state.Scopes} (r : Answer (Unit {0})) → Becomes s t r (λ c. told_only c (back_each dangles (down_from a n) c))
+      → Becomes s t (replied (λ u. need.forget_run (addresses k a n)) r) (λ c. told (λ l. l) c (need.free_run dangles (addresses k a n) c))
+  run-freed-back e g {t} r h =
+      told-as (ap (told (λ l. l) (view s)) (sym (run-back dangles k a n (view s) e g))) (goes-with (back_each dangles (down_from a n)) (need.forget_run (addresses k a n)) r h)

@@ -1,56 +1,36 @@
--- What a call on a state, or on a state and a need, did and said, beside what the rule's answer tells. Assumes nothing.
+-- What a call on a state and a need did and said, beside what the rule's answer tells. Assumes nothing.
 use Rattle.std.proofs.Math.Option.{Option}
-use Rattle.std.specs.Prelude.{List, ℕ}
+use Rattle.std.specs.Prelude.{◌≡◌, true, ℕ}
 use Rattle.rules.specs.Notation.{Answer, given, refused}
 use Rattle.rules.specs.Sizes.{base}
 use Rattle.rules.specs.Slots.{Placement, edition1}
 use Rattle.rules.specs.Scopes.{Scopes}
 use Rattle.rules.specs.Needs as rule
 use Rattle.scopes.specs.View.{view}
+use Rattle.scopes.specs.Steps.{Whole, is_refusal}
+use Rattle.scopes.specs.declared.Scopes as state
 use Rattle.needs.specs.Kinds.{need_of}
-use Rattle.needs.specs.Answers.{address_says, run_says, slot_says, output_says, free_says}
-use Rattle.allocations.specs.declared.AddressOutcome.{AddressOutcome}
-use Rattle.allocations.specs.declared.RunOutcome.{RunOutcome}
-use Rattle.allocations.specs.declared.SlotOutcome.{SlotOutcome}
-use Rattle.allocations.specs.declared.OutputOutcome.{OutputOutcome}
-use Rattle.allocations.specs.declared.FreeOutcome.{FreeOutcome}
-
--- ---- a call on a state
-
-pub record SeenState (A : Type 0) : Type 0 where
-  pub next : Scopes
-  pub says : Answer A
-
--- the same of a rule's answer, in the state c; "All leave state and lent memory unchanged."
-abbrev pub told_state : {A : Type 0} → Scopes → Answer (A × Scopes) → SeenState A
-told_state c (given x) = record { next = x.1; says = given x.0 }
-told_state c (refused n) = record { next = c; says = refused n }
-
-abbrev pub seen_address : AddressOutcome → SeenState rule.Address
-seen_address r = record { next = view r.state; says = address_says r.answer }
-
-abbrev pub seen_run : RunOutcome → SeenState (List rule.Address)
-seen_run r = record { next = view r.state; says = run_says r.answer }
-
--- ---- a call on a state and a need
+use Rattle.needs.specs.declared.Need.{Need}
 
 pub record SeenBoth (A : Type 0) : Type 0 where
   pub next : Scopes
   pub need : rule.Need
   pub says : Answer A
 
+-- the same of a rule's answer, in the state c with the need d; "All leave state and lent memory unchanged."
 abbrev pub told_both : {A X : Type 0} → (X → SeenBoth A) → Scopes → rule.Need → Answer X → SeenBoth A
 told_both f c d (given x) = f x
 told_both f c d (refused n) = record { next = c; need = d; says = refused n }
 
-abbrev pub seen_slot : SlotOutcome → SeenBoth (Option ℕ)
-seen_slot r = record { next = view r.state; need = need_of r.need; says = slot_says r.answer }
+-- a state with a need, as the rules see them, and an answer
+abbrev pub seen_both : {A : Type 0} → state.Scopes × Need → Answer A → SeenBoth A
+seen_both x a = record { next = view x.0; need = need_of x.1; says = a }
 
-abbrev pub seen_output : OutputOutcome → SeenBoth rule.Output
-seen_output r = record { next = view r.state; need = need_of r.need; says = output_says r.answer }
-
-abbrev pub seen_free : FreeOutcome → SeenBoth (Unit {0})
-seen_free r = record { next = view r.state; need = need_of r.need; says = free_says r.answer }
+-- The state and the need x become y, with this answer; that is what `f` tells of the need and the state as the rules see them. A refusal leaves both.
+pub record BothBecome {A : Type 0} (x y : state.Scopes × Need) (answer : Answer A) (f : rule.Need → Scopes → SeenBoth A) : Type 0 where
+  pub is : seen_both y answer ≡ f (need_of x.1) (view x.0)
+  pub whole : Whole y.0
+  pub kept : is_refusal answer ≡ true → y ≡ x
 
 abbrev pub allocated_slot : rule.Allocated → SeenBoth (Option ℕ)
 allocated_slot x = record { next = x.scopes; need = x.need; says = given x.slot }

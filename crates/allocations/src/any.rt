@@ -1,123 +1,52 @@
 // A need: allocated, freed; a refusal leaves it as it was.
-ghost use Rattle.std.specs.Prelude.{◌≡◌};
-ghost use Rattle.rules.specs.Needs as rule;
+ghost use Rattle.rules.specs.Refusals.{says};
 ghost use Rattle.slots.specs.Spots.{placement_of};
-ghost use Rattle.scopes.specs.View.{view, id_of};
-ghost use Rattle.scopes.specs.Sound.{Sound};
-ghost use Rattle.needs.specs.Kinds.{need_of};
-ghost use Rattle.allocations.specs.Outcomes.{seen_slot, seen_output, seen_free, allocation_by, output_by, freeing_need, done_freeing};
+ghost use Rattle.scopes.specs.Steps.{Whole};
+ghost use Rattle.needs.specs.Answers.{slot_of, output_of};
+ghost use Rattle.allocations.specs.Outcomes.{BothBecome, allocation_by, output_by, freeing_need};
 
-use crate::{FreeOutcome, OutputOutcome, SlotOutcome, addresses};
+use crate::addresses;
 use needs::addresses::allocated;
-use needs::any::as_output;
-use needs::{AddressAnswer, FreeAnswer, Need, SlotAnswer};
-use scopes::{ScopeId, Scopes};
-use slots::Place;
+use needs::{Need, Output};
+use rules::Refusal;
+use scopes::Scopes;
+use slots::{Place, SlotAddress};
 
-// An address for a deferred need, on behalf of its scope; a refusal leaves it deferred.
-fn deferred(s: Scopes, id: ScopeId, place: Place) -> SlotOutcome
-    requires { Sound s }
-    ensures { (seen_slot result ≡ allocation_by (placement_of place) (rule.defer (id_of id)) (view s)) × Sound result.state }
+// Defer becomes a Scope address, Dangling becomes Local; the slot, or nothing. 4, 7.
+pub fn allocate(
+    s: &mut Scopes,
+    need: &mut Need,
+    place: Place,
+) -> Result<Option<SlotAddress>, Refusal>
+    requires { Whole s.old }
+    ensures { BothBecome (s.old, need.old) (s.new, need.new) (says slot_of result) (allocation_by (placement_of place)) }
 {
-    let o = addresses::alloc_in(s, id, place);
-    let t = o.state;
-    let answer = o.answer;
-    match answer {
-        AddressAnswer::Got(a) => {
-            let slot = a.slot;
-            SlotOutcome {
-                state: t,
-                need: Need::Address(a),
-                answer: SlotAnswer::At(slot),
-            }
-        }
-        AddressAnswer::Refused(n) => SlotOutcome {
-            state: t,
-            need: Need::Defer(id),
-            answer: SlotAnswer::Refused(n),
-        },
-    }
-}
-
-// 4, 7.
-pub fn allocate(s: Scopes, need: Need, place: Place) -> SlotOutcome
-    requires { Sound s }
-    ensures { (seen_slot result ≡ allocation_by (placement_of place) (need_of need) (view s)) × Sound result.state }
-{
-    match need {
-        Need::Defer(id) => deferred(s, id, place),
-        Need::Address(a) => {
-            let slot = a.slot;
-            SlotOutcome {
-                state: s,
-                need: Need::Address(allocated(a)),
-                answer: SlotAnswer::At(slot),
-            }
-        }
-        Need::Ignore => SlotOutcome {
-            state: s,
-            need,
-            answer: SlotAnswer::Nothing,
-        },
-        Need::Freed => SlotOutcome {
-            state: s,
-            need,
-            answer: SlotAnswer::Nothing,
-        },
-    }
+    let a = match *need {
+        Need::Defer(id) => addresses::alloc_in(s, id, place)?,
+        Need::Address(a) => allocated(a),
+        Need::Ignore | Need::Freed => return Ok(None),
+    };
+    *need = Need::Address(a);
+    Ok(Some(a.slot))
 }
 
 // As allocate; what has no address is discarded.
-pub fn allocate_output(s: Scopes, need: Need, place: Place) -> OutputOutcome
-    requires { Sound s }
-    ensures { (seen_output result ≡ output_by (placement_of place) (need_of need) (view s)) × Sound result.state }
+pub fn allocate_output(s: &mut Scopes, need: &mut Need, place: Place) -> Result<Output, Refusal>
+    requires { Whole s.old }
+    ensures { BothBecome (s.old, need.old) (s.new, need.new) (says output_of result) (output_by (placement_of place)) }
 {
-    let o = allocate(s, need, place);
-    let t = o.state;
-    let d = o.need;
-    let answer = o.answer;
-    OutputOutcome {
-        state: t,
-        need: d,
-        answer: as_output(answer),
-    }
+    let slot = allocate(s, need, place)?;
+    Ok(Output::from(slot))
 }
 
-fn freed(s: Scopes) -> FreeOutcome
-    ensures { (seen_free result ≡ done_freeing (rule.freed_need, view s)) × (result.state ≡ s) }
+// Its address is freed, and the need is Freed, whatever it was. 13, 12.
+pub fn free_need(s: &mut Scopes, need: &mut Need) -> Result<(), Refusal>
+    requires { Whole s.old }
+    ensures { BothBecome (s.old, need.old) (s.new, need.new) (says (λ u. u) result) freeing_need }
 {
-    FreeOutcome {
-        state: s,
-        need: Need::Freed,
-        answer: FreeAnswer::Done,
+    if let Need::Address(a) = *need {
+        addresses::free(s, a, true)?;
     }
-}
-
-// 13, 12; a refusal leaves the need as it was.
-pub fn free_need(s: Scopes, need: Need) -> FreeOutcome
-    requires { Sound s }
-    ensures { (seen_free result ≡ freeing_need (need_of need) (view s)) × Sound result.state }
-{
-    match need {
-        Need::Address(a) => {
-            let o = addresses::free(s, a, true);
-            let t = o.state;
-            let answer = o.answer;
-            match answer {
-                AddressAnswer::Got(_) => FreeOutcome {
-                    state: t,
-                    need: Need::Freed, // whatever its kind was
-                    answer: FreeAnswer::Done,
-                },
-                AddressAnswer::Refused(n) => FreeOutcome {
-                    state: t,
-                    need, // still to be freed
-                    answer: FreeAnswer::Refused(n),
-                },
-            }
-        }
-        Need::Defer(_) => freed(s),
-        Need::Ignore => freed(s),
-        Need::Freed => freed(s),
-    }
+    *need = Need::Freed;
+    Ok(())
 }

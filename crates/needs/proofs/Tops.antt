@@ -1,11 +1,11 @@
--- Whether a kind's slot goes back: the index of the top, and of a sound state the rules' answer. Assumes nothing.
+-- Whether a kind's slot goes back: of a sound state the rules' answer. Assumes nothing.
 use mathlib.Core.Path.{◌≡◌, refl, sym, ap, ◌∙◌}
 use mathlib.Core.Bool.{Bool, false, ◌&&◌}
-use Prim.Native.Nat.{ℕ, ◌≤◌, ◌<◌}
+use Prim.Native.Nat.{ℕ, ◌≤◌}
 use native.Mathlib.Omega.{arith}
 use lib.Dec.{eqb, ltb}
 use lib.ListN.{get_or}
-use borrow.Author.Tests.{lt-ltb, le-ltb, eq-eqb, ne_eqb}
+use borrow.Author.Tests.{lt-ltb, le-ltb}
 use Rattle.rules.specs.Sizes.{SCOPES}
 use Rattle.rules.specs.Needs as need
 use Rattle.rules.proofs.Tables.{by_eqb}
@@ -18,19 +18,8 @@ use Rattle.needs.specs.Inner.{back_from}
 use Rattle.needs.specs.declared.AddressKind.{AddressKind}
 use Rattle.needs.specs.declared.AddressKind.TheVariants as kind
 
--- ---- is this index the top's
-
-module _ (t i : ℕ) (b : Bool) where
-  pub top-same : t < SCOPES → t ≡ i → b ≡ (ltb t SCOPES && eqb t i && b)
-  top-same h e = rw (lt-ltb t SCOPES h, eq-eqb t i e)
-
-  pub top-other : t < SCOPES → (t ≡ i → ⊥) → false ≡ (ltb t SCOPES && eqb t i && b)
-  top-other h n = rw (lt-ltb t SCOPES h, ne_eqb t i n)
-
-  pub top-far : SCOPES ≤ t → false ≡ (ltb t SCOPES && eqb t i && b)
-  top-far h = rw (le-ltb t SCOPES h)
-
--- ---- of a sound state
+top_far : (t i : ℕ) (b : Bool) → SCOPES ≤ t → (ltb t SCOPES && eqb t i && b) ≡ false
+top_far t i b h = rw (le-ltb t SCOPES h)
 
 module _ (s : state.Scopes) (sound : Sound s) where
   -- the top's number is read off the arrays
@@ -42,7 +31,7 @@ module _ (s : state.Scopes) (sound : Sound s) where
   back_from_lem kind.Freed = refl
   back_from_lem (kind.Scope id) =
       by_eqb s.top SCOPES
-      (λ e. sym (top-far s.top id.index (eqb (get_or s.number s.top 0) id.number) (omega arith)) ∙ sym (ap (need.is_scope (id_of id)) (no_top s e)))
+      (λ e. top_far s.top id.index (eqb (get_or s.number s.top 0) id.number) (omega arith) ∙ sym (ap (need.is_scope (id_of id)) (no_top s e)))
       (λ n.
       let t : Topped s = topped s sound n in
       sym (ap (λ (b : Bool). b && eqb s.top id.index && eqb (get_or s.number s.top 0) id.number) (sym (lt-ltb s.top SCOPES t.small)))

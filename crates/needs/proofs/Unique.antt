@@ -1,38 +1,27 @@
 -- Any two results that a promise admits are equal: what the rules see of an answer tells the answer. Assumes nothing.
 use mathlib.Core.Path.{◌≡◌, refl, sym, ap, ◌∙◌}
-use mathlib.Core.Option.{Option, none, some}
 use mathlib.Core.List.{List, [], ◌∷◌}
 use Prim.Native.Nat.{ℕ, zero, suc}
-use native.Mathlib.Omega.{arith}
 use lib.ListN.{length}
-use Rattle.rules.specs.Notation.{Answer, given, refused}
+use Rattle.std.specs.Prelude.{Result, Ok, Err, Some, None}
+use Rattle.std.specs.Prelude as code
 use Rattle.rules.specs.AddressSets.{run}
 use Rattle.rules.specs.Needs as rule
+use Rattle.rules.specs.Refusals.{number_of, says}
+use Rattle.rules.specs.declared.refusal.Refusal.{Refusal}
+use Rattle.rules.proofs.Says.{number-one, says-one}
 use Rattle.rules.proofs.Tables.{by_eqb}
+use Rattle.slots.specs.declared.SlotAddress.{SlotAddress}
 use Rattle.needs.specs.Kinds.{kind_of, address_of, addresses, run_of, Plain, need_of}
-use Rattle.needs.specs.Answers.{address_says, run_says, PlainRun, slot_says, output_says, tried_says, free_says, copy_says, SeenNeed, seen_taken, seen_assigned}
+use Rattle.needs.specs.Answers.{PlainRun, slot_of, output_of, tried_address, SeenNeed, seen_taken, seen_assigned}
 use Rattle.needs.specs.declared.AddressKind.{AddressKind}
 use Rattle.needs.specs.declared.AddressKind.TheVariants as kind
 use Rattle.needs.specs.declared.Address.{Address}
 use Rattle.needs.specs.declared.Run.{Run}
 use Rattle.needs.specs.declared.Need.{Need}
 use Rattle.needs.specs.declared.Need.TheVariants as need
-use Rattle.needs.specs.declared.AddressAnswer.{AddressAnswer}
-use Rattle.needs.specs.declared.AddressAnswer.TheVariants as address
-use Rattle.needs.specs.declared.RunAnswer.{RunAnswer}
-use Rattle.needs.specs.declared.RunAnswer.TheVariants as run-answer
-use Rattle.needs.specs.declared.SlotAnswer.{SlotAnswer}
-use Rattle.needs.specs.declared.SlotAnswer.TheVariants as slot
-use Rattle.needs.specs.declared.OutputAnswer.{OutputAnswer}
-use Rattle.needs.specs.declared.OutputAnswer.TheVariants as output
-use Rattle.needs.specs.declared.TriedAnswer.{TriedAnswer}
-use Rattle.needs.specs.declared.TriedAnswer.TheVariants as tried
-use Rattle.needs.specs.declared.FreeAnswer.{FreeAnswer}
-use Rattle.needs.specs.declared.FreeAnswer.TheVariants as free
-use Rattle.needs.specs.declared.Copying.{Copying}
-use Rattle.needs.specs.declared.Copying.TheVariants as copy
-use Rattle.needs.specs.declared.Taken.{Taken}
-use Rattle.needs.specs.declared.Assignment.{Assignment}
+use Rattle.needs.specs.declared.Output.{Output}
+use Rattle.needs.specs.declared.Output.TheVariants as output
 
 -- what has a way back is told by what it goes to
 one : {A B : Type 0} (f : A → B) (g : B → A) → ((a : A) → g (f a) ≡ a) → (a b : A) → f a ≡ f b → a ≡ b
@@ -78,79 +67,39 @@ need-back need.Freed = refl
 pub need-one : (a b : Need) → need_of a ≡ need_of b → a ≡ b
 need-one = one need_of need_from need-back
 
+-- ---- what is given
+
+pub slot-one : (a b : code.Option SlotAddress) → slot_of a ≡ slot_of b → a ≡ b
+slot-one (Some a) (Some b) e = ap (λ (n : ℕ). Some (record { 0 = n })) (let n : a.0 ≡ b.0 = cc in n)
+slot-one (Some a) None e = absurd (cc)
+slot-one None (Some b) e = absurd (cc)
+slot-one None None e = refl
+
+pub output-one : (a b : Output) → output_of a ≡ output_of b → a ≡ b
+output-one (output.Keep a) (output.Keep b) e = ap (λ (n : ℕ). output.Keep (record { 0 = n })) (let n : a.0 ≡ b.0 = cc in n)
+output-one (output.Keep a) output.Discard e = absurd (cc)
+output-one output.Discard (output.Keep b) e = absurd (cc)
+output-one output.Discard output.Discard e = refl
+
+pub tried-one : (a b : code.Option Address) → tried_address a ≡ tried_address b → a ≡ b
+tried-one (Some a) (Some b) e = let g : address_of a ≡ address_of b = cc in ap Some (address-one a b g)
+tried-one (Some a) None e = absurd (cc)
+tried-one None (Some b) e = absurd (cc)
+tried-one None None e = refl
+
 -- ---- answers
 
-abbrev address_answer : Answer rule.Address → AddressAnswer
-address_answer (given a) = address.Got (address_from a)
-address_answer (refused n) = address.Refused n
+pub address-says-one : (a b : Result Address Refusal) → says address_of a ≡ says address_of b → a ≡ b
+address-says-one = says-one address_of address-one
 
-address-answer-back : (a : AddressAnswer) → address_answer (address_says a) ≡ a
-address-answer-back (address.Got a) = ap address.Got (address-back a)
-address-answer-back (address.Refused n) = refl
+pub slot-says-one : (a b : Result (code.Option SlotAddress) Refusal) → says slot_of a ≡ says slot_of b → a ≡ b
+slot-says-one = says-one slot_of slot-one
 
-pub address-says-one : (a b : AddressAnswer) → address_says a ≡ address_says b → a ≡ b
-address-says-one = one address_says address_answer address-answer-back
+pub output-says-one : (a b : Result Output Refusal) → says output_of a ≡ says output_of b → a ≡ b
+output-says-one = says-one output_of output-one
 
-abbrev slot_answer : Answer (Option ℕ) → SlotAnswer
-slot_answer (given none) = slot.Nothing
-slot_answer (given (some a)) = slot.At (record { 0 = a })
-slot_answer (refused n) = slot.Refused n
-
-slot-back : (a : SlotAnswer) → slot_answer (slot_says a) ≡ a
-slot-back (slot.At a) = refl
-slot-back slot.Nothing = refl
-slot-back (slot.Refused n) = refl
-
-pub slot-says-one : (a b : SlotAnswer) → slot_says a ≡ slot_says b → a ≡ b
-slot-says-one = one slot_says slot_answer slot-back
-
-abbrev output_answer : Answer rule.Output → OutputAnswer
-output_answer (given (rule.keep a)) = output.Keep (record { 0 = a })
-output_answer (given rule.discard) = output.Discard
-output_answer (refused n) = output.Refused n
-
-output-back : (a : OutputAnswer) → output_answer (output_says a) ≡ a
-output-back (output.Keep a) = refl
-output-back output.Discard = refl
-output-back (output.Refused n) = refl
-
-pub output-says-one : (a b : OutputAnswer) → output_says a ≡ output_says b → a ≡ b
-output-says-one = one output_says output_answer output-back
-
-abbrev tried_answer : Answer (Option rule.Address) → TriedAnswer
-tried_answer (given none) = tried.Nothing
-tried_answer (given (some a)) = tried.Got (address_from a)
-tried_answer (refused n) = tried.Refused n
-
-tried-back : (a : TriedAnswer) → tried_answer (tried_says a) ≡ a
-tried-back (tried.Got a) = ap tried.Got (address-back a)
-tried-back tried.Nothing = refl
-tried-back (tried.Refused n) = refl
-
-pub tried-says-one : (a b : TriedAnswer) → tried_says a ≡ tried_says b → a ≡ b
-tried-says-one = one tried_says tried_answer tried-back
-
-abbrev free_answer : Answer (Unit {0}) → FreeAnswer
-free_answer (given u) = free.Done
-free_answer (refused n) = free.Refused n
-
-free_back : (a : FreeAnswer) → free_answer (free_says a) ≡ a
-free_back free.Done = refl
-free_back (free.Refused n) = refl
-
-pub free-says-one : (a b : FreeAnswer) → free_says a ≡ free_says b → a ≡ b
-free-says-one = one free_says free_answer free_back
-
-abbrev copy_answer : Option ℕ → Copying
-copy_answer none = copy.Nothing
-copy_answer (some a) = copy.To (record { 0 = a })
-
-copy-back : (a : Copying) → copy_answer (copy_says a) ≡ a
-copy-back (copy.To a) = refl
-copy-back copy.Nothing = refl
-
-pub copy-says-one : (a b : Copying) → copy_says a ≡ copy_says b → a ≡ b
-copy-says-one = one copy_says copy_answer copy-back
+pub tried-says-one : (a b : Result (code.Option Address) Refusal) → says tried_address a ≡ says tried_address b → a ≡ b
+tried-says-one = says-one tried_address tried-one
 
 -- ---- runs: an empty one is plain, another is told by its first address and how many there are
 
@@ -183,35 +132,22 @@ run-one r q pr pq e = by_eqb r.count 0 (λ z. pr z ∙ sym (pq (sym counts ∙ z
         let k : r.kind ≡ q.kind = one kind_of kind_from kind-back r.kind q.kind (ap (λ (a : rule.Address). a.kind) f) in
         λ i. record { first = record { 0 = (f i).slot }; count = counts i; kind = k i }
 
-abbrev list_or : List rule.Address → Answer (List rule.Address) → List rule.Address
-list_or d (given l) = l
-list_or d (refused n) = d
+pub run-says-one : (a b : Result Run Refusal) → PlainRun a → PlainRun b → says run_of a ≡ says run_of b → a ≡ b
+run-says-one (Ok r) (Ok q) p o e = let l : run_of r ≡ run_of q = cc in ap Ok (run-one r q p o l)
+run-says-one (Ok r) (Err d) p o e = absurd (cc)
+run-says-one (Err d) (Ok q) p o e = absurd (cc)
+run-says-one (Err d) (Err c) p o e = let n : number_of d ≡ number_of c = cc in ap Err (number-one d c n)
 
-abbrev number_or : ℕ → Answer (List rule.Address) → ℕ
-number_or d (given l) = d
-number_or d (refused n) = n
+-- ---- results without a state: the need afterwards, and the answer
 
--- given or refused: which it was
-abbrev as_number : Answer (List rule.Address) → ℕ
-as_number (given l) = 0
-as_number (refused n) = 1
-
-pub run-says-one : (a b : RunAnswer) → PlainRun a → PlainRun b → run_says a ≡ run_says b → a ≡ b
-run-says-one (run-answer.Got r) (run-answer.Got q) pa pb e = ap run-answer.Got (run-one r q pa pb (ap (list_or []) e))
-run-says-one (run-answer.Got r) (run-answer.Refused n) pa pb e = absurd (let z : ◌≡◌ {A = ℕ} 0 1 = ap as_number e in omega arith)
-run-says-one (run-answer.Refused m) (run-answer.Got q) pa pb e = absurd (let z : ◌≡◌ {A = ℕ} 1 0 = ap as_number e in omega arith)
-run-says-one (run-answer.Refused m) (run-answer.Refused n) pa pb e = ap run-answer.Refused (ap (number_or 0) e)
-
--- ---- results without a state
-
-pub taken-one : (r q : Taken) → seen_taken r ≡ seen_taken q → r ≡ q
+pub taken-one : (r q : Need × Result Address Refusal) → seen_taken r ≡ seen_taken q → r ≡ q
 taken-one r q e =
-    let d : r.need ≡ q.need = need-one r.need q.need (ap (λ (x : SeenNeed rule.Address). x.need) e) in
-    let a : r.answer ≡ q.answer = address-says-one r.answer q.answer (ap (λ (x : SeenNeed rule.Address). x.says) e) in
-    λ i. record { need = d i; answer = a i }
+    let d : r.0 ≡ q.0 = need-one r.0 q.0 (ap (λ (x : SeenNeed rule.Address). x.need) e) in
+    let a : r.1 ≡ q.1 = address-says-one r.1 q.1 (ap (λ (x : SeenNeed rule.Address). x.says) e) in
+    λ i. (d i, a i)
 
-pub assigned-one : (r q : Assignment) → seen_assigned r ≡ seen_assigned q → r ≡ q
+pub assigned-one : (r q : Need × code.Option SlotAddress) → seen_assigned r ≡ seen_assigned q → r ≡ q
 assigned-one r q e =
-    let d : r.need ≡ q.need = need-one r.need q.need (ap (λ (x : rule.Assignment). x.need) e) in
-    let c : r.copy ≡ q.copy = copy-says-one r.copy q.copy (ap (λ (x : rule.Assignment). x.copy_to) e) in
-    λ i. record { need = d i; copy = c i }
+    let d : r.0 ≡ q.0 = need-one r.0 q.0 (ap (λ (x : rule.Assignment). x.need) e) in
+    let c : r.1 ≡ q.1 = slot-one r.1 q.1 (ap (λ (x : rule.Assignment). x.copy_to) e) in
+    λ i. (d i, c i)

@@ -40,64 +40,9 @@ pub enum Need {
     Freed,
 }
 
-// ---- answers; a refusal has its number
-
+// What a need is as output.
 #[derive(Clone, Copy)]
-pub enum AddressAnswer {
-    Got(Address),
-    Refused(u8),
-}
-
-#[derive(Clone, Copy)]
-pub enum RunAnswer {
-    Got(Run),
-    Refused(u8),
-}
-
-#[derive(Clone, Copy)]
-pub enum SlotAnswer {
-    At(SlotAddress),
-    Nothing,
-    Refused(u8),
-}
-
-#[derive(Clone, Copy)]
-pub enum OutputAnswer {
+pub enum Output {
     Keep(SlotAddress),
     Discard,
-    Refused(u8),
-}
-
-#[derive(Clone, Copy)]
-pub enum TriedAnswer {
-    Got(Address),
-    Nothing,
-    Refused(u8),
-}
-
-#[derive(Clone, Copy)]
-pub enum FreeAnswer {
-    Done,
-    Refused(u8),
-}
-
-// Where x is to be copied, if anywhere.
-#[derive(Clone, Copy)]
-pub enum Copying {
-    To(SlotAddress),
-    Nothing,
-}
-
-// ---- results: the need, then the answer
-
-#[derive(Clone, Copy)]
-pub struct Taken {
-    pub need: Need,
-    pub answer: AddressAnswer,
-}
-
-#[derive(Clone, Copy)]
-pub struct Assignment {
-    pub need: Need,
-    pub copy: Copying,
 }

@@ -36,10 +36,8 @@ pub fn forget_run(run: Run) -> Run
     if run.count == 0 {
         return empty();
     }
-    let first = run.first;
     Run {
-        first,
-        count: run.count,
         kind: AddressKind::Freed,
+        ..run
     }
 }

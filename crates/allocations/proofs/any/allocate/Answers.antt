@@ -1,35 +1,20 @@
-use mathlib.Core.Path.{sym, ap, ◌∙◌}
-use mathlib.Core.Option.{some}
-use Rattle.rules.specs.Notation.{given}
-use Rattle.rules.specs.Needs as rule
+use Rattle.std.proofs.lemmas.Result.{err_from_is_err_and}
 use Rattle.slots.specs.Spots.{placement_of}
-use Rattle.scopes.specs.View.{view}
-use Rattle.needs.specs.Kinds.{need_of}
-use Rattle.needs.specs.declared.Need.{Need}
-use Rattle.allocations.specs.Outcomes.{allocation_by}
+use Rattle.allocations.proofs.Served.{served-given, served-refused, has-address, wants-none}
 use Rattle.allocations.proofs.any.allocate.Goals as goal
+use Rattle.allocations.proofs.any.allocate.Goals.{in-Defer+in_ok-a-in-Defer, in-Address}
 
-pub deferred-requires : goal.deferred-requires
-deferred-requires c = c.requires
-
-pub allocated-requires : goal.allocated-requires
-allocated-requires c = tt
-
-pub returns-in-Defer : goal.returns-in-Defer
-returns-in-Defer c = (c.deferred.ensures.0 ∙ sym (ap (λ (d : Need). allocation_by (placement_of c.args.place) (need_of d) (view c.args.s)) c.in-Defer.is), c.deferred.ensures.1)
-
-pub returns-in-Address : goal.returns-in-Address
-unfolding rule.allocate_need
-returns-in-Address c = (
-  ap (λ (b : rule.Address). record { next = view c.args.s; need = rule.at b; says = given (some c.in-Address.a.slot.0) }) c.allocated.ensures
-      ∙ sym (ap (λ (d : Need). allocation_by (placement_of c.args.place) (need_of d) (view c.args.s)) c.in-Address.is),
-  c.requires,
-)
+pub returns-in_err-a-in-Defer : goal.returns-in_err-a-in-Defer
+returns-in_err-a-in-Defer c =
+    let p = err_from_is_err_and c.from_residual.result c.from_residual.ensures.1 in
+    rw (p.1, p.2) (served-refused (placement_of c.args.place) c.in-Defer.id c.args.need.now c.in-Defer.is _ c.in_err-a-in-Defer.ensures)
 
 pub returns-in-Ignore : goal.returns-in-Ignore
-unfolding rule.allocate_need
-returns-in-Ignore c = (rw c.in-Ignore.is, c.requires)
+returns-in-Ignore c = wants-none c.requires (placement_of c.args.place) c.args.need.now c.in-Ignore.is
 
-pub returns-in-Freed : goal.returns-in-Freed
-unfolding rule.allocate_need
-returns-in-Freed c = (rw c.in-Freed.is, c.requires)
+pub returns : goal.returns
+returns c =
+    elim c.match-need.branch [
+      | in-Defer+in_ok-a-in-Defer w ↦ rw (w.s-is, w.a-is) (served-given (placement_of c.args.place) w.in-Defer.id c.args.need.now w.in-Defer.is _ w.in_ok-a-in-Defer.ensures)
+      | in-Address w ↦ rw (w.s-is, w.a-is) (has-address c.requires (placement_of c.args.place) c.args.need.now w.in-Address.a _ w.in-Address.is w.allocated-a.ensures)
+    ]

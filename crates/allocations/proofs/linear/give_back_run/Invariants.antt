@@ -1,12 +1,12 @@
 use mathlib.Core.Path.{◌≡◌}
-use Prim.Native.Nat.{◌≤◌}
+use Prim.Native.Nat.{◌≤◌, ◌-◌}
 use Rattle.scopes.specs.View.{view}
-use Rattle.scopes.specs.Sound.{Sound}
+use Rattle.scopes.specs.Steps.{Whole}
 use Rattle.allocations.specs.Inner.{down_from, back_each}
 use Rattle.allocations.proofs.linear.give_back_run.Given as goal
 
-abbrev pub invariant-loop-i : goal.invariant-loop-i
-invariant-loop-i l = (l.i ≤ l.count) × Sound l.t × (back_each l.dangles (down_from l.from l.i) (view l.t) ≡ back_each l.dangles (down_from l.from l.count) (view l.s))
-
-abbrev pub decreases-loop-i : goal.decreases-loop-i
-decreases-loop-i l = l.i
+-- those below `a` are still to go back
+abbrev pub invariant-loop-a : goal.invariant-loop-a
+invariant-loop-a l =
+    (l.fn.first.0 ≤ l.a) × Whole l.t
+    × (back_each l.dangles (down_from l.fn.first.0 (l.a - l.fn.first.0)) (view l.t) ≡ back_each l.dangles (down_from l.fn.first.0 l.count) (view l.s))

@@ -1,19 +1,27 @@
-use mathlib.Core.Path.{ap, subst⁻¹, ◌∙◌}
-use Rattle.scopes.specs.View.{view}
-use Rattle.needs.specs.Answers.{run_says, PlainRun}
-use Rattle.needs.specs.declared.RunAnswer.{RunAnswer}
-use Rattle.allocations.proofs.Replies.{answer_in, as-run-told, as-run-plain}
+use Rattle.std.proofs.lemmas.Result.{err_from_is_err_and}
+use Rattle.rules.specs.AddressSets.{run}
+use Rattle.rules.specs.Scopes.{alloc_run}
+use Rattle.rules.specs.Needs as need
+use Rattle.slots.specs.Spots.{placement_of}
+use Rattle.allocations.proofs.Goes.{goes-on}
+use Rattle.allocations.proofs.FirstGiven.{no-first}
 use Rattle.allocations.proofs.linear.linear.Goals as goal
 
-pub alloc_run-o-requires : goal.alloc_run-o-requires
-alloc_run-o-requires c = c.requires
+pub returns-in_err-first-clause-becomes : goal.returns-in_err-first-clause-becomes
+unfolding need.alloc_addresses
+returns-in_err-first-clause-becomes c =
+    let p = err_from_is_err_and c.from_residual.result c.from_residual.ensures.1 in
+    rw (p.1, p.2) (goes-on (alloc_run (placement_of c.args.place) c.args.n) (need.run_from c.args.n) _ c.in_err-first.ensures)
 
-pub as_run-requires : goal.as_run-requires
-as_run-requires c = tt
+pub returns-in-Some-clause-becomes : goal.returns-in-Some-clause-becomes
+unfolding need.alloc_addresses
+returns-in-Some-clause-becomes c =
+    rw c.run_kind.ensures.1 (goes-on (alloc_run (placement_of c.args.place) c.args.n) (need.run_from c.args.n) _ (rw c.in-Some.is at c.in_ok-first.ensures))
 
-pub returns : goal.returns
-returns c = (
-  ap (λ (a : RunAnswer). answer_in (view c.alloc_run-o.result.state) (run_says a)) c.as_run.ensures ∙ as-run-told _ _ _ _ _ c.alloc_run-o.ensures.0,
-  subst⁻¹ PlainRun c.as_run.ensures (as-run-plain _ _ _ _ _ c.alloc_run-o.ensures.0),
-  c.alloc_run-o.ensures.1,
-)
+pub returns-in-Some-clause-plain : goal.returns-in-Some-clause-plain
+returns-in-Some-clause-plain c = λ z. absurd (no-first (placement_of c.args.place) c.args.n _ (rw c.in-Some.is at c.in_ok-first.ensures) z)
+
+pub returns-in-None-clause-becomes : goal.returns-in-None-clause-becomes
+unfolding need.alloc_addresses run
+returns-in-None-clause-becomes c =
+    rw c.empty.ensures (goes-on (alloc_run (placement_of c.args.place) c.args.n) (need.run_from c.args.n) _ (rw c.in-None.is at c.in_ok-first.ensures))

@@ -1,23 +1,13 @@
-use mathlib.Core.Path.{sym, ap}
-use Rattle.rules.specs.Needs as rule
-use Rattle.needs.specs.Kinds.{need_of}
-use Rattle.needs.specs.declared.Need.{Need}
-use Rattle.needs.specs.Answers.{told_need}
+use Rattle.std.proofs.lemmas.Result.{err_from_is_err_and}
 use Rattle.rules.specs.Notation.{◌>>=◌}
+use Rattle.needs.specs.Kinds.{need_of}
+use Rattle.needs.proofs.Asks.{taken}
 use Rattle.needs.proofs.any.into_addr.Goals as goal
 
-pub returns-in-Address : goal.returns-in-Address
-unfolding rule.into_addr rule.addr_of ◌>>=◌
-returns-in-Address c = sym (ap (λ (d : Need). told_need (need_of d) (rule.into_addr (need_of d))) c.in-Address.is)
+pub returns-in_err-a : goal.returns-in_err-a
+unfolding ◌>>=◌
+returns-in_err-a c = let p = err_from_is_err_and c.from_residual.result c.from_residual.ensures.1 in rw (p.1, p.2) (taken (need_of c.args.need.now) _ c.in_err-a.ensures)
 
-pub returns-in-Defer : goal.returns-in-Defer
-unfolding rule.into_addr rule.addr_of ◌>>=◌
-returns-in-Defer c = sym (ap (λ (d : Need). told_need (need_of c.args.need) (rule.into_addr (need_of d))) c.in-Defer.is)
-
-pub returns-in-Ignore : goal.returns-in-Ignore
-unfolding rule.into_addr rule.addr_of ◌>>=◌
-returns-in-Ignore c = sym (ap (λ (d : Need). told_need (need_of c.args.need) (rule.into_addr (need_of d))) c.in-Ignore.is)
-
-pub returns-in-Freed : goal.returns-in-Freed
-unfolding rule.into_addr rule.addr_of ◌>>=◌
-returns-in-Freed c = sym (ap (λ (d : Need). told_need (need_of c.args.need) (rule.into_addr (need_of d))) c.in-Freed.is)
+pub returns : goal.returns
+unfolding ◌>>=◌
+returns c = taken (need_of c.args.need.now) _ c.in_ok-a.ensures
