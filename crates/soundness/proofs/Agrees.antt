@@ -25,11 +25,23 @@ use Rattle.slots.specs.Halves.{occ}
 use Rattle.links.proofs.Rings.{ring-once}
 use Rattle.links.specs.Links.{next_in, prev_in}
 use Rattle.scopes.specs.View.{list_of, index, only_if, bindings_of, view}
-use Rattle.scopes.specs.Sound.{Sound, Ringed, Owned, Each, BoundOnce, LeadsToRoot, root, up}
+use Rattle.scopes.specs.Sound.{Sound, Slotted, Ringed, Owned, Rooted, Named, Each, BoundOnce, LeadsToRoot, root, up}
 use Rattle.scopes.specs.declared.Scopes.{Scopes}
 use Rattle.soundness.specs.Canonical.{Canonical, Good}
 use Rattle.soundness.proofs.Climbs.{index-some, index-none, index_is, index-over, live_below, to-rule, of-rule, root-number, leads-live}
 use Rattle.soundness.proofs.Places.{slots-rule, rule-slots}
+
+-- ---- the parts of soundness
+
+-- all but the last
+abbrev pub Unnamed : Scopes → Type 0
+Unnamed s = Slotted s.halves s.segments s.head × Ringed s.links s.owner × Owned s.halves s.owner s.live s.size × Rooted s.live s.dangled s.parent s.number s.top
+
+pub unnamed-of : (s : Scopes) → Sound s → Unnamed s
+unnamed-of s h = (h.slotted, h.ringed, h.owned, h.rooted)
+
+pub sound-with : (s : Scopes) → Unnamed s → (r : Bool) → Tells r (Named s.bindings s.live s.count) → Tells r (Sound s)
+sound-with s u r t = tells_as t (λ h. record { slotted = u.0; ringed = u.1; owned = u.2; rooted = u.3; named = h }) (λ h. h.named)
 
 -- ---- lists of bindings, in both forms
 

@@ -149,33 +149,30 @@ module _ (live : List Bool) (parent : List ℕ) where
             e ∙ climbs (leads-root live parent i h) SCOPES i d (height-below (live_below live len i (leads-live live parent i h)) d);
       }
 
-  -- ---- the steps as the code takes them
+  -- ---- the steps as the code takes them: n more are allowed at i
 
-  pub root-at : (k i p : ℕ) → 0 < k → get_or live i false ≡ true → i ≡ 0 → p ≡ get_or parent i 0 → climb live parent k i ≡ eqb p SCOPES
-  root-at k i p h l z q = let e : k ≡ suc (k - 1) = omega arith in ap (λ (m : ℕ). climb live parent m i) e ∙ climb-root (k - 1) i l z ∙ ap (λ (x : ℕ). eqb x SCOPES) (sym q)
+  pub climb-last : (n i : ℕ) → 0 < n → get_or live i false ≡ true → i ≡ 0 → climb live parent n i ≡ eqb (get_or parent i 0) SCOPES
+  climb-last n i h l z = let e : n ≡ suc (n - 1) = omega arith in ap (λ (m : ℕ). climb live parent m i) e ∙ climb-root (n - 1) i l z
 
-  pub up_at : (k i p : ℕ) → 0 < k → get_or live i false ≡ true → i ≢ 0 → p ≡ get_or parent i 0 → climb live parent k i ≡ climb live parent (k - 1) p
-  up_at k i p h l z q = let e : k ≡ suc (k - 1) = omega arith in ap (λ (m : ℕ). climb live parent m i) e ∙ climb-up (k - 1) i l z ∙ ap (climb live parent (k - 1)) (sym q)
+  pub climb-next : (n k i : ℕ) → n ≡ suc k → get_or live i false ≡ true → i ≢ 0 → climb live parent n i ≡ climb live parent k (get_or parent i 0)
+  climb-next n k i e l z = ap (λ (m : ℕ). climb live parent m i) e ∙ climb-up k i l z
 
-  pub climb-zero : (k i : ℕ) → k ≤ 0 → climb live parent k i ≡ false
+  pub climb-zero : (n i : ℕ) → n ≤ 0 → climb live parent n i ≡ false
   unfolding climb
   climb-zero zero i h = refl
-  climb-zero (suc k) i h = absurd (omega arith)
+  climb-zero (suc n) i h = absurd (omega arith)
 
-  pub beyond : (k i : ℕ) → length live ≤ i → climb live parent k i ≡ false
-  beyond k i h = climb-dead k i (get_or-eq_default live false h)
+  pub beyond : (n i : ℕ) → length live ≤ i → climb live parent n i ≡ false
+  beyond n i h = climb-dead n i (get_or-eq_default live false h)
 
   -- ---- a way, scope by scope, and what is known of the scopes
 
   pub leads-below : length live ≡ SCOPES → (i : ℕ) → LeadsToRoot live parent i → i < SCOPES
   leads-below len i h = live_below live len i (leads-live live parent i h)
 
-  pub further : (i p : ℕ) → get_or live i false ≡ true → i ≢ 0 → p ≡ get_or parent i 0 → LeadsToRoot live parent p → LeadsToRoot live parent i
-  further i p l z q h = up z l (subst (LeadsToRoot live parent) q h)
-
-  pub nearer : (i p : ℕ) → i ≢ 0 → p ≡ get_or parent i 0 → LeadsToRoot live parent i → LeadsToRoot live parent p
-  nearer i p z q (root l e) = absurd (z refl)
-  nearer i p z q (up n l h) = subst (LeadsToRoot live parent) (sym q) h
+  pub nearer : (i : ℕ) → i ≢ 0 → LeadsToRoot live parent i → LeadsToRoot live parent (get_or parent i 0)
+  nearer i z (root l e) = absurd (z refl)
+  nearer i z (up n l h) = h
 
   pub known-none : Known live parent (replicate SCOPES false)
   known-none = record { long = length-replicate SCOPES false; leads = λ k e. clash e (none SCOPES k) }

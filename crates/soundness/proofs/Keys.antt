@@ -49,17 +49,21 @@ of-once (suc n) (b ∷ l) le h zero (suc k) jk kn s q =
 of-once (suc n) (b ∷ l) le h (suc j) (suc k) jk kn s q = of-once n l (omega arith) h.1 j k (omega arith) (omega arith) s q
 
 module _ (bindings : List ℕ) (live : List Bool) (count : ℕ) (len : length bindings ≡ BINDINGS) where
-  pub named-of : count ≤ BINDINGS → ((j : ℕ) → count ≤ j → get_or bindings j 0 ≡ 0) → Below count (LiveAt bindings live) → Distinct bindings count → Named bindings live count
-  named-of le z h d =
+  -- all but that no two are alike
+  abbrev pub Listed : Type 0
+  Listed = (count ≤ BINDINGS) × ((j : ℕ) → count ≤ j → get_or bindings j 0 ≡ 0) × Below count (LiveAt bindings live)
+
+  pub named-of : Listed → Distinct bindings count → Named bindings live count
+  named-of h d =
       record {
-        most = le;
-        alive = each_of (λ b. get_or live b.scope false ≡ true) count bindings (omega arith) h;
-        once = once-of count bindings (omega arith) d;
-        clear = z;
+        most = h.0;
+        alive = each_of (λ b. get_or live b.scope false ≡ true) count bindings (omega (arith, h.0)) h.2;
+        once = once-of count bindings (omega (arith, h.0)) d;
+        clear = h.1;
       }
 
-  pub named_live : Named bindings live count → Below count (LiveAt bindings live)
-  named_live s = of-each (λ b. get_or live b.scope false ≡ true) count bindings (omega (arith, s.most)) s.alive
+  pub listed-of : Named bindings live count → Listed
+  listed-of s = (s.most, s.clear, of-each (λ b. get_or live b.scope false ≡ true) count bindings (omega (arith, s.most)) s.alive)
 
   pub named-distinct : Named bindings live count → Distinct bindings count
   named-distinct s = of-once count bindings (omega (arith, s.most)) s.once

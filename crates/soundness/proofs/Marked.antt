@@ -10,17 +10,16 @@ use native.Mathlib.Omega.{arith}
 use lib.Dec.{eqb}
 use lib.ListN.{length, get_or, set, length-set}
 use lib.Seq.{get_or-set_same, get_or-set_other}
-use borrow.Author.Tests.{eq-eqb, ne_eqb, eqb-true}
+use borrow.Author.Tests.{eq-eqb, ne_eqb}
 use Rattle.rules.specs.Sizes.{LISTS, SLOTS}
 use Rattle.rules.specs.AddressSets.{member}
-use Rattle.rules.specs.Tells.{Tells}
 use Rattle.rules.proofs.Tables.{by_eqb}
 use Rattle.rules.proofs.Sets.{member-same, member-skip}
-use Rattle.links.specs.Links.{next_in, prev_in, nowhere}
+use Rattle.links.specs.Links.{next_in, prev_in}
 use Rattle.links.specs.Follow.{follow, lists}
 use Rattle.scopes.specs.Sound.{Ringed}
-use Rattle.soundness.specs.Parts.{Below, owner_of, round, mark, last_of, Marks, RingedAt, MarkedAt}
-use Rattle.soundness.proofs.Walks.{follow-on, follow-end, held_of, tells-of, goes-round, ringed-at}
+use Rattle.soundness.specs.Parts.{Below, owner_of, goes, round, mark, last_of, Marks, RingedAt, MarkedAt}
+use Rattle.soundness.proofs.Walks.{follow-on, follow-end, goes-zero, goes_on, goes-back, goes-off, goes-astray, goes-home, held_of, tells-of, goes-round, ringed-at}
 
 -- ---- one list
 
@@ -56,17 +55,56 @@ mark-at (x ∷ xs) i m a h =
     there : a ≢ x → picked (member a xs) i (get_or (set m x i) a 0) ≡ picked (member a (x ∷ xs)) i (get_or m a 0)
     there n = ap (picked (member a xs) i) (get_or-set_other m x a i 0 n) ∙ ap (λ (b : Bool). picked b i (get_or m a 0)) (sym (member-skip a x xs n))
 
--- the step as the code takes it, and the end
-pub mark_on : (n : ℕ) (next : ℕ → ℕ) (k c d i : ℕ) (m : List ℕ) → 0 < k → c < n → d ≡ next c → mark (follow n k next c) i m ≡ mark (follow n (k - 1) next d) i (set m c i)
-mark_on n next k c d i m pos h e =
-    let q : k ≡ suc (k - 1) = omega arith in
-    ap (λ (j : ℕ). mark (follow n j next c) i m) q
-    ∙ ap (λ (xs : List ℕ). mark xs i m) (follow-on n next (k - 1) c h)
-    ∙ mark-one c (follow n (k - 1) next (next c)) i m
-    ∙ ap (λ (x : ℕ). mark (follow n (k - 1) next x) i (set m c i)) (sym e)
+-- the walk round list i, of which n more steps are allowed: it is at c, and came there from p
+pub record Round (size m : ℕ) (links owner : List ℕ) (i : ℕ) (first : List ℕ) (n p c : ℕ) (marks : List ℕ) : Type 0 where
+  pub goes : round size m links owner i ≡ goes size (next_in links) (prev_in (size + m) links) (owner_of owner) i (size + i) n p c
+  pub marked : mark (lists size links i) i first ≡ mark (follow size n (next_in links) c) i marks
 
-pub mark-end : (n : ℕ) (next : ℕ → ℕ) (k c i : ℕ) (m : List ℕ) → n ≤ c → mark (follow n k next c) i m ≡ m
-mark-end n next k c i m h = ap (λ (xs : List ℕ). mark xs i m) (follow-end n next k c h) ∙ mark-none i m
+pub round-begins : (size m : ℕ) (links owner : List ℕ) (i : ℕ) (first : List ℕ) (n : ℕ) → n ≡ suc size → Round size m links owner i first n (size + i) (next_in links (size + i)) first
+unfolding lists
+round-begins size m links owner i first n e = record { goes = rw e; marked = rw e }
+
+module _ {size m : ℕ} {links owner : List ℕ} {i : ℕ} {first : List ℕ} {n p c : ℕ} {marks : List ℕ} (r : Round size m links owner i first n p c marks) where
+  abbrev next : ℕ → ℕ
+  next = next_in links
+
+  abbrev prev : ℕ → ℕ
+  prev = prev_in (size + m) links
+
+  abbrev own : ℕ → ℕ
+  own = owner_of owner
+
+  pub round-on : (k : ℕ) → n ≡ suc k → c < size → prev c ≡ p → own c ≡ i → Round size m links owner i first k c (next c) (set marks c i)
+  round-on k e l b o =
+      record {
+        goes = r.goes ∙ rw e (goes_on size next prev own i (size + i) k p c l b o);
+        marked = r.marked ∙ rw (e, follow-on size next k c l) (mark-one c (follow size k next (next c)) i marks);
+      }
+
+  -- the list that was walked is marked
+  pub round-marks : size ≤ c → marks ≡ mark (lists size links i) i first
+  round-marks l = sym (r.marked ∙ rw (follow-end size next n c l) (mark-none i marks))
+
+  -- too many steps
+  pub round-long : n ≡ 0 → false ≡ round size m links owner i
+  round-long e = sym (r.goes ∙ rw e (goes-zero size next prev own i (size + i) p c))
+
+  -- another step: home, astray, backwards, to a slot of another
+  module _ (h : 0 < n) where
+    one : n ≡ suc (n - 1)
+    one = omega arith
+
+    pub round-home : size ≤ c → c ≡ size + i → eqb (prev (size + i)) p ≡ round size m links owner i
+    round-home l b = sym (r.goes ∙ rw one (goes-home size next prev own i (size + i) (n - 1) p c l b))
+
+    pub round-astray : size ≤ c → c ≢ size + i → eqb c (size + i) ≡ round size m links owner i
+    round-astray l b = ne_eqb c (size + i) b ∙ sym (r.goes ∙ rw one (goes-astray size next prev own i (size + i) (n - 1) p c l b))
+
+    pub round-back : c < size → prev c ≢ p → false ≡ round size m links owner i
+    round-back l b = sym (r.goes ∙ rw one (goes-back size next prev own i (size + i) (n - 1) p c l b))
+
+    pub round-off : c < size → prev c ≡ p → own c ≢ i → false ≡ round size m links owner i
+    round-off l b o = sym (r.goes ∙ rw one (goes-off size next prev own i (size + i) (n - 1) p c l b o))
 
 -- ---- the first k lists
 
@@ -164,22 +202,3 @@ module _ (links owner : List ℕ) (s : Ringed links owner) where
 
   pub marks-of : Below SLOTS (MarkedAt SLOTS LISTS links owner)
   marks-of a ha = ringed-marked SLOTS LISTS links owner s.tells a ha (ringed-at SLOTS LISTS links owner s.rings s.tells s.most a ha)
-
--- ---- an address, as the code tests it
-
-module _ (n m : ℕ) (links owner : List ℕ) (a o k : ℕ) (oe : o ≡ owner_of owner a) (ke : k ≡ last_of (lists n links) m m a) where
-  pub mark-wrong : k ≢ o → MarkedAt n m links owner a → ⊥
-  mark-wrong ne h = ne (ke ∙ h.last ∙ sym oe)
-
-  pub mark-listed : k ≡ o → o ≢ m → MarkedAt n m links owner a
-  mark-listed e ne = record { last = sym ke ∙ e ∙ oe; off = λ q. absurd (ne (oe ∙ q)) }
-
-  pub mark-next : (h : ℕ) → o ≡ m → h ≡ next_in links a → h ≢ nowhere → MarkedAt n m links owner a → ⊥
-  mark-next h z e ne r = ne (e ∙ (r.off (sym oe ∙ z)).0)
-
-  pub mark-last : (h b : ℕ) → k ≡ o → o ≡ m → h ≡ next_in links a → h ≡ nowhere → b ≡ prev_in (n + m) links a → Tells (eqb b nowhere) (MarkedAt n m links owner a)
-  mark-last h b ko z e q f =
-      record {
-        holds = λ t. record { last = sym ke ∙ ko ∙ oe; off = λ _. (sym e ∙ q, sym f ∙ eqb-true _ _ t) };
-        shows = λ s. eq-eqb _ _ (f ∙ (s.off (sym oe ∙ z)).1);
-      }

@@ -23,10 +23,6 @@ pub met-none : (bindings places : List ℕ) → Met bindings places (replicate B
 met-none bindings places = record { kept = λ j l. absurd (omega arith); noted = λ j l. absurd (omega arith); only = λ k i e. clash e (no-bit k i) }
 
 module _ (bindings places scopes : List ℕ) (n k : ℕ) (m : Met bindings places scopes n) (p : Place bindings (get_or places (name_of bindings n) 0) n k) where
-  -- a scope that is met at the place bound the name before
-  pub repeated : (count : ℕ) → n < count → bit (get_or scopes k 0) (scope_of bindings n) ≡ true → Distinct bindings count → ⊥
-  repeated count l e d = let w = m.only k (scope_of bindings n) e in d w.0 n w.1 l (sym w.2) (sym (w.3 ∙ p.named))
-
   -- an earlier one of the same name has the same place
   shared : (j : ℕ) → j < n → name_of bindings j ≡ name_of bindings n → get_or places (name_of bindings j) 0 ≡ k
   shared j l e =

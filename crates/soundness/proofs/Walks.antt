@@ -1,9 +1,9 @@
 -- A walk round each list, with a bound on its steps, tells whether the cells hold the lists that are read off them. Assumes nothing.
-use mathlib.Core.Path.{◌≡◌, refl, sym, ap, ◌∙◌, subst}
+use mathlib.Core.Path.{◌≡◌, refl, sym, ◌∙◌, subst}
 use mathlib.Core.Logic.{◌≢◌, by_cases}
 use mathlib.Core.Bool.{Bool, true, false}
 use mathlib.Core.List.{List, [], ◌∷◌}
-use Prim.Native.Nat.{ℕ, zero, suc, ◌+◌, ◌-◌, ◌≤◌, ◌<◌}
+use Prim.Native.Nat.{ℕ, zero, suc, ◌+◌, ◌≤◌, ◌<◌}
 use native.Mathlib.Decide.{ℕ_discrete, dec_lt}
 use native.Mathlib.Omega.{arith}
 use lib.Dec.{eqb}
@@ -41,53 +41,29 @@ module _ (n : ℕ) (next prev owner : ℕ → ℕ) (i e : ℕ) where
   abbrev pub Goes : ℕ → ℕ → ℕ → Bool
   Goes k p c = goes n next prev owner i e k p c
 
-  goes-zero : (p c : ℕ) → Goes 0 p c ≡ false
+  pub goes-zero : (p c : ℕ) → Goes 0 p c ≡ false
   unfolding goes
   goes-zero p c = refl
 
-  goes_on : (k p c : ℕ) → c < n → prev c ≡ p → owner c ≡ i → Goes (suc k) p c ≡ Goes k c (next c)
+  pub goes_on : (k p c : ℕ) → c < n → prev c ≡ p → owner c ≡ i → Goes (suc k) p c ≡ Goes k c (next c)
   unfolding goes
   goes_on k p c h b o = rw (lt-ltb c n h, eq-eqb _ _ b, eq-eqb _ _ o, goes)
 
-  goes_back_lem : (k p c : ℕ) → c < n → prev c ≢ p → Goes (suc k) p c ≡ false
+  pub goes-back : (k p c : ℕ) → c < n → prev c ≢ p → Goes (suc k) p c ≡ false
   unfolding goes
-  goes_back_lem k p c h b = rw (lt-ltb c n h, ne_eqb _ _ b, goes)
+  goes-back k p c h b = rw (lt-ltb c n h, ne_eqb _ _ b, goes)
 
-  goes-off : (k p c : ℕ) → c < n → prev c ≡ p → owner c ≢ i → Goes (suc k) p c ≡ false
+  pub goes-off : (k p c : ℕ) → c < n → prev c ≡ p → owner c ≢ i → Goes (suc k) p c ≡ false
   unfolding goes
   goes-off k p c h b o = rw (lt-ltb c n h, eq-eqb _ _ b, ne_eqb _ _ o, goes)
 
-  goes-astray : (k p c : ℕ) → n ≤ c → c ≢ e → Goes (suc k) p c ≡ false
+  pub goes-astray : (k p c : ℕ) → n ≤ c → c ≢ e → Goes (suc k) p c ≡ false
   unfolding goes
   goes-astray k p c h b = rw (le-ltb c n h, ne_eqb _ _ b, goes)
 
-  goes-home : (k p c : ℕ) → n ≤ c → c ≡ e → Goes (suc k) p c ≡ eqb (prev e) p
+  pub goes-home : (k p c : ℕ) → n ≤ c → c ≡ e → Goes (suc k) p c ≡ eqb (prev e) p
   unfolding goes
   goes-home k p c h b = rw (le-ltb c n h, eq-eqb _ _ b, goes)
-
-  -- ---- the steps as the code takes them: k falls
-
-  module _ (k p c : ℕ) (pos : 0 < k) where
-    at_cut : Goes k p c ≡ Goes (suc (k - 1)) p c
-    at_cut = let q : k ≡ suc (k - 1) = omega arith in ap (λ (m : ℕ). Goes m p c) q
-
-    pub on-at : (b o d : ℕ) → c < n → b ≡ prev c → b ≡ p → o ≡ owner c → o ≡ i → d ≡ next c → Goes k p c ≡ Goes (k - 1) c d
-    on-at b o d h bq bp oq oi dq = at_cut ∙ goes_on (k - 1) p c h (sym bq ∙ bp) (sym oq ∙ oi) ∙ ap (Goes (k - 1) c) (sym dq)
-
-    pub back_at : (b : ℕ) → c < n → b ≡ prev c → b ≢ p → Goes k p c ≡ false
-    back_at b h bq bp = at_cut ∙ goes_back_lem (k - 1) p c h (λ q. bp (bq ∙ q))
-
-    pub off_at : (b o : ℕ) → c < n → b ≡ prev c → b ≡ p → o ≡ owner c → o ≢ i → Goes k p c ≡ false
-    off_at b o h bq bp oq oi = at_cut ∙ goes-off (k - 1) p c h (sym bq ∙ bp) (λ q. oi (oq ∙ q))
-
-    pub astray-at : n ≤ c → c ≢ e → Goes k p c ≡ false
-    astray-at h q = at_cut ∙ goes-astray (k - 1) p c h q
-
-    pub home_at : (b : ℕ) → n ≤ c → c ≡ e → b ≡ prev e → Goes k p c ≡ eqb b p
-    home_at b h q bq = at_cut ∙ goes-home (k - 1) p c h q ∙ ap (λ (x : ℕ). eqb x p) (sym bq)
-
-  pub gone : (k p c : ℕ) → k ≤ 0 → Goes k p c ≡ false
-  gone k p c h = let z : k ≡ 0 = omega arith in ap (λ (m : ℕ). Goes m p c) z ∙ goes-zero p c
 
   -- ---- the whole walk
 
@@ -110,7 +86,7 @@ module _ (n : ℕ) (next prev owner : ℕ → ℕ) (i e : ℕ) where
         own = each-cons (λ x. owner x ≡ i) c (follow n k next (next c)) o r.own;
       }))
       (λ o. clash h (goes-off k p c l b o)))
-      (λ b. clash h (goes_back_lem k p c l b)))
+      (λ b. clash h (goes-back k p c l b)))
       (λ l. by_cases (ℕ_discrete c e)
       (λ b. subst (Rung p) (sym (follow-end n next (suc k) c (omega arith)))
       (record { links = (q ∙ b, eqb-true _ _ (sym (goes-home k p c (omega arith) b) ∙ h)); addr = each_nil (λ x. x < n); own = each_nil (λ x. owner x ≡ i) }))

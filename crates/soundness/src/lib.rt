@@ -18,17 +18,9 @@ pub fn is_sound(s: Scopes) -> bool
     ensures tells { Tells result (Sound s) }
     ensures tells_2 { Tells result (Good s) }
 {
-    if !slots::halves::are_sound(&s.halves, s.segments, s.head) {
-        return false;
-    }
-    if !rings::ringed(&s.links, &s.owner) {
-        return false;
-    }
-    if !owners::owned(&s.halves, &s.owner, &s.live, s.size) {
-        return false;
-    }
-    if !parents::rooted(&s.live, &s.dangled, &s.parent, &s.number, s.top) {
-        return false;
-    }
-    bindings::named(&s.bindings, &s.live, s.count)
+    slots::halves::are_sound(&s.halves, s.segments, s.head)
+        && rings::ringed(&s)
+        && owners::owned(&s)
+        && parents::rooted(&s)
+        && bindings::named(&s)
 }

@@ -6,50 +6,22 @@ ghost use Rattle.rules.specs.Tells.{Tells};
 ghost use Rattle.scopes.specs.Sound.{Owned};
 ghost use Rattle.soundness.specs.Parts.{OwnedAt};
 
-use rules::{HALVES, SCOPES, SLOTS};
-use scopes::open;
+use rules::SLOTS;
+use scopes::Scopes;
 
-pub fn owned_at<'a>(
-    halves: &'a [u64; HALVES],
-    owner: &'a [u8; SLOTS],
-    live: &'a [bool; SCOPES],
-    size: usize,
-    a: usize,
-) -> bool
+pub fn owned_at(s: &Scopes, a: usize) -> bool
     requires { a < SLOTS }
-    ensures { Tells result (OwnedAt halves.now owner.now live.now size a) }
+    ensures { Tells result (OwnedAt s.now.halves s.now.owner s.now.live s.now.size a) }
 {
-    let t = slots::halves::occupied(halves, a);
-    let o = open::wide8(owner[a]);
-    if SCOPES <= o {
-        return !t;
+    let taken = slots::halves::occupied(&s.halves, a);
+    match s.live.get(usize::from(s.owner[a])) {
+        None => !taken,
+        Some(live) => taken && *live && a < s.size,
     }
-    if !t {
-        return false;
-    }
-    if !live[o] {
-        return false;
-    }
-    a < size
 }
 
-pub fn owned<'a>(
-    halves: &'a [u64; HALVES],
-    owner: &'a [u8; SLOTS],
-    live: &'a [bool; SCOPES],
-    size: usize,
-) -> bool
-    ensures { Tells result (Owned halves.now owner.now live.now size) }
+pub fn owned(s: &Scopes) -> bool
+    ensures { Tells result (Owned s.now.halves s.now.owner s.now.live s.now.size) }
 {
-    if SLOTS < size {
-        return false;
-    }
-    let mut a: usize = 0;
-    while a < SLOTS {
-        if !owned_at(halves, owner, live, size, a) {
-            return false;
-        }
-        a += 1;
-    }
-    true
+    s.size <= SLOTS && (0..SLOTS).all(|a| owned_at(s, a))
 }

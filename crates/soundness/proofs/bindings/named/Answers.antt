@@ -1,24 +1,20 @@
 -- `bindings::named` meets its contract. Assumes nothing.
+use borrow.Author.Rules.{rules}
 use native.Mathlib.Omega.{arith}
+use Rattle.rules.specs.Tells.{Tells}
 use Rattle.rules.proofs.Tells.{tells_as}
-use Rattle.soundness.proofs.Tested.{no, fails}
-use Rattle.soundness.proofs.Climbs.{live_below}
-use Rattle.soundness.proofs.Keys.{named-of, named_live, named-distinct}
+use Rattle.soundness.proofs.Tested.{fails-with}
+use Rattle.soundness.proofs.Keys.{Listed, named-of, listed-of, named-distinct}
 use Rattle.soundness.proofs.bindings.named.Goals as goal
 
-pub returns-then-count-gt-BINDINGS : goal.returns-then-count-gt-BINDINGS
-returns-then-count-gt-BINDINGS c = no (λ q. omega (arith, q.most, c.if-count-gt-BINDINGS.true))
+pub returns-else-scopes_live : goal.returns-else-scopes_live
+returns-else-scopes_live c =
+    let s = c.args.s.now in
+    let listed : Tells c.if-clear_from.value (Listed s.bindings s.live s.count (search rules)) = grind arith in
+    fails-with listed c.if-scopes_live.false (listed-of s.bindings s.live s.count (search rules))
 
-pub returns-then-not-clear_from : goal.returns-then-not-clear_from
-returns-then-not-clear_from c = no (λ q. fails c.clear_from.ensures c.if-not-clear_from.true q.clear)
-
-pub returns-then-not-scopes_live : goal.returns-then-not-scopes_live
-returns-then-not-scopes_live c = no (λ q. fails c.scopes_live.ensures c.if-not-scopes_live.true (named_live c.args.bindings.now c.args.live.now c.args.count c.requires.0 q))
-
-pub distinct-requires : goal.distinct-requires
-distinct-requires c = (c.if-count-gt-BINDINGS.false, λ j l. live_below c.args.live.now c.requires.1 _ (c.scopes_live.ensures.holds c.if-not-scopes_live.false j l))
-
-pub returns : goal.returns
-returns c =
-    let by = named-of c.args.bindings.now c.args.live.now c.args.count c.requires.0 c.if-count-gt-BINDINGS.false (c.clear_from.ensures.holds c.if-not-clear_from.false) (c.scopes_live.ensures.holds c.if-not-scopes_live.false) in
-    tells_as c.distinct.ensures by (named-distinct c.args.bindings.now c.args.live.now c.args.count c.requires.0)
+pub returns-then-scopes_live : goal.returns-then-scopes_live
+returns-then-scopes_live c =
+    let s = c.args.s.now in
+    let listed : Tells c.if-clear_from.value (Listed s.bindings s.live s.count (search rules)) = grind arith in
+    tells_as c.distinct.ensures (named-of s.bindings s.live s.count (search rules) (listed.holds c.if-scopes_live.true)) (named-distinct s.bindings s.live s.count (search rules))

@@ -2,8 +2,5 @@ use Rattle.scopes.specs.Sound.{LeadsToRoot}
 use Rattle.soundness.specs.Parts.{Known}
 use Rattle.soundness.proofs.parents.learn.Given as goal
 
-abbrev pub invariant-loop-n : goal.invariant-loop-n
-invariant-loop-n l = LeadsToRoot l.live l.parent l.k × Known l.live l.parent l.known
-
-abbrev pub decreases-loop-n : goal.decreases-loop-n
-decreases-loop-n l = l.n
+abbrev pub invariant-loop-step : goal.invariant-loop-step
+invariant-loop-step l = record { leads : LeadsToRoot l.s.live l.s.parent l.k; known : Known l.s.live l.s.parent l.known }
