@@ -1,4 +1,3 @@
 pub mod Entered
 pub mod Drained
 pub mod Unique
-pub mod Replies

@@ -1,33 +1,36 @@
 -- Any two results that an entry's promise admits are equal, as structs: one law, and what it says of each kind of result. The facts `Typed`
 -- are those of the declared type, which every state has. Assumes nothing.
-use mathlib.Core.Path.{◌≡◌, refl, sym, ap, ◌∙◌}
+use mathlib.Core.Path.{◌≡◌, sym, ap, ◌∙◌}
 use mathlib.Core.Option.{Option}
 use mathlib.Core.List.{List}
 use Prim.Native.Nat.{ℕ}
-use Rattle.rules.specs.Notation.{Answer, given, refused}
+use Rattle.std.specs.Prelude as code
+use Rattle.std.specs.Prelude.{Result}
+use Rattle.rules.specs.Notation.{Answer}
 use Rattle.rules.specs.Needs as need
-use Rattle.scopes.specs.View.{view}
+use Rattle.rules.specs.Refusals.{says}
+use Rattle.rules.specs.declared.refusal.Refusal.{Refusal}
+use Rattle.rules.proofs.Says.{says-one}
+use Rattle.slots.specs.declared.SlotAddress.{SlotAddress}
+use Rattle.scopes.specs.View.{view, id_of, bound_to, Seen}
 use Rattle.scopes.specs.Sound.{Sound, Typed}
+use Rattle.scopes.specs.declared.Bound.{Bound}
+use Rattle.scopes.specs.declared.ScopeId.{ScopeId}
 use Rattle.scopes.specs.declared.Scopes.{Scopes}
-use Rattle.scopes.specs.declared.Outcome.{Outcome}
-use Rattle.scopes.specs.declared.Reply.{Reply}
 use Rattle.scopes.proofs.Unique.{same-state}
 use Rattle.soundness.proofs.Agrees.{good-sound}
+use Rattle.needs.specs.Kinds.{address_of, run_of}
+use Rattle.needs.specs.Answers.{slot_of, output_of}
+use Rattle.needs.specs.declared.Address.{Address}
 use Rattle.needs.specs.declared.Need.{Need}
-use Rattle.allocations.specs.declared.AddressOutcome.{AddressOutcome}
-use Rattle.allocations.specs.declared.RunOutcome.{RunOutcome}
-use Rattle.allocations.specs.declared.SlotOutcome.{SlotOutcome}
-use Rattle.allocations.specs.declared.OutputOutcome.{OutputOutcome}
-use Rattle.allocations.specs.declared.FreeOutcome.{FreeOutcome}
-use Rattle.allocations.specs.Outcomes.{SeenState, SeenBoth}
-use Rattle.allocations.proofs.Unique.{Proper, admits-address, admits-run, admits-slot, admits-output, admits-free}
-use Rattle.allocator.specs.Replies.{Value, seen_reply}
-use Rattle.allocator.specs.Entries.{Checked, turned, taken, Call, Asked, AddressCall, RunCall, SlotCall, OutputCall, FreeCall}
-use Rattle.allocator.specs.Drained.{SeenDrain, drain_says, seen_drain, DrainCall}
-use Rattle.allocator.specs.declared.drain.DrainAnswer.{DrainAnswer}
-use Rattle.allocator.specs.declared.drain.DrainAnswer.TheVariants.{Count, Refused}
-use Rattle.allocator.specs.declared.drain.DrainOutcome.{DrainOutcome}
-use Rattle.allocator.proofs.Replies.{same-reply}
+use Rattle.needs.specs.declared.Output.{Output}
+use Rattle.needs.specs.declared.Run.{Run}
+use Rattle.needs.proofs.Unique.{address-one, slot-one, output-one, run-says-one}
+use Rattle.allocations.specs.Outcomes.{SeenBoth}
+use Rattle.allocations.proofs.Unique.{Proper, admits, admits-both}
+use Rattle.allocator.specs.Entries.{Checked, turned, taken, seen, Call, Asked, AddressCall, RunCall, NeedCall, SlotCall, OutputCall, FreeCall}
+use Rattle.allocator.specs.Drained.{SeenDrain, seen_drain, DrainCall}
+use Rattle.allocator.specs.declared.Outcome.{Outcome}
 
 -- where the state isn't sound both are the refusal, and where it is, what the rule gives tells them
 pub checked-one : {R : Type 0} {s : Scopes} {refusal : R} {Gives : R → Type 0} {r q : R} → (Gives r → Gives q → r ≡ q) → Checked s refusal Gives r → Checked s refusal Gives q → r ≡ q
@@ -36,15 +39,40 @@ checked-one one (turned n e) (taken g k) = absurd (n g)
 checked-one one (taken g h) (turned m f) = absurd (m g)
 checked-one one (taken g h) (taken f k) = one h k
 
-pub call-one : (s : Scopes) (x : SeenState Value) (r q : Outcome) → Typed r.state → Typed q.state → Call s x r → Call s x q → r ≡ q
-call-one s x r q tr tq = checked-one λ h k.
-    let e : seen_reply r ≡ seen_reply q = h.0 ∙ sym k.0 in
-    let t : r.state ≡ q.state = same-state r.state q.state h.1 k.1 tr tq (ap (λ (y : SeenState Value). y.next) e) in
-    let a : r.reply ≡ q.reply = same-reply r.reply q.reply (ap (λ (y : SeenState Value). y.says) e) in
-    λ i. record { state = t i; reply = a i }
+abbrev proper : {t : Scopes} → Typed t → Sound t → Proper t
+proper h k = record { typed = h; sound = k }
 
-pub asked-one : (s : Scopes) (x : Answer Value) (r q : Reply) → Asked s x r → Asked s x q → r ≡ q
-asked-one s x r q = checked-one (λ e f. same-reply r q (e ∙ sym f))
+-- ---- a state and an answer: values are told by what they are in the rules
+
+module _ {T A : Type 0} (f : T → A) where
+  -- two results with this answer each
+  told : (r q : Outcome T) (x : Seen A) → (says f r.answer ≡ says f q.answer → r.answer ≡ q.answer) → Typed r.state → Typed q.state
+      → (seen f r ≡ x) × Sound r.state → (seen f q ≡ x) × Sound q.state → r ≡ q
+  told r q x one tr tq h k =
+      let e = admits f x (r.state, r.answer) (q.state, q.answer) one (proper tr h.1) (proper tq k.1) h.0 k.0 in
+      λ i. record { state = (e i).0; answer = (e i).1 }
+
+  module _ (each : (v w : T) → f v ≡ f w → v ≡ w) where
+    pub call-one : (s : Scopes) (x : Seen A) (r q : Outcome T) → Typed r.state → Typed q.state → Call f s x r → Call f s x q → r ≡ q
+    call-one s x r q tr tq = checked-one (told r q x (says-one f each r.answer q.answer) tr tq)
+
+    pub asked-one : (s : Scopes) (x : Answer A) (r q : Result T Refusal) → Asked f s x r → Asked f s x q → r ≡ q
+    asked-one s x r q = checked-one (λ e g. says-one f each r q (e ∙ sym g))
+
+    pub need-call-one : (s : Scopes) (d : Need) (x : SeenBoth A) (r q : Outcome T × Need) → Typed r.0.state → Typed q.0.state → NeedCall f s d x r → NeedCall f s d x q → r ≡ q
+    need-call-one s d x r q tr tq =
+        checked-one
+        (λ h k.
+        let e = admits-both f x ((r.0.state, r.1), r.0.answer) ((q.0.state, q.1), q.0.answer) (says-one f each r.0.answer q.0.answer) (proper tr h.1) (proper tq k.1) h.0 k.0 in
+        λ i. (record { state = (e i).0.0; answer = (e i).1 }, (e i).0.1))
+
+-- ---- what the calls of `scope` give is told so
+
+pub id-one : (i j : ScopeId) → id_of i ≡ id_of j → i ≡ j
+id-one i j e = λ t. record { index = (e t).index; number = (e t).number }
+
+pub bound-one : (b d : Bound) → bound_to b ≡ bound_to d → b ≡ d
+bound-one b d e = λ t. record { address = record { 0 = (e t).0 }; handle = record { 0 = (e t).1 } }
 
 -- ---- "All leave state .. unchanged": where the rule's next state is the one that came in, so is the record
 
@@ -56,40 +84,28 @@ unchanged {s = s} {r = r} state ts tr e same (taken g h) =
 
 -- ---- addresses, runs, needs
 
-abbrev proper : {t : Scopes} → Typed t → Sound t → Proper t
-proper h k = record { typed = h; sound = k }
+pub address-call-one : (s : Scopes) (x : Seen need.Address) (r q : Outcome Address) → Typed r.state → Typed q.state → AddressCall s x r → AddressCall s x q → r ≡ q
+address-call-one = call-one address_of address-one
 
-pub address-call-one : (s : Scopes) (x : SeenState need.Address) (r q : AddressOutcome) → Typed r.state → Typed q.state → AddressCall s x r → AddressCall s x q → r ≡ q
-address-call-one s x r q tr tq = checked-one (λ h k. admits-address x r q (proper tr h.1) (proper tq k.1) h.0 k.0)
+pub run-call-one : (s : Scopes) (x : Seen (List need.Address)) (r q : Outcome Run) → Typed r.state → Typed q.state → RunCall s x r → RunCall s x q → r ≡ q
+run-call-one s x r q tr tq = checked-one (λ h k. told run_of r q x (run-says-one r.answer q.answer h.1 k.1) tr tq (h.0, h.2) (k.0, k.2))
 
-pub run-call-one : (s : Scopes) (x : SeenState (List need.Address)) (r q : RunOutcome) → Typed r.state → Typed q.state → RunCall s x r → RunCall s x q → r ≡ q
-run-call-one s x r q tr tq = checked-one (λ h k. admits-run x r q (proper tr h.2) (proper tq k.2) h.1 k.1 h.0 k.0)
+pub slot-call-one : (s : Scopes) (d : Need) (x : SeenBoth (Option ℕ)) (r q : Outcome (code.Option SlotAddress) × Need) → Typed r.0.state → Typed q.0.state → SlotCall s d x r → SlotCall s d x q → r ≡ q
+slot-call-one = need-call-one slot_of slot-one
 
-pub slot-call-one : (s : Scopes) (d : Need) (x : SeenBoth (Option ℕ)) (r q : SlotOutcome) → Typed r.state → Typed q.state → SlotCall s d x r → SlotCall s d x q → r ≡ q
-slot-call-one s d x r q tr tq = checked-one (λ h k. admits-slot x r q (proper tr h.1) (proper tq k.1) h.0 k.0)
+pub output-call-one : (s : Scopes) (d : Need) (x : SeenBoth need.Output) (r q : Outcome Output × Need) → Typed r.0.state → Typed q.0.state → OutputCall s d x r → OutputCall s d x q → r ≡ q
+output-call-one = need-call-one output_of output-one
 
-pub output-call-one : (s : Scopes) (d : Need) (x : SeenBoth need.Output) (r q : OutputOutcome) → Typed r.state → Typed q.state → OutputCall s d x r → OutputCall s d x q → r ≡ q
-output-call-one s d x r q tr tq = checked-one (λ h k. admits-output x r q (proper tr h.1) (proper tq k.1) h.0 k.0)
-
-pub free-call-one : (s : Scopes) (d : Need) (x : SeenBoth (Unit {0})) (r q : FreeOutcome) → Typed r.state → Typed q.state → FreeCall s d x r → FreeCall s d x q → r ≡ q
-free-call-one s d x r q tr tq = checked-one (λ h k. admits-free x r q (proper tr h.1) (proper tq k.1) h.0 k.0)
+pub free-call-one : (s : Scopes) (d : Need) (x : SeenBoth (Unit {0})) (r q : Outcome (Unit {0}) × Need) → Typed r.0.state → Typed q.0.state → FreeCall s d x r → FreeCall s d x q → r ≡ q
+free-call-one = need-call-one (λ u. u) (λ v w e. e)
 
 -- ---- drain: the numbers that were lent too
 
-abbrev answer_from : Answer ℕ → DrainAnswer
-answer_from (given n) = Count n
-answer_from (refused n) = Refused n
-
-back : (a : DrainAnswer) → answer_from (drain_says a) ≡ a
-back (Count n) = refl
-back (Refused n) = refl
-
-pub drain-call-one : (s : Scopes) (lent : List ℕ) (x : SeenDrain) (r q : DrainOutcome × List ℕ) → Typed r.0.state → Typed q.0.state → DrainCall s lent x r → DrainCall s lent x q → r ≡ q
-drain-call-one s lent x r q tr tq = checked-one one
-  where
-    one : (seen_drain r ≡ x) × Sound r.0.state → (seen_drain q ≡ x) × Sound q.0.state → r ≡ q
-    one h k =
-        let e : seen_drain r ≡ seen_drain q = h.0 ∙ sym k.0 in
-        let t : r.0.state ≡ q.0.state = same-state r.0.state q.0.state h.1 k.1 tr tq (ap (λ (y : SeenDrain). y.next) e) in
-        let a : r.0.answer ≡ q.0.answer = sym (back r.0.answer) ∙ ap (λ (y : SeenDrain). answer_from y.says) e ∙ back q.0.answer in
-        λ i. (record { state = t i; answer = a i }, (e i).lent)
+pub drain-call-one : (s : Scopes) (lent : List ℕ) (x : SeenDrain) (r q : Outcome ℕ × List ℕ) → Typed r.0.state → Typed q.0.state → DrainCall s lent x r → DrainCall s lent x q → r ≡ q
+drain-call-one s lent x r q tr tq =
+    checked-one
+    (λ h k.
+    let e : seen_drain r ≡ seen_drain q = h.0 ∙ sym k.0 in
+    let t : r.0.state ≡ q.0.state = same-state r.0.state q.0.state h.1 k.1 tr tq (ap (λ (y : SeenDrain). y.next) e) in
+    let a : r.0.answer ≡ q.0.answer = says-one (λ n. n) (λ v w g. g) r.0.answer q.0.answer (ap (λ (y : SeenDrain). y.says) e) in
+    λ i. (record { state = t i; answer = a i }, (e i).lent))

@@ -2,18 +2,13 @@
 use Rattle.std.specs.Prelude.{◌≡◌, List, ℕ, length, leb}
 use Rattle.rules.specs.Notation.{Answer, given, refused, provided◌then◌else◌}
 use Rattle.rules.specs.Entries.{over_front}
+use Rattle.rules.specs.Refusals.{says}
 use Rattle.rules.specs.Scopes as rule
 use Rattle.scopes.specs.View.{view}
 use Rattle.scopes.specs.Sound.{Sound}
 use Rattle.scopes.specs.declared.Scopes.{Scopes}
-use Rattle.allocator.specs.Entries.{Checked}
-use Rattle.allocator.specs.declared.drain.DrainAnswer.{DrainAnswer}
-use Rattle.allocator.specs.declared.drain.DrainAnswer.TheVariants.{Count, Refused}
-use Rattle.allocator.specs.declared.drain.DrainOutcome.{DrainOutcome}
-
-abbrev pub drain_says : DrainAnswer → Answer ℕ
-drain_says (Count n) = given n
-drain_says (Refused n) = refused n
+use Rattle.allocator.specs.Entries.{Checked, unsound}
+use Rattle.allocator.specs.declared.Outcome.{Outcome}
 
 -- the next state, what is answered, and the lent numbers afterwards
 pub record SeenDrain : Type 0 where
@@ -28,8 +23,8 @@ drained c lent =
     then record { next = (rule.drain_dangling c).1; says = given (length (rule.drain_dangling c).0); lent = over_front (rule.drain_dangling c).0 lent }
     else record { next = c; says = refused 17; lent = lent }
 
-abbrev pub seen_drain : DrainOutcome × List ℕ → SeenDrain
-seen_drain x = record { next = view x.0.state; says = drain_says x.0.answer; lent = x.1 }
+abbrev pub seen_drain : Outcome ℕ × List ℕ → SeenDrain
+seen_drain x = record { next = view x.0.state; says = says (λ n. n) x.0.answer; lent = x.1 }
 
-abbrev pub DrainCall : Scopes → List ℕ → SeenDrain → DrainOutcome × List ℕ → Type 0
-DrainCall s lent x r = Checked s (record { state = s; answer = Refused 29 }, lent) (λ o. (seen_drain o ≡ x) × Sound o.0.state) r
+abbrev pub DrainCall : Scopes → List ℕ → SeenDrain → Outcome ℕ × List ℕ → Type 0
+DrainCall s lent x r = Checked s (unsound s, lent) (λ o. (seen_drain o ≡ x) × Sound o.0.state) r

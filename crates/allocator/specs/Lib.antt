@@ -1,3 +1,3 @@
 pub mod Entries
 pub mod Drained
-pub mod Replies
+pub mod Calls

@@ -6,64 +6,50 @@ ghost use Rattle.needs.specs.Kinds.{need_of};
 ghost use Rattle.allocations.specs.Outcomes.{allocation, allocation_by, output_allocation, output_by, freeing_need};
 ghost use Rattle.allocator.specs.Entries.{SlotCall, OutputCall, FreeCall};
 
-use allocations::{FreeOutcome, OutputOutcome, SlotOutcome, any};
+use crate::{Outcome, checked_with_need};
+use allocations::any;
 pub use needs::any::{addr, assign_from, into_addr, output, try_as_addr};
-use needs::{FreeAnswer, Need, OutputAnswer, SlotAnswer};
+use needs::{Need, Output};
 use scopes::Scopes;
-use slots::Place;
+use slots::{Place, SlotAddress};
 
 // Defer becomes a Scope address, Dangling becomes Local; the slot, or nothing.
-pub fn allocate(s: Scopes, need: Need) -> SlotOutcome
-    ensures { SlotCall s need (allocation (need_of need) (view s)) result }
+#[tactic(auto, unfolding(rules::specs::Slots::placing))]
+pub fn allocate(s: Scopes, need: &mut Need) -> Outcome<Option<SlotAddress>>
+    ensures { SlotCall s need.old (allocation (need_of need.old) (view s)) (result, need.new) }
 {
     allocate_by(s, need, Place::ByHead)
 }
 
 // The same, by this place.
-pub fn allocate_by(s: Scopes, need: Need, place: Place) -> SlotOutcome
-    ensures { SlotCall s need (allocation_by (placement_of place) (need_of need) (view s)) result }
+pub fn allocate_by(s: Scopes, need: &mut Need, place: Place) -> Outcome<Option<SlotAddress>>
+    ensures { SlotCall s need.old (allocation_by (placement_of place) (need_of need.old) (view s)) (result, need.new) }
 {
-    if !soundness::is_sound(s) {
-        return SlotOutcome {
-            state: s,
-            need,
-            answer: SlotAnswer::Refused(29),
-        };
-    }
-    any::allocate(s, need, place)
+    checked_with_need(s, need, |state, need| any::allocate(state, need, place)) // 29 before 4, 7
 }
 
 // As allocate, as output: keep, or discard.
-pub fn allocate_output(s: Scopes, need: Need) -> OutputOutcome
-    ensures { OutputCall s need (output_allocation (need_of need) (view s)) result }
+#[tactic(auto, unfolding(rules::specs::Slots::placing))]
+pub fn allocate_output(s: Scopes, need: &mut Need) -> Outcome<Output>
+    ensures { OutputCall s need.old (output_allocation (need_of need.old) (view s)) (result, need.new) }
 {
     allocate_output_by(s, need, Place::ByHead)
 }
 
 // The same, by this place.
-pub fn allocate_output_by(s: Scopes, need: Need, place: Place) -> OutputOutcome
-    ensures { OutputCall s need (output_by (placement_of place) (need_of need) (view s)) result }
+pub fn allocate_output_by(s: Scopes, need: &mut Need, place: Place) -> Outcome<Output>
+    ensures { OutputCall s need.old (output_by (placement_of place) (need_of need.old) (view s)) (result, need.new) }
 {
-    if !soundness::is_sound(s) {
-        return OutputOutcome {
-            state: s,
-            need,
-            answer: OutputAnswer::Refused(29),
-        };
-    }
-    any::allocate_output(s, need, place)
+    checked_with_need(
+        s,
+        need,
+        |state, need| any::allocate_output(state, need, place),
+    ) // 29 before 4, 7
 }
 
 // Its address is freed; the need is Freed.
-pub fn free_need(s: Scopes, need: Need) -> FreeOutcome
-    ensures { FreeCall s need (freeing_need (need_of need) (view s)) result }
+pub fn free_need(s: Scopes, need: &mut Need) -> Outcome<()>
+    ensures { FreeCall s need.old (freeing_need (need_of need.old) (view s)) (result, need.new) }
 {
-    if !soundness::is_sound(s) {
-        return FreeOutcome {
-            state: s,
-            need,
-            answer: FreeAnswer::Refused(29),
-        };
-    }
-    any::free_need(s, need)
+    checked_with_need(s, need, |state, need| any::free_need(state, need)) // 29 before 13, 12
 }

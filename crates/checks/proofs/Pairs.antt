@@ -1,27 +1,27 @@
 -- In an idle state the first slot is allocated; it is freed without dangling, and the state is idle again. Assumes nothing.
-use mathlib.Core.Path.{◌≡◌, refl, sym, ap, ◌∙◌}
+use mathlib.Core.Path.{◌≡◌, refl, ap, ◌∙◌}
 use mathlib.Core.Bool.{Bool, true, false, not}
 use mathlib.Core.Option.{Option, none, some}
 use mathlib.Core.List.{[], ◌∷◌}
 use Prim.Native.Nat.{ℕ, zero, suc, ◌≤◌}
 use native.Mathlib.Omega.{arith}
-use Rattle.rules.specs.Notation.{given, refused, is_some, or_else, ◌▹◌, put, first}
+use Rattle.rules.specs.Notation.{given, is_some, or_else, ◌▹◌, put, first}
 use Rattle.rules.specs.Sizes.{base, SEGMENTS}
 use Rattle.rules.specs.Slots.{fresh_slots, placed, clear_in, has_clear, first_with_clear, insert_into, insert_new, insert, remove, edition1}
 use Rattle.rules.specs.AddressSets.{member, added, without, added_all, without_all, run}
 use Rattle.rules.specs.Scopes.{Scopes, new_scope, owned≔, fresh_scopes, set_scope, allocate, alloc_top}
-use Rattle.rules.specs.Needs.{Address, address, local, freed, alloc_address, goes_back, give_back, free_address}
+use Rattle.rules.specs.Needs.{address, local, freed, alloc_address, goes_back, give_back, free_address}
 use Rattle.rules.proofs.Searches.{first-is}
 use Rattle.rules.proofs.Chains.{unless-some, when_false, if-true}
 use Rattle.rules.proofs.Blanks.{then-given}
 use Rattle.rules.proofs.Lockstep.{Also}
-use Rattle.scopes.specs.View.{view}
+use Rattle.rules.specs.Refusals.{says}
+use Rattle.scopes.specs.View.{view, told}
 use Rattle.scopes.specs.declared.Scopes as state
-use Rattle.needs.specs.Answers.{address_says}
-use Rattle.needs.specs.declared.AddressAnswer.{AddressAnswer}
-use Rattle.needs.specs.declared.AddressAnswer.TheVariants.{Refused}
-use Rattle.allocations.specs.Outcomes.{seen_address, told_state}
-use Rattle.allocations.specs.declared.AddressOutcome.{AddressOutcome}
+use Rattle.needs.specs.Kinds.{address_of}
+use Rattle.needs.specs.declared.Address as code
+use Rattle.allocator.specs.Entries.{seen}
+use Rattle.allocator.specs.declared.Outcome.{Outcome}
 use Rattle.checks.specs.States.{Idle}
 use Rattle.checks.proofs.Told.{top-is, gave}
 
@@ -92,15 +92,11 @@ module _ (c : Scopes) (b : Busy c) where
 
 -- ---- both calls: o is left by the first, r by the second
 
-module _ (s : state.Scopes) (o r : AddressOutcome) where
-  pub turn : Idle (view s) → seen_address o ≡ told_state (view s) (alloc_address (edition1 base.segments) (view s))
-      → seen_address r ≡ told_state (view o.state) (free_address false (address 0 local) (view o.state))
-      → (address_says r.answer ≡ given (address 0 freed)) × Idle (view r.state)
+module _ (s : state.Scopes) (o r : Outcome code.Address) where
+  pub turn : Idle (view s) → seen address_of o ≡ told (λ a. a) (view s) (alloc_address (edition1 base.segments) (view s))
+      → seen address_of r ≡ told (λ a. a) (view o.state) (free_address false (address 0 local) (view o.state))
+      → (says address_of r.answer ≡ given (address 0 freed)) × Idle (view r.state)
   turn i e f =
       let a = gave _ _ e (alloc-first _ i) in
       let b = gave _ _ f (free-first _ a.so.1) in
       (b.is ∙ ap given b.so.0, b.so.1)
-
--- a call that gives an address isn't refused
-pub not-refused : {X : Type 0} (a : AddressAnswer) (x : Address) (n : ℕ) → address_says a ≡ given x → a ≡ Refused n → X
-not-refused a x n p q = absurd (let r : refused n ≡ given x = sym (ap address_says q) ∙ p in let z : ◌≡◌ {A = ℕ} 0 1 = cc in omega arith)

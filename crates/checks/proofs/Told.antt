@@ -13,8 +13,6 @@ use Rattle.rules.proofs.Lockstep.{Also}
 use Rattle.scopes.specs.View.{view, Seen, told, told_only}
 use Rattle.scopes.specs.Sound.{Sound}
 use Rattle.scopes.specs.declared.Scopes.{Scopes}
-use Rattle.scopes.specs.declared.Reply.{Reply}
-use Rattle.allocations.specs.Outcomes.{SeenState, told_state}
 use Rattle.soundness.proofs.Places.{slots-tells}
 use Rattle.soundness.proofs.Agrees.{tells_both}
 use Rattle.allocator.specs.Entries.{Checked, turned, taken}
@@ -28,12 +26,12 @@ slots-sound s h = (slots-tells s.halves s.segments s.head _ refl).shows h.slotte
 
 -- ---- operations of `scopes`
 
-module _ (P : rule.Scopes → Type 0) (c : rule.Scopes) (x : Seen) where
-  pub next : {A : Type 0} {m : Answer (A × rule.Scopes)} (f : A → Reply) → x ≡ told f c m → Also (λ r. P r.1) m → P x.next
-  next f e g = subst P (sym (ap (λ (y : Seen). y.next) (e ∙ ap (told f c) g.is))) g.so
+module _ {B : Type 0} (P : rule.Scopes → Type 0) (c : rule.Scopes) (x : Seen B) where
+  pub next : {A : Type 0} {m : Answer (A × rule.Scopes)} (f : A → B) → x ≡ told f c m → Also (λ r. P r.1) m → P x.next
+  next f e g = subst P (sym (ap (λ (y : Seen B). y.next) (e ∙ ap (told f c) g.is))) g.so
 
-  pub next-only : {m : Answer rule.Scopes} → x ≡ told_only c m → Also P m → P x.next
-  next-only e g = subst P (sym (ap (λ (y : Seen). y.next) (e ∙ ap (told_only c) g.is))) g.so
+pub next-only : (P : rule.Scopes → Type 0) (c : rule.Scopes) (x : Seen (Unit {0})) {m : Answer rule.Scopes} → x ≡ told_only c m → Also P m → P x.next
+next-only P c x e g = subst P (sym (ap (λ (y : Seen (Unit {0})). y.next) (e ∙ ap (told_only c) g.is))) g.so
 
 -- ---- entries of `allocator`
 
@@ -42,7 +40,7 @@ pub enters : {R : Type 0} (s : Scopes) (refusal : R) (Gives : R → Type 0) (r :
 enters s refusal Gives r l b h (turned n e) = absurd (n ((tells_both s l b true (tells-yes h)).holds refl))
 enters s refusal Gives r l b h (taken g y) = y
 
-pub gave : {A : Type 0} {R : A × rule.Scopes → Type 0} {m : Answer (A × rule.Scopes)} (c : rule.Scopes) (x : SeenState A) → x ≡ told_state c m → Also R m → Also (λ a. R (a, x.next)) x.says
+pub gave : {A : Type 0} {R : A × rule.Scopes → Type 0} {m : Answer (A × rule.Scopes)} (c : rule.Scopes) (x : Seen A) → x ≡ told (λ a. a) c m → Also R m → Also (λ a. R (a, x.next)) x.says
 gave {A} {R} c x e g =
-    let q = e ∙ ap (told_state c) g.is in
-    record { it = g.it.0; is = ap (λ (y : SeenState A). y.says) q; so = subst (λ (n : rule.Scopes). R (g.it.0, n)) (sym (ap (λ (y : SeenState A). y.next) q)) g.so }
+    let q = e ∙ ap (told (λ a. a) c) g.is in
+    record { it = g.it.0; is = ap (λ (y : Seen A). y.says) q; so = subst (λ (n : rule.Scopes). R (g.it.0, n)) (sym (ap (λ (y : Seen A). y.next) q)) g.so }

@@ -1,11 +1,7 @@
-use Prim.Native.Nat.{◌-◌, ◌≤◌}
 use Rattle.scopes.specs.View.{view}
 use Rattle.scopes.specs.Sound.{Sound}
 use Rattle.checks.specs.States.{Idle}
 use Rattle.checks.proofs.answered.Given as goal
 
 abbrev pub invariant-loop-i : goal.invariant-loop-i
-invariant-loop-i l = (l.i ≤ l.pairs) × (Sound l.fn.start → Idle (view l.fn.start) → Sound l.s × Idle (view l.s))
-
-abbrev pub decreases-loop-i : goal.decreases-loop-i
-decreases-loop-i l = l.pairs - l.i
+invariant-loop-i l = Sound l.fn.start → Idle (view l.fn.start) → Sound l.s × Idle (view l.s)

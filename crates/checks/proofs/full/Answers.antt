@@ -2,16 +2,12 @@
 use Prim.Native.Nat.{◌-◌}
 use native.Mathlib.Omega.{arith}
 use Rattle.rules.specs.Sizes.{SCOPES, SLOTS}
-use Rattle.scopes.specs.View.{at_first}
 use Rattle.checks.specs.States.{Filled}
 use Rattle.checks.proofs.Told.{slots-sound, next}
 use Rattle.checks.proofs.Filling.{slots-all}
 use Rattle.checks.proofs.full.Goals as goal
 
-pub bound-requires : goal.bound-requires
-bound-requires c = c.alloc_run-o.ensures.1
-
 pub returns : goal.returns
 returns c =
-    let s = c.opened.ensures in
-    (c.bound.ensures.sound, c.bound.ensures.full (next (Filled (SCOPES - 1) SLOTS 0) _ _ at_first c.alloc_run-o.ensures.0 (slots-all _ _ s.1 (omega arith) (slots-sound _ s.0) _ (omega arith))))
+    let s = c.opened-s.ensures in
+    (c.bound.ensures.sound, c.bound.ensures.full (next (Filled (SCOPES - 1) SLOTS 0) _ _ (λ a. a) c.alloc_run.ensures.is (slots-all _ _ s.1 (omega arith) (slots-sound _ s.0) _ (omega arith))))

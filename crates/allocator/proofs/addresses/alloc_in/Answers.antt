@@ -1,8 +1,0 @@
--- `addresses::alloc_in` meets its contract: edition 1 is the placement by head. Assumes nothing.
-use borrow.Author.Rules.{rules}
-use Rattle.rules.specs.Slots.{placing}
-use Rattle.allocator.proofs.addresses.alloc_in.Goals as goal
-
-pub returns : goal.returns
-unfolding placing
-returns c = search rules
