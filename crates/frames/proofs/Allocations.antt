@@ -1,160 +1,190 @@
--- 06 alloc and 08 linear, case by case: 3, 16, and what was granted. Assumes nothing.
+-- 06 alloc and 08 linear, case by case: 3, 16, 7 and what was granted. Assumes nothing.
 use mathlib.Core.Path.{◌≡◌, refl, sym, ap, subst, ◌∙◌}
-use mathlib.Core.Logic.{⊎_elim}
-use mathlib.Core.Bool.{Bool, true, false}
 use mathlib.Core.Option.{Option, none, some}
-use mathlib.Core.List.{List, [], ◌∷◌}
+use mathlib.Core.List.{List}
 use Prim.Native.Nat.{ℕ, zero, suc, ◌+◌, ◌≤◌, ◌<◌}
 use native.Mathlib.Omega.{arith}
-use borrow.Author.Tests.{lt-ltb}
+use lib.ListN.{length}
+use Rattle.std.specs.Prelude.{Ok, Err}
 use Rattle.rules.specs.Notation.{Answer, given, refused, ◌>>=◌}
-use Rattle.rules.specs.Sizes.{base, HANDLES, SCOPES}
+use Rattle.rules.specs.Refusals.{number_of}
+use Rattle.rules.specs.declared.refusal.Refusal.{Refusal}
+use Rattle.rules.specs.declared.refusal.Refusal.TheVariants.{HandlesFull}
+use Rattle.rules.specs.Sizes.{base, HANDLES, SLOTS}
 use Rattle.rules.specs.Slots.{Placement, Place, placing}
 use Rattle.rules.specs.Scopes as rule
-use Rattle.rules.specs.Scopes.{Found, Id, allocate, top_scope, by_id}
+use Rattle.rules.specs.Scopes.{Found, allocate}
 use Rattle.rules.specs.Needs.{Kind, local, run_kind}
-use Rattle.rules.specs.Frames.{State, Frame, alloc, linear, shows, one_line, allot, step}
-use Rattle.rules.proofs.Chains.{unless-some, unless-none, when_true, refused-on}
-use Rattle.rules.proofs.Naming.{id-is as found-id}
-use Rattle.rules.proofs.Exact.{top-found}
-use Rattle.scopes.specs.View.{view, at, at_first, seen, told}
-use Rattle.scopes.specs.Lent.{is_refusal, made, Whole}
-use Rattle.scopes.proofs.Finds.{no_top}
+use Rattle.rules.specs.Frames.{State, Frame, alloc, linear, step}
+use Rattle.rules.proofs.Chains.{unless-some, unless-none, refused-on, none-some}
+use Rattle.rules.proofs.Tells.{clash}
+use Rattle.slots.specs.declared.SlotAddress.{SlotAddress}
+use Rattle.scopes.specs.View.{view, found_at, Seen, told}
+use Rattle.scopes.specs.Steps.{Becomes, Whole}
+use Rattle.scopes.specs.Leaves.{Tops}
 use Rattle.scopes.specs.declared.Scopes.{Scopes}
-use Rattle.scopes.specs.declared.Numbers.{Numbers}
-use Rattle.scopes.specs.declared.Outcome.{Outcome}
-use Rattle.needs.specs.Kinds.{kind_of}
-use Rattle.needs.specs.declared.AddressKind.{AddressKind}
-use Rattle.handles.specs.Handles.{state_of}
-use Rattle.frames.specs.Steps.{is_refused, Few, Stands, Works, Grants, Reached}
-use Rattle.frames.specs.declared.steps.Adds.{Adds}
-use Rattle.frames.specs.declared.steps.Adds.TheVariants.{NoSlot, Refused}
-use Rattle.frames.specs.declared.steps.Stepped.{Stepped}
-use Rattle.frames.proofs.Moving.{few-reply, reply-leaves}
-use Rattle.frames.proofs.Allotting.{allots}
+use Rattle.handles.specs.Handles.{state_of, HandsOut}
+use Rattle.handles.specs.declared.Handles.{Handles}
+use Rattle.frames.specs.Steps.{Stands, Works, stepped}
+use Rattle.frames.specs.declared.steps.Adds.TheVariants.{NoSlot, Slot}
+use Rattle.frames.proofs.Told.{given-refused, unless-ok, unless-err}
+use Rattle.frames.proofs.Moving.{over-same, works-refused}
+use Rattle.frames.proofs.Handling.{handed-few}
+use Rattle.frames.proofs.Allotting.{answered-below, asked, full, none-left, allots}
 
--- ---- the top, and the scope of an id
-
-module _ (s : Scopes) where
-  pub has-top : {handles holders : List ℕ} {handed : ℕ} → Stands s handles holders handed → (s.top ≡ SCOPES → ⊥) → (t : Found) × (top_scope (view s) ≡ some t)
-  has-top stands ne =
-      ⊎_elim
-      (λ l. top-found base (view s) stands.state.scopes s.top (ap (λ (b : Bool). elim b [ true ↦ some s.top | false ↦ none ]) (lt-ltb s.top SCOPES l.0)))
-      (λ l. absurd (ne l.0))
-      stands.whole.sound.rooted.topped
-
-pub id-is : (c : rule.Scopes) (id : Id) (k : Found) → by_id base c id ≡ some k → id ≡ rule.id_of k
-id-is c id k e = let t = found-id base c id k e in λ u. record { index = sym t.0 u; number = sym t.1 u }
+-- ---- a run's answer, as that of its allocation
 
 abbrev run_start : ℕ × rule.Scopes → Option ℕ × rule.Scopes
 run_start r = (some r.0, r.1)
 
--- ---- what the code says of a step over lent arrays, as where it leads
+abbrev pub Told : {B : Type 0} → rule.Scopes → rule.Scopes → Answer B → Answer (B × rule.Scopes) → Type 0
+Told {B} c d a m = ◌≡◌ {A = Seen B} (record { next = d; says = a }) (told (λ (x : B). x) c m)
 
-pub reached-is : {halves links owner : List ℕ} {live dangled : List Bool} {parent number bindings : List ℕ} {n : Numbers} {handed : ℕ} {adds : Adds} {r : Stepped} → r ≡ record { numbers = n; handed = handed; adds = adds }
-    → ◌≡◌ {A = Reached} (record { state = made halves links owner live dangled parent number bindings r.numbers; handed = r.handed; adds = r.adds }) (record { state = made halves links owner live dangled parent number bindings n; handed = handed; adds = adds })
-reached-is {halves} {links} {owner} {live} {dangled} {parent} {number} {bindings} e = λ t. record { state = made halves links owner live dangled parent number bindings (e t).numbers; handed = (e t).handed; adds = (e t).adds }
+module _ (c d : rule.Scopes) (m : Answer (ℕ × rule.Scopes)) where
+  run-given : (a : ℕ) → Told c d (given (some a)) (m >>= λ r. given (run_start r)) → Told c d (given a) m
+  unfolding ◌>>=◌
+  run-given a e = go m refl
+    where
+      go : (k : Answer (ℕ × rule.Scopes)) → m ≡ k → Told c d (given a) m
+      go (given x) q =
+          let z = e ∙ ap (λ (k : Answer (ℕ × rule.Scopes)). told (λ (x : Option ℕ). x) c (k >>= λ r. given (run_start r))) q in
+          let says : given (some a) ≡ given (some x.0) = ap (λ (y : Seen (Option ℕ)). y.says) z in
+          let next : d ≡ x.1 = ap (λ (y : Seen (Option ℕ)). y.next) z in
+          let same : a ≡ x.0 = cc in
+          (λ t. record { next = next t; says = given (same t) }) ∙ ap (told (λ (x : ℕ). x) c) (sym q)
+      go (refused n) q = given-refused (ap (λ (y : Seen (Option ℕ)). y.says) (e ∙ ap (λ (k : Answer (ℕ × rule.Scopes)). told (λ (x : Option ℕ). x) c (k >>= λ r. given (run_start r))) q))
 
-pub made-is : {halves links owner : List ℕ} {live dangled : List Bool} {parent number bindings : List ℕ} {n m : Numbers} → n ≡ m → made halves links owner live dangled parent number bindings n ≡ made halves links owner live dangled parent number bindings m
-made-is {halves} {links} {owner} {live} {dangled} {parent} {number} {bindings} e = λ t. made halves links owner live dangled parent number bindings (e t)
+  run-refused : (n : ℕ) → Told c d (refused n) (m >>= λ r. given (run_start r)) → Told c d (refused n) m
+  unfolding ◌>>=◌
+  run-refused n e = go m refl
+    where
+      go : (k : Answer (ℕ × rule.Scopes)) → m ≡ k → Told c d (refused n) m
+      go (given x) q = given-refused (sym (ap (λ (y : Seen (Option ℕ)). y.says) (e ∙ ap (λ (k : Answer (ℕ × rule.Scopes)). told (λ (x : Option ℕ). x) c (k >>= λ r. given (run_start r))) q)))
+      go (refused k) q =
+          let z = e ∙ ap (λ (k : Answer (ℕ × rule.Scopes)). told (λ (x : Option ℕ). x) c (k >>= λ r. given (run_start r))) q in
+          let says : refused n ≡ refused k = ap (λ (y : Seen (Option ℕ)). y.says) z in
+          let next : d ≡ c = ap (λ (y : Seen (Option ℕ)). y.next) z in
+          let same : n ≡ k = cc in
+          (λ t. record { next = next t; says = refused (same t) }) ∙ ap (told (λ (x : ℕ). x) c) (sym q)
 
--- ---- refused, and granted
+  run-none : Told c d (given none) (m >>= λ r. given (run_start r)) → ⊥
+  unfolding ◌>>=◌
+  run-none e = go m refl
+    where
+      go : (k : Answer (ℕ × rule.Scopes)) → m ≡ k → ⊥
+      go (given x) q =
+          let says : given none ≡ given (some x.0) = ap (λ (y : Seen (Option ℕ)). y.says) (e ∙ ap (λ (k : Answer (ℕ × rule.Scopes)). told (λ (x : Option ℕ). x) c (k >>= λ r. given (run_start r))) q) in
+          let same : ◌≡◌ {A = Option ℕ} none (some x.0) = cc in
+          none-some same
+      go (refused k) q = given-refused (ap (λ (y : Seen (Option ℕ)). y.says) (e ∙ ap (λ (k : Answer (ℕ × rule.Scopes)). told (λ (x : Option ℕ). x) c (k >>= λ r. given (run_start r))) q))
 
-pub works-refused : {place : Placement} (s : Scopes) (handles holders : List ℕ) (handed : ℕ) → Stands s handles holders handed → (f : Frame) (op n : ℕ) (r : Reached) → r ≡ record { state = s; handed = handed; adds = Refused n }
-    → step base place (state_of (view s) handles holders handed) f ≡ refused n → (drained : List ℕ) → Works place f op s handles holders handed r handles holders drained
-works-refused {place = place} s handles holders handed stands f op n r is e drained =
-    subst (λ (x : Reached). Works place f op s handles holders handed x handles holders drained) (sym is)
-    (record { does = e; stays = λ _. (refl, refl, refl, refl); whole = stands.whole; few = tt; handles-length = stands.handles-length; holders-length = stands.holders-length })
-
-module _ (p : Place) (s : Scopes) (handles holders : List ℕ) (handed : ℕ) (stands : Stands s handles holders handed) where
+module _ (p : Place) {s : Scopes} {handles : Handles} (stands : Stands s handles) where
   abbrev c : rule.Scopes
   c = view s
 
   abbrev standing : State
-  standing = state_of c handles holders handed
+  standing = state_of c handles
 
   abbrev place : Placement
   place = placing base.segments p
 
-  pub works-granted : (f : Frame) (op : ℕ) (k : Found) (kind : AddressKind) (n : ℕ) (o : Outcome) (r : Reached) (handles' holders' : List ℕ) → handed + n ≤ HANDLES
-      → seen o ≡ told at c (allocate place k n c) → Whole o.state → (is_refusal o.reply ≡ true → o.state ≡ s) → r.state ≡ o.state → Grants o.reply handed n kind r.handed r.adds handles handles' holders holders'
-      → step base place standing f ≡ (allot base place k (kind_of kind) n standing >>= λ x. one_line (shows op (x.0 ∷ [])) x.1)
-      → (drained : List ℕ) → Works place f op s handles holders handed r handles' holders' drained
-  works-granted f op k kind n o r handles' holders' fits e ok left same g q drained = record {
-    does = q ∙ allots p s handles holders handed stands k kind n o r handles' holders' drained fits e same g op;
-    stays = λ no. let k = g.stays no in (same ∙ reply-leaves o.reply left (sym (ap is_refused g.says) ∙ no), k.0, k.1, k.2);
-    whole = subst Whole (sym same) ok;
-    few = subst Few (sym g.says) (few-reply o.reply);
-    handles-length = g.handles-length;
-    holders-length = g.holders-length;
-  }
+  -- ---- refused by an operation, and granted
 
-  pub full : (k : Found) (kind : Kind) (n : ℕ) → HANDLES < handed + n → allot base place k kind n standing ≡ refused 16
-  unfolding allot base
-  full k kind n l = when_true 16 _ (lt-ltb HANDLES (handed + n) l)
+  left-works : (f : Frame) (op : ℕ) (e : Refusal) {s' : Scopes} → s' ≡ s → Whole s' → step base place standing f ≡ refused (number_of e) → (drained : List ℕ) → Works place f op s handles (Err e) s' handles drained
+  left-works f op e same whole q drained =
+      record { does = q; stays = λ _. (same, refl); whole = whole; few = tt; handles-length = stands.handles-length; holders-length = stands.holders-length }
+
+  granted-works : (f : Frame) (op : ℕ) (a : SlotAddress) {s' : Scopes} {handles' : Handles} → Whole s' → length handles'.table ≡ HANDLES → length handles'.holders ≡ SLOTS → (drained : List ℕ)
+      → step base place standing f ≡ stepped op (Ok (Slot a)) (state_of (view s') handles') drained → Works place f op s handles (Ok (Slot a)) s' handles' drained
+  granted-works f op a whole long long' drained q = record { does = q; stays = λ q. clash q refl; whole = whole; few = tt; handles-length = long; holders-length = long' }
 
   -- ---- alloc
 
-  pub alloc-3 : s.top ≡ SCOPES → step base place standing alloc ≡ refused 3
+  pub alloc-3 : (e : Refusal) → Tops s (Err e) → (drained : List ℕ) → Works place alloc 0x06 s handles (Err e) s handles drained
   unfolding step
-  alloc-3 e = unless-none 3 _ (no_top s e)
+  alloc-3 e t drained = let n = unless-err 3 (rule.top_scope c) e t.is in works-refused stands alloc 0x06 e (unless-none 3 _ n.0 ∙ ap refused (sym n.1)) drained
 
-  pub alloc-16 : (s.top ≡ SCOPES → ⊥) → HANDLES ≤ handed → step base place standing alloc ≡ refused 16
-  unfolding step
-  alloc-16 ne l = let t = has-top s stands ne in unless-some 3 _ t.1 ∙ refused-on 16 _ (full t.0 local 1 (omega arith))
+  module _ {i : ℕ} (t : Tops s (Ok i)) where
+    top : rule.top_scope c ≡ some (found_at s i)
+    top = unless-ok 3 (rule.top_scope c) t.is
 
-  module _ (ne : s.top ≡ SCOPES → ⊥) where
-    pub alloc-seen : (o : Outcome) → seen o ≡ told at c (rule.alloc_top place c) → seen o ≡ told at c (allocate place (has-top s stands ne).0 1 c)
-    unfolding rule.alloc_top
-    alloc-seen o e = e ∙ ap (told at c) (unless-some 3 _ (has-top s stands ne).1)
-
-    pub alloc_step : step base place standing alloc ≡ (allot base place (has-top s stands ne).0 local 1 standing >>= λ x. one_line (shows 0x06 (x.0 ∷ [])) x.1)
+    alloc-as : step base place standing alloc ≡ asked p stands (found_at s i) local 1 0x06
     unfolding step
-    alloc_step = unless-some 3 _ (has-top s stands ne).1
+    alloc-as = unless-some 3 _ top
+
+    alloc-told : {d : rule.Scopes} {a : Answer ℕ} → Told c d a (rule.alloc_top place c) → Told c d a (allocate place (found_at s i) 1 c)
+    unfolding rule.alloc_top
+    alloc-told e = e ∙ ap (told (λ (x : ℕ). x) c) (unless-some 3 _ top)
+
+    pub alloc-16 : HANDLES ≤ handles.handed → (drained : List ℕ) → Works place alloc 0x06 s handles (Err HandlesFull) s handles drained
+    alloc-16 l drained = works-refused stands alloc 0x06 HandlesFull (alloc-as ∙ refused-on 16 _ (full p stands (found_at s i) local 1 (omega arith))) drained
+
+    module _ (l : handles.handed < HANDLES) where
+      pub alloc-7 : (e : Refusal) {s' : Scopes} → Becomes s s' (refused (number_of e)) (λ c. told (λ a. a) c (rule.alloc_top place c)) → (drained : List ℕ) → Works place alloc 0x06 s handles (Err e) s' handles drained
+      alloc-7 e b drained = left-works alloc 0x06 e (b.kept refl) b.whole (alloc-as ∙ none-left p stands (found_at s i) local 1 (omega arith) e (alloc-told b.is) 0x06) drained
+
+      module _ {s' : Scopes} (a : SlotAddress) (b : Becomes s s' (given a.0) (λ c. told (λ a. a) c (rule.alloc_top place c))) where
+        pub alloc-low : a.0 + 1 ≤ SLOTS
+        alloc-low = answered-below p stands (found_at s i) 1 a (alloc-told b.is)
+
+        pub alloc-works : (handles' : Handles) → HandsOut handles 1 a.0 local handles' → (drained : List ℕ) → Works place alloc 0x06 s handles (Ok (Slot a)) s' handles' drained
+        alloc-works handles' h drained =
+            granted-works alloc 0x06 a b.whole h.handles-length h.holders-length drained
+            (alloc-as ∙ allots p stands (found_at s i) local 1 (omega arith) s' handles' a (alloc-told b.is) h 0x06 drained)
 
   -- ---- linear
 
-  pub linear-3 : (n : ℕ) → s.top ≡ SCOPES → step base place standing (linear n) ≡ refused 3
+  pub linear-3 : (n : ℕ) (e : Refusal) → Tops s (Err e) → (drained : List ℕ) → Works place (linear n) 0x08 s handles (Err e) s handles drained
   unfolding step
-  linear-3 zero e = unless-none 3 _ (no_top s e)
-  linear-3 (suc n) e = unless-none 3 _ (no_top s e)
+  linear-3 zero e t drained = let n = unless-err 3 (rule.top_scope c) e t.is in works-refused stands (linear zero) 0x08 e (unless-none 3 _ n.0 ∙ ap refused (sym n.1)) drained
+  linear-3 (suc n) e t drained = let n' = unless-err 3 (rule.top_scope c) e t.is in works-refused stands (linear (suc n)) 0x08 e (unless-none 3 _ n'.0 ∙ ap refused (sym n'.1)) drained
 
-  pub linear-16 : (n : ℕ) → (n ≡ 0 → ⊥) → (s.top ≡ SCOPES → ⊥) → HANDLES < handed + n → step base place standing (linear n) ≡ refused 16
-  unfolding step
-  linear-16 zero pos ne l = absurd (pos refl)
-  linear-16 (suc n) pos ne l = let t = has-top s stands ne in unless-some 3 _ t.1 ∙ refused-on 16 _ (full t.0 (run_kind (suc n)) (suc n) l)
-
-  pub linear-0 : (n : ℕ) → n ≡ 0 → (s.top ≡ SCOPES → ⊥) → (drained : List ℕ) → Works place (linear n) 0x08 s handles holders handed (record { state = s; handed = handed; adds = NoSlot }) handles holders drained
-  unfolding step
-  linear-0 n e ne drained = record {
-    does = ap (λ (m : ℕ). step base place standing (linear m)) e ∙ unless-some 3 _ (has-top s stands ne).1;
-    stays = λ _. (refl, refl, refl, refl);
-    whole = stands.whole;
-    few = tt;
-    handles-length = stands.handles-length;
-    holders-length = stands.holders-length;
-  }
-
-  -- the first address of a run, as an address
-  first-is : (m : Answer (ℕ × rule.Scopes)) → told at_first c (m >>= λ r. given (run_start r)) ≡ told at c m
-  unfolding ◌>>=◌
-  first-is (given x) = refl
-  first-is (refused n) = refl
-
-  module _ (n : ℕ) (pos : n ≡ 0 → ⊥) (ne : s.top ≡ SCOPES → ⊥) where
-    pub linear-seen : (o : Outcome) → seen o ≡ told at_first c (rule.alloc_run place n c) → seen o ≡ told at c (allocate place (has-top s stands ne).0 n c)
-    unfolding rule.alloc_run
-    linear-seen o e = go n pos e
-      where
-        go : (m : ℕ) → (m ≡ 0 → ⊥) → seen o ≡ told at_first c (rule.alloc_run place m c) → seen o ≡ told at c (allocate place (has-top s stands ne).0 m c)
-        go zero p q = absurd (p refl)
-        go (suc m) p q = q ∙ ap (told at_first c) (unless-some 3 _ (has-top s stands ne).1) ∙ first-is (allocate place (has-top s stands ne).0 (suc m) c)
-
-    pub linear-step : (kind : AddressKind) → kind_of kind ≡ run_kind n
-        → step base place standing (linear n) ≡ (allot base place (has-top s stands ne).0 (kind_of kind) n standing >>= λ x. one_line (shows 0x08 (x.0 ∷ [])) x.1)
+  module _ {i : ℕ} (t : Tops s (Ok i)) where
+    linear-as : (n : ℕ) → step base place standing (linear (suc n)) ≡ asked p stands (found_at s i) (run_kind (suc n)) (suc n) 0x08
     unfolding step
-    linear-step kind e = go n pos e
-      where
-        go : (m : ℕ) → (m ≡ 0 → ⊥) → kind_of kind ≡ run_kind m → step base place standing (linear m) ≡ (allot base place (has-top s stands ne).0 (kind_of kind) m standing >>= λ x. one_line (shows 0x08 (x.0 ∷ [])) x.1)
-        go zero p q = absurd (p refl)
-        go (suc m) p q = unless-some 3 _ (has-top s stands ne).1 ∙ λ t. allot base place (has-top s stands ne).0 (sym q t) (suc m) standing >>= λ x. one_line (shows 0x08 (x.0 ∷ [])) x.1
+    linear-as n = unless-some 3 _ (top t)
+
+    run-told : (n : ℕ) {d : rule.Scopes} {a : Answer (Option ℕ)} → Told c d a (rule.alloc_run place (suc n) c) → Told c d a (allocate place (found_at s i) (suc n) c >>= λ r. given (run_start r))
+    unfolding rule.alloc_run
+    run-told n e = e ∙ ap (told (λ (x : Option ℕ). x) c) (unless-some 3 _ (top t))
+
+    none-told : {d : rule.Scopes} {a : Answer (Option ℕ)} → Told c d a (rule.alloc_run place zero c) → Told c d a (given (none, c))
+    unfolding rule.alloc_run
+    none-told e = e ∙ ap (told (λ (x : Option ℕ). x) c) (unless-some 3 _ (top t))
+
+    pub linear-16 : (n : ℕ) → HANDLES < handles.handed + n → (drained : List ℕ) → Works place (linear n) 0x08 s handles (Err HandlesFull) s handles drained
+    linear-16 zero l drained = absurd (omega (arith, handed-few stands))
+    linear-16 (suc n) l drained = works-refused stands (linear (suc n)) 0x08 HandlesFull (linear-as n ∙ refused-on 16 _ (full p stands (found_at s i) (run_kind (suc n)) (suc n) l)) drained
+
+    pub linear-7 : (n : ℕ) → handles.handed + n ≤ HANDLES → (e : Refusal) {s' : Scopes} → Becomes s s' (refused (number_of e)) (λ c. told (λ a. a) c (rule.alloc_run place n c)) → (drained : List ℕ)
+        → Works place (linear n) 0x08 s handles (Err e) s' handles drained
+    linear-7 zero fits e b drained = given-refused (sym (ap (λ (z : Seen (Option ℕ)). z.says) (none-told b.is)))
+    linear-7 (suc n) fits e b drained =
+        left-works (linear (suc n)) 0x08 e (b.kept refl) b.whole
+        (linear-as n ∙ none-left p stands (found_at s i) (run_kind (suc n)) (suc n) fits e (run-refused c _ _ (number_of e) (run-told n b.is)) 0x08) drained
+
+    -- no slot where none was asked for
+    pub linear-none : (n : ℕ) {s' : Scopes} → Becomes s s' (given none) (λ c. told (λ a. a) c (rule.alloc_run place n c)) → (drained : List ℕ) → Works place (linear n) 0x08 s handles (Ok NoSlot) s' handles drained
+    unfolding step
+    linear-none zero {s'} b drained = record {
+      does = unless-some 3 _ (top t) ∙ ap (λ (u : State). stepped 0x08 (Ok NoSlot) u drained) (over-same s s' handles drained c (view s') (ap (λ (z : Seen (Option ℕ)). z.next) (none-told b.is)) refl);
+      stays = λ q. clash q refl;
+      whole = b.whole;
+      few = tt;
+      handles-length = stands.handles-length;
+      holders-length = stands.holders-length;
+    }
+    linear-none (suc n) b drained = absurd (run-none c _ _ (run-told n b.is))
+
+    pub linear-low : (n : ℕ) {s' : Scopes} (a : SlotAddress) → Becomes s s' (given (some a.0)) (λ c. told (λ a. a) c (rule.alloc_run place n c)) → a.0 + n ≤ SLOTS
+    linear-low zero a b = let says : given (some a.0) ≡ given none = ap (λ (z : Seen (Option ℕ)). z.says) (none-told b.is) in let same : ◌≡◌ {A = Option ℕ} none (some a.0) = cc in none-some same
+    linear-low (suc n) a b = answered-below p stands (found_at s i) (suc n) a (run-given c _ _ a.0 (run-told n b.is))
+
+    pub linear-works : (n : ℕ) → handles.handed + n ≤ HANDLES → {s' : Scopes} (a : SlotAddress) → Becomes s s' (given (some a.0)) (λ c. told (λ a. a) c (rule.alloc_run place n c)) → (m : ℕ) (k : Kind) → m ≡ n → k ≡ run_kind n
+        → (handles' : Handles) → HandsOut handles m a.0 k handles' → (drained : List ℕ) → Works place (linear n) 0x08 s handles (Ok (Slot a)) s' handles' drained
+    linear-works zero fits a b m k is is' handles' h drained = let says : given (some a.0) ≡ given none = ap (λ (z : Seen (Option ℕ)). z.says) (none-told b.is) in let same : ◌≡◌ {A = Option ℕ} none (some a.0) = cc in none-some same
+    linear-works (suc n) fits {s'} a b m k is is' handles' h drained =
+        let hands : HandsOut handles (suc n) a.0 (run_kind (suc n)) handles'
+        = subst (λ (i : ℕ). HandsOut handles i a.0 (run_kind (suc n)) handles') is (subst (λ (x : Kind). HandsOut handles m a.0 x handles') is' h) in
+        granted-works (linear (suc n)) 0x08 a b.whole h.handles-length h.holders-length drained
+        (linear-as n ∙ allots p stands (found_at s i) (run_kind (suc n)) (suc n) fits s' handles' a (run-given c _ _ a.0 (run-told n b.is)) hands 0x08 drained)

@@ -1,11 +1,11 @@
+pub mod Told
 pub mod Moving
-pub mod Meant
+pub mod Handling
+pub mod Reading
 pub mod Allotting
 pub mod Allocations
 pub mod InScope
-pub mod Handling
-pub mod Reading
 pub mod Freeing
-pub mod NeedSteps
 pub mod Beside
+pub mod NeedSteps
 pub mod Owning

@@ -1,180 +1,198 @@
--- Frames that leave the tables alone: what the state's operation answers is what the rules' step adds, over the same handles.
+-- Frames that leave the handles alone: what the state's operation answers is what the rules' step adds, over the same handles.
 -- Assumes nothing.
-use mathlib.Core.Path.{◌≡◌, refl, sym, ap, subst, ◌∙◌}
-use mathlib.Core.Bool.{true}
-use mathlib.Core.Option.{Option}
+use mathlib.Core.Path.{◌≡◌, refl, sym, ap, ◌∙◌}
+use mathlib.Core.Option.{Option, none, some}
 use mathlib.Core.List.{List, [], ◌∷◌}
 use Prim.Native.Nat.{ℕ, ◌%◌}
 use native.Mathlib.Omega.{arith}
-use Rattle.rules.specs.Notation.{Answer, given, refused, ◌>>=◌, ◌▹◌}
+use Rattle.std.specs.Prelude.{Result, Ok, Err}
+use Rattle.rules.specs.Notation.{Answer, given, refused, ◌>>=◌, refuse◌unless◌, ◌▹◌}
+use Rattle.rules.specs.Refusals.{number_of, says}
+use Rattle.rules.specs.declared.refusal.Refusal.{Refusal}
 use Rattle.rules.specs.Sizes.{base, WORD}
 use Rattle.rules.specs.Slots.{Placement, remove_all}
 use Rattle.rules.specs.Scopes as rule
-use Rattle.rules.specs.Scopes.{Found}
-use Rattle.rules.specs.Frames.{no_need, State, scopes≔, Frame, child, pop, dangle, restore, pop_last, Line, shows, one_line, close, let_go, Step, step}
+use Rattle.rules.specs.Scopes.{Found, by_number, by_id}
+use Rattle.rules.specs.Frames.{no_need, State, scopes≔, Frame, child, pop, dangle, restore, pop_last, shows, one_line, close, let_go, Step, step}
 use Rattle.rules.proofs.Tables.{remove_all-other}
 use Rattle.rules.proofs.Tells.{decided}
 use Rattle.rules.proofs.Removing.{remove_all-stays, remove_all-clears}
-use Rattle.rules.proofs.Naming.{Here, number-here}
+use Rattle.rules.proofs.Naming.{Here, number-here, number-id}
 use Rattle.rules.proofs.KeepsScopes.{poppable-is, last-is}
 use Rattle.rules.proofs.Leaves.{child-leaves, dangle-leaves, restore-leaves}
-use Rattle.scopes.specs.View.{view, opened, Seen, told, told_only}
-use Rattle.scopes.specs.Lent.{is_refusal, Whole}
+use Rattle.scopes.specs.View.{view, id_of, Seen, told, told_only, replied}
+use Rattle.scopes.specs.Steps.{Becomes, Whole}
 use Rattle.scopes.specs.declared.Scopes.{Scopes}
-use Rattle.scopes.specs.declared.Outcome.{Outcome}
-use Rattle.scopes.specs.declared.Reply.{Reply}
-use Rattle.scopes.specs.declared.Reply.TheVariants as reply
+use Rattle.scopes.specs.declared.ScopeId.{ScopeId}
 use Rattle.handles.specs.Handles.{handle_at, state_of}
-use Rattle.frames.specs.Steps.{nowhere, stepped, adds_of, is_refused, Few, Stands, Works, Comes, Reached}
-use Rattle.frames.specs.declared.steps.Adds.TheVariants.{Refused}
+use Rattle.handles.specs.declared.Handles.{Handles}
 use Rattle.handles.proofs.Changes.{closing}
+use Rattle.frames.specs.Steps.{nowhere, stepped, Few, Stands, Works, Comes}
+use Rattle.frames.specs.declared.steps.Adds.{Adds}
+use Rattle.frames.specs.declared.steps.Adds.TheVariants.{Nothing, Number}
+use Rattle.frames.proofs.Told.{adding, few-adding, refusal-kept, told-then, only-then, given-refused}
 
-pub few-reply : (y : Reply) → Few (adds_of y)
-few-reply reply.Done = tt
-few-reply (reply.At a) = tt
-few-reply reply.Empty = tt
-few-reply (reply.Opened i) = tt
-few-reply (reply.Found b) = tt
-few-reply (reply.Refused n) = tt
+-- ---- a refused step, and one that moves to another state over the same handles
 
-refusal-adds : (y : Reply) → is_refusal y ≡ is_refused (adds_of y)
-refusal-adds reply.Done = refl
-refusal-adds (reply.At a) = refl
-refusal-adds reply.Empty = refl
-refusal-adds (reply.Opened i) = refl
-refusal-adds (reply.Found b) = refl
-refusal-adds (reply.Refused n) = refl
+module _ {s : Scopes} {handles : Handles} (stands : Stands s handles) where
+  pub works-refused : {place : Placement} (f : Frame) (o : ℕ) (e : Refusal) → step base place (state_of (view s) handles) f ≡ refused (number_of e) → (drained : List ℕ) → Works place f o s handles (Err e) s handles drained
+  works-refused f o e q drained =
+      record { does = q; stays = λ _. (refl, refl); whole = stands.whole; few = tt; handles-length = stands.handles-length; holders-length = stands.holders-length }
 
--- what a reply's refusal leaves, a refused step leaves
-pub reply-leaves : {s t : Scopes} (y : Reply) → (is_refusal y ≡ true → t ≡ s) → is_refused (adds_of y) ≡ true → t ≡ s
-reply-leaves y k q = k (refusal-adds y ∙ q)
+  pub comes-refused : (m : Step) (o : ℕ) (e : Refusal) → m ≡ refused (number_of e) → (drained : List ℕ) → Comes s handles m o (Err e) s handles drained
+  comes-refused m o e q drained =
+      record { does = q; stays = λ _. (refl, refl); whole = stands.whole; few = tt; handles-length = stands.handles-length; holders-length = stands.holders-length }
 
--- ---- over any tables
+  pub moved-works : {V B : Type 0} (f : V → B) (k : V → Adds) → ((v : V) → Few (Ok (k v))) → {s' : Scopes} (r : Result V Refusal) {F : rule.Scopes → Seen B} → Becomes s s' (says f r) F
+      → (x : Frame) (o : ℕ) (drained : List ℕ) → step base nowhere (state_of (view s) handles) x ≡ stepped o (adding k r) (state_of (view s') handles) drained → Works nowhere x o s handles (adding k r) s' handles drained
+  moved-works f k few r b x o drained e =
+      record { does = e; stays = λ q. (b.kept (refusal-kept f k r q), refl); whole = b.whole; few = few-adding k few r; handles-length = stands.handles-length; holders-length = stands.holders-length }
 
-module _ (c : rule.Scopes) (handles holders : List ℕ) (handed : ℕ) (drained : List ℕ) where
-  abbrev standing : State
-  standing = state_of c handles holders handed
+-- ---- what several frames do
 
-  -- the same handles, over other scopes with the same slots
-  pub over-same : (x d : rule.Scopes) → x ≡ d → x.slots ≡ c.slots → (standing ▹ scopes≔ x) ≡ state_of d handles holders handed
-  over-same x d e k =
-      let p : c.slots ≡ d.slots = sym k ∙ ap (λ (y : rule.Scopes). y.slots) e in
-      λ t. record { scopes = e t; handles = handle_at (p t).occupied handles holders; handed = handed; needs = λ n. no_need; needed = 0 }
+module _ {s s' : Scopes} {handles handles' : Handles} {r : Result Adds Refusal} {drained : List ℕ} (o : ℕ) where
+  pub comes-by : {m m' : Step} → m ≡ m' → Comes s handles m' o r s' handles' drained → Comes s handles m o r s' handles' drained
+  comes-by e w = record { does = e ∙ w.does; stays = w.stays; whole = w.whole; few = w.few; handles-length = w.handles-length; holders-length = w.holders-length }
 
-  module _ (o : ℕ) (d : rule.Scopes) (y : Reply) where
-    abbrev after : Step
-    after = stepped o (adds_of y) (state_of d handles holders handed) drained
+  -- a frame that does just that
+  pub works-by : {place : Placement} (f : Frame) {m : Step} → step base place (state_of (view s) handles) f ≡ m → Comes s handles m o r s' handles' drained → Works place f o s handles r s' handles' drained
+  works-by f e w = record { does = e ∙ w.does; stays = w.stays; whole = w.whole; few = w.few; handles-length = w.handles-length; holders-length = w.holders-length }
 
-    pub told-does : {A : Type 0} (f : A → Reply) (l : A → Line) (ans : Answer (A × rule.Scopes)) → record { next = d; says = y } ≡ told f c ans
-        → ((x : A × rule.Scopes) → ans ≡ given x → x.1.slots ≡ c.slots)
-        → ((x : A × rule.Scopes) → ans ≡ given x → (t : State) → one_line (l x.0) t ≡ stepped o (adds_of (f x.0)) t drained)
-        → (ans >>= λ x. one_line (l x.0) (standing ▹ scopes≔ x.1)) ≡ after
-    unfolding ◌>>=◌
-    told-does f l (given x) e k m =
-        let same : d ≡ x.1 = ap (λ (z : Seen). z.next) e in
-        let says : y ≡ f x.0 = ap (λ (z : Seen). z.says) e in
-        m x refl (standing ▹ scopes≔ x.1) ∙ λ t. stepped o (adds_of (sym says t)) (over-same x.1 d (sym same) (k x refl) t) drained
-    told-does f l (refused n) e k m = λ t. stepped o (adds_of (sym (ap (λ (z : Seen). z.says) e) t)) (state_of d handles holders handed) drained
+-- ---- a scope that a script names by its number
 
-    pub only-does : (ans : Answer rule.Scopes) → record { next = d; says = y } ≡ told_only c ans
-        → ((x : rule.Scopes) → ans ≡ given x → x.slots ≡ c.slots)
-        → (ans >>= λ x. one_line (shows o []) (standing ▹ scopes≔ x)) ≡ after
-    unfolding ◌>>=◌
-    only-does (given x) e k =
-        let same : d ≡ x = ap (λ (z : Seen). z.next) e in
-        let says = ap (λ (z : Seen). z.says) e in
-        λ t. stepped o (adds_of (sym says t)) (over-same x d (sym same) (k x refl) t) drained
-    only-does (refused n) e k = λ t. stepped o (adds_of (sym (ap (λ (z : Seen). z.says) e) t)) (state_of d handles holders handed) drained
+module _ (s : Scopes) (n : ℕ) (r : Result ScopeId Refusal) (is : says id_of r ≡ replied rule.id_of (refuse 4 unless (by_number base (view s) n))) where
+  -- there is one, and its id tells it; or there is none
+  pub numbered-some : (id : ScopeId) → r ≡ Ok id → (k : Found) × ((by_number base (view s) n ≡ some k) × (id_of id ≡ rule.id_of k))
+  unfolding refuse◌unless◌
+  numbered-some id e = go (by_number base (view s) n) refl
+    where
+      tells : says id_of (Ok id) ≡ replied rule.id_of (refuse 4 unless (by_number base (view s) n))
+      tells = ap (says id_of) (sym e) ∙ is
 
-    -- a scope is closed, whose slots are then clear
-    pub close-does : (ans : Answer Found) → record { next = d; says = y } ≡ told_only c (ans >>= λ k. given (rule.closed k c))
-        → ((k : Found) → ans ≡ given k → handle_at (rule.closed k c).slots.occupied handles holders ≡ let_go k.scope.owned (handle_at c.slots.occupied handles holders))
-        → (ans >>= λ k. one_line (shows o []) (close k standing)) ≡ after
-    unfolding ◌>>=◌ close
-    close-does (given k) e h =
-        let same : d ≡ rule.closed k c = ap (λ (z : Seen). z.next) e in
-        let says = ap (λ (z : Seen). z.says) e in
-        (λ t. one_line (shows o []) (record { scopes = rule.closed k c; handles = sym (h k refl) t; handed = handed; needs = λ n. no_need; needed = 0 }))
-        ∙ λ t. stepped o (adds_of (sym says t)) (state_of (sym same t) handles holders handed) drained
-    close-does (refused n) e h = λ t. stepped o (adds_of (sym (ap (λ (z : Seen). z.says) e) t)) (state_of d handles holders handed) drained
+      go : (o : Option Found) → by_number base (view s) n ≡ o → (k : Found) × ((by_number base (view s) n ≡ some k) × (id_of id ≡ rule.id_of k))
+      go none q = given-refused (tells ∙ ap (λ (o : Option Found). replied rule.id_of (refuse 4 unless o)) q)
+      go (some k) q = (k, (q, let p = tells ∙ ap (λ (o : Option Found). replied rule.id_of (refuse 4 unless o)) q in cc))
 
--- ---- the steps
+  pub numbered-is : (id : ScopeId) → r ≡ Ok id → by_id base (view s) (id_of id) ≡ by_number base (view s) n
+  numbered-is id e = let k = numbered-some id e in ap (by_id base (view s)) k.1.1 ∙ number-id base (view s) n k.0 k.1.0 ∙ sym k.1.0
 
-module _ (s : Scopes) (handles holders : List ℕ) (handed : ℕ) (stands : Stands s handles holders handed) where
+  pub numbered-none : (e : Refusal) → r ≡ Err e → (by_number base (view s) n ≡ none) × (number_of e ≡ 4)
+  unfolding refuse◌unless◌
+  numbered-none e q = go (by_number base (view s) n) refl
+    where
+      tells : refused (number_of e) ≡ replied rule.id_of (refuse 4 unless (by_number base (view s) n))
+      tells = ap (says id_of) (sym q) ∙ is
+
+      go : (o : Option Found) → by_number base (view s) n ≡ o → (by_number base (view s) n ≡ none) × (number_of e ≡ 4)
+      go none p = (p, let z = tells ∙ ap (λ (o : Option Found). replied rule.id_of (refuse 4 unless o)) p in cc)
+      go (some k) p = given-refused (sym (tells ∙ ap (λ (o : Option Found). replied rule.id_of (refuse 4 unless o)) p))
+
+-- ---- the same handles, over other scopes
+
+module _ (s s' : Scopes) (handles : Handles) (drained : List ℕ) where
   abbrev c : rule.Scopes
   c = view s
 
+  abbrev standing : State
+  standing = state_of c handles
+
+  -- .. with the same slots
+  pub over-same : (x d : rule.Scopes) → d ≡ x → x.slots ≡ c.slots → (standing ▹ scopes≔ x) ≡ state_of d handles
+  over-same x d e k =
+      let p : c.slots ≡ d.slots = sym k ∙ ap (λ (y : rule.Scopes). y.slots) (sym e) in
+      λ t. record { scopes = sym e t; handles = handle_at (p t).occupied handles; handed = handles.handed; needs = λ n. no_need; needed = 0 }
+
+  pub nothing-does : (o : ℕ) (r : Result (Unit {0}) Refusal) (ans : Answer rule.Scopes) → record { next = view s'; says = says (λ u. u) r } ≡ told_only c ans
+      → ((x : rule.Scopes) → ans ≡ given x → x.slots ≡ c.slots)
+      → (ans >>= λ x. one_line (shows o []) (standing ▹ scopes≔ x)) ≡ stepped o (adding (λ _. Nothing) r) (state_of (view s') handles) drained
+  nothing-does o r ans e k = only-then (λ u. u) (λ _. Nothing) o (state_of (view s') handles) drained c (view s') r ans e _ (λ x _ q d _. ap (one_line (shows o [])) (over-same x (view s') d (k x q)))
+
+  -- a scope is closed, whose slots are then clear
+  pub close-does : (o : ℕ) (r : Result (Unit {0}) Refusal) (ans : Answer Found) → record { next = view s'; says = says (λ u. u) r } ≡ told_only c (ans >>= λ k. given (rule.closed k c))
+      → ((k : Found) → ans ≡ given k → handle_at (rule.closed k c).slots.occupied handles ≡ let_go k.scope.owned (handle_at c.slots.occupied handles))
+      → (ans >>= λ k. one_line (shows o []) (close k standing)) ≡ stepped o (adding (λ _. Nothing) r) (state_of (view s') handles) drained
+  unfolding ◌>>=◌ close
+  close-does o r (given k) e h =
+      only-then (λ u. u) (λ _. Nothing) o (state_of (view s') handles) drained c (view s') r (given (rule.closed k c)) e (λ x. one_line (shows o []) (close k standing))
+      (λ x _ q d _.
+      let same : view s' ≡ rule.closed k c = d ∙ cc in
+      (λ t. one_line (shows o []) (record { scopes = rule.closed k c; handles = sym (h k refl) t; handed = handles.handed; needs = λ n. no_need; needed = 0 }))
+      ∙ λ t. one_line (shows o []) (state_of (sym same t) handles))
+  close-does o r (refused n) e h = only-then (λ u. u) (λ _. Nothing) o (state_of (view s') handles) drained c (view s') r (refused n) e (λ x. one_line (shows o []) standing) (λ x _ q. given-refused (sym q))
+
+-- ---- the steps
+
+module _ {s : Scopes} {handles : Handles} (stands : Stands s handles) where
+  abbrev c' : rule.Scopes
+  c' = view s
+
   -- the slots of a live scope, and no others, are clear once it is closed
-  closes : (k : Found) → Here base.scopes c.live k → handle_at (rule.closed k c).slots.occupied handles holders ≡ let_go k.scope.owned (handle_at c.slots.occupied handles holders)
+  closes : (k : Found) → Here base.scopes c'.live k → handle_at (rule.closed k c').slots.occupied handles ≡ let_go k.scope.owned (handle_at c'.slots.occupied handles)
   unfolding rule.closed
   closes k here =
       let gone = k.scope.owned in
       let slots = stands.state.scopes.slots in
-      closing c.slots.occupied (remove_all gone c.slots).occupied handles holders gone
-      (λ a m. remove_all-clears base.segments gone a c.slots slots (stands.state.scopes.owned.within k.index here.below a (rw here.is m)) m)
-      (λ a m. decided (c.slots.occupied a)
-      (λ e. remove_all-other gone a c.slots m e ∙ sym e)
-      (λ e. remove_all-stays gone a c.slots e ∙ sym e))
+      closing c'.slots.occupied (remove_all gone c'.slots).occupied handles gone
+      (λ a m. remove_all-clears base.segments gone a c'.slots slots (stands.state.scopes.owned.within k.index here.below a (rw here.is m)) m)
+      (λ a m. decided (c'.slots.occupied a)
+      (λ e. remove_all-other gone a c'.slots m e ∙ sym e)
+      (λ e. remove_all-stays gone a c'.slots e ∙ sym e))
 
-  module _ (drained : List ℕ) (d : rule.Scopes) (y : Reply) where
-    pub child-does : record { next = d; says = y } ≡ told opened c (rule.open_child base c) → step base nowhere (state_of c handles holders handed) child ≡ stepped 0x01 (adds_of y) (state_of d handles holders handed) drained
-    unfolding step
-    child-does e =
-        told-does c handles holders handed drained 0x01 d y opened (λ i. shows 0x01 (i.number ∷ [])) (rule.open_child base c) e
-        (λ x q. ((child-leaves base c).at x q).1.slots-are)
-        (λ x q t.
-        let n : x.0.number ≡ x.0.number % WORD = omega (arith, ((child-leaves base c).at x q).0, stands.counted) in
-        λ u. one_line (shows 0x01 (n u ∷ [])) t)
+  pub child-works : (r : Result ScopeId Refusal) → {s' : Scopes} → Becomes s s' (says id_of r) (λ c. told (λ i. i) c (rule.open_child base c)) → (drained : List ℕ) → Works nowhere child 0x01 s handles (adding (λ i. Number (i.number % WORD)) r) s' handles drained
+  unfolding step
+  child-works r {s'} b drained =
+      moved-works stands id_of (λ i. Number (i.number % WORD)) (λ _. tt) r b child 0x01 drained
+      (told-then id_of (λ i. Number (i.number % WORD)) 0x01 (state_of (view s') handles) drained (λ i. i) c' (view s') r (rule.open_child base c') b.is _
+      (λ x v q d _ i.
+      let leaves = (child-leaves base c').at x q in
+      let n : x.0.number ≡ v.number % WORD = omega (arith, ap (λ (y : rule.Id). y.number) i, leaves.0, stands.counted) in
+      λ t. one_line (shows 0x01 (n t ∷ [])) (over-same s s' handles drained x.1 (view s') d leaves.1.slots-are t)))
 
-    pub dangle-does : (n : ℕ) {x : Option Found} → x ≡ rule.by_number base c n → record { next = d; says = y } ≡ told_only c (rule.dangle_scope x c) → step base nowhere (state_of c handles holders handed) (dangle n) ≡ stepped 0x03 (adds_of y) (state_of d handles holders handed) drained
-    unfolding step
-    dangle-does n is q =
-        let e = q ∙ ap (λ (x : Option Found). told_only c (rule.dangle_scope x c)) is in
-        only-does c handles holders handed drained 0x03 d y (rule.dangle_scope (rule.by_number base c n) c) e (λ x q. ((dangle-leaves c (rule.by_number base c n)).at x q).slots-are)
+  -- .. of which it is the scope with this number
+  pub dangle-works : (n : ℕ) (r : Result (Unit {0}) Refusal) → {s' : Scopes} → Becomes s s' (says (λ u. u) r) (λ c. told_only c (rule.dangle_scope (by_number base c n) c)) → (drained : List ℕ) → Works nowhere (dangle n) 0x03 s handles (adding (λ _. Nothing) r) s' handles drained
+  unfolding step
+  dangle-works n r {s'} b drained =
+      moved-works stands (λ (u : Unit {0}). u) (λ _. Nothing) (λ _. tt) r b (dangle n) 0x03 drained
+      (nothing-does s s' handles drained 0x03 r (rule.dangle_scope (by_number base c' n) c') b.is (λ x q. ((dangle-leaves c' (by_number base c' n)).at x q).slots-are))
 
-    pub restore_does : (n : ℕ) {x : Option Found} → x ≡ rule.by_number base c n → record { next = d; says = y } ≡ told_only c (rule.restore_scope x c) → step base nowhere (state_of c handles holders handed) (restore n) ≡ stepped 0x04 (adds_of y) (state_of d handles holders handed) drained
-    unfolding step
-    restore_does n is q =
-        let e = q ∙ ap (λ (x : Option Found). told_only c (rule.restore_scope x c)) is in
-        only-does c handles holders handed drained 0x04 d y (rule.restore_scope (rule.by_number base c n) c) e (λ x q. ((restore-leaves c (rule.by_number base c n)).at x q).slots-are)
+  pub restore-works : (n : ℕ) (r : Result (Unit {0}) Refusal) → {s' : Scopes} → Becomes s s' (says (λ u. u) r) (λ c. told_only c (rule.restore_scope (by_number base c n) c)) → (drained : List ℕ) → Works nowhere (restore n) 0x04 s handles (adding (λ _. Nothing) r) s' handles drained
+  unfolding step
+  restore-works n r {s'} b drained =
+      moved-works stands (λ (u : Unit {0}). u) (λ _. Nothing) (λ _. tt) r b (restore n) 0x04 drained
+      (nothing-does s s' handles drained 0x04 r (rule.restore_scope (by_number base c' n) c') b.is (λ x q. ((restore-leaves c' (by_number base c' n)).at x q).slots-are))
 
-    pub pop-does : (n : ℕ) {x : Option Found} → x ≡ rule.by_number base c n → record { next = d; says = y } ≡ told_only c (rule.pop_scope base x c) → step base nowhere (state_of c handles holders handed) (pop n) ≡ stepped 0x02 (adds_of y) (state_of d handles holders handed) drained
-    unfolding step rule.pop_scope
-    pop-does n is q =
-        let e = q ∙ ap (λ (x : Option Found). told_only c (rule.pop_scope base x c)) is in
-        close-does c handles holders handed drained 0x02 d y (rule.poppable base (rule.by_number base c n) c) e
-        (λ k q. closes k ((poppable-is base c stands.state.scopes (rule.by_number base c n) (number-here base c n)).at k q).0)
+  pub pop-works : (n : ℕ) (r : Result (Unit {0}) Refusal) → {s' : Scopes} → Becomes s s' (says (λ u. u) r) (λ c. told_only c (rule.pop_scope base (by_number base c n) c)) → (drained : List ℕ) → Works nowhere (pop n) 0x02 s handles (adding (λ _. Nothing) r) s' handles drained
+  unfolding step rule.pop_scope
+  pop-works n r {s'} b drained =
+      moved-works stands (λ (u : Unit {0}). u) (λ _. Nothing) (λ _. tt) r b (pop n) 0x02 drained
+      (close-does s s' handles drained 0x02 r (rule.poppable base (by_number base c' n) c') b.is
+      (λ k q. closes k ((poppable-is base c' stands.state.scopes (by_number base c' n) (number-here base c' n)).at k q).0))
 
-    pub pop-last-does : record { next = d; says = y } ≡ told_only c (rule.pop_last_scope base c) → step base nowhere (state_of c handles holders handed) pop_last ≡ stepped 0x05 (adds_of y) (state_of d handles holders handed) drained
-    unfolding step rule.pop_last_scope
-    pop-last-does e =
-        close-does c handles holders handed drained 0x05 d y (rule.last_poppable base c) e
-        (λ k q. closes k ((last-is base c stands.state.scopes).at k q).0)
+  pub pop-last-works : (r : Result (Unit {0}) Refusal) → {s' : Scopes} → Becomes s s' (says (λ u. u) r) (λ c. told_only c (rule.pop_last_scope base c)) → (drained : List ℕ) → Works nowhere pop_last 0x05 s handles (adding (λ _. Nothing) r) s' handles drained
+  unfolding step rule.pop_last_scope
+  pop-last-works r {s'} b drained =
+      moved-works stands (λ (u : Unit {0}). u) (λ _. Nothing) (λ _. tt) r b pop_last 0x05 drained
+      (close-does s s' handles drained 0x05 r (rule.last_poppable base c') b.is (λ k q. closes k ((last-is base c' stands.state.scopes).at k q).0))
 
--- ---- a step that ended with the outcome o, and left the tables alone
+-- ---- an operation on the scope with this number, which the code has as m: there is none, or it is the one with this id
 
-pub ended-works : (s : Scopes) (handles holders : List ℕ) (handed : ℕ) → Stands s handles holders handed → (o : Outcome) → Whole o.state → (is_refusal o.reply ≡ true → o.state ≡ s) → (r : Reached) → r ≡ record { state = o.state; handed = handed; adds = adds_of o.reply }
-    → (f : Frame) (op : ℕ) (drained : List ℕ) → step base nowhere (state_of (view s) handles holders handed) f ≡ stepped op (adds_of o.reply) (state_of (view o.state) handles holders handed) drained
-    → Works nowhere f op s handles holders handed r handles holders drained
-ended-works s handles holders handed stands o ok left r is f op drained e =
-    subst (λ (x : Reached). Works nowhere f op s handles holders handed x handles holders drained) (sym is)
-    (record { does = e; stays = λ q. (reply-leaves o.reply left q, refl, refl, refl); whole = ok; few = few-reply o.reply; handles-length = stands.handles-length; holders-length = stands.holders-length })
+module _ (s : Scopes) (n : ℕ) (op : Option Found → rule.Scopes → Answer rule.Scopes) {m : ℕ} (same : m ≡ n) where
+  pub number-refused : Whole s → op none (view s) ≡ refused 4 → (e : Refusal) → refused (number_of e) ≡ replied rule.id_of (refuse 4 unless (by_number base (view s) m))
+      → Becomes s s (refused (number_of e)) (λ c. told_only c (op (by_number base c n) c))
+  number-refused whole q e is =
+      let z = numbered-none s m (Err e) is e refl in
+      let p : op (by_number base (view s) n) (view s) ≡ refused (number_of e)
+      = (λ t. op (by_number base (view s) (sym same t)) (view s)) ∙ ap (λ (x : Option Found). op x (view s)) z.0 ∙ q ∙ ap refused (sym z.1) in
+      record { is = sym (ap (told_only (view s)) p); whole = whole; kept = λ _. refl }
 
--- ---- what several frames do
+  pub number-becomes : (id : ScopeId) → given (id_of id) ≡ replied rule.id_of (refuse 4 unless (by_number base (view s) m)) → {s' : Scopes} {a : Answer (Unit {0})}
+      → Becomes s s' a (λ c. told_only c (op (by_id base c (id_of id)) c)) → Becomes s s' a (λ c. told_only c (op (by_number base c n) c))
+  number-becomes id is b = record {
+    is = b.is ∙ ap (λ (x : Option Found). told_only (view s) (op x (view s))) (numbered-is s m (Ok id) is id refl ∙ ap (by_number base (view s)) same);
+    whole = b.whole;
+    kept = b.kept;
+  }
 
-pub comes-by : {s : Scopes} {handles holders : List ℕ} {handed : ℕ} {m m' : Step} (o : ℕ) (r : Reached) (handles' holders' drained : List ℕ) → m ≡ m' → Comes s handles holders handed m' o r handles' holders' drained
-    → Comes s handles holders handed m o r handles' holders' drained
-comes-by o r handles' holders' drained e w =
-    record { does = e ∙ w.does; stays = w.stays; whole = w.whole; few = w.few; handles-length = w.handles-length; holders-length = w.holders-length }
-
-module _ (s : Scopes) (handles holders : List ℕ) (handed : ℕ) where
-  pub comes-refused : Stands s handles holders handed → (m : Step) (o n : ℕ) (r : Reached) → r ≡ record { state = s; handed = handed; adds = Refused n } → m ≡ refused n → (drained : List ℕ) → Comes s handles holders handed m o r handles holders drained
-  comes-refused stands m o n r is e drained =
-      subst (λ (x : Reached). Comes s handles holders handed m o x handles holders drained) (sym is)
-      (record { does = e; stays = λ _. (refl, refl, refl, refl); whole = stands.whole; few = tt; handles-length = stands.handles-length; holders-length = stands.holders-length })
-
-  -- a frame that does just that
-  pub works-by : {place : Placement} (f : Frame) (o : ℕ) (m : Step) (r : Reached) (handles' holders' drained : List ℕ) → step base place (state_of (view s) handles holders handed) f ≡ m
-      → Comes s handles holders handed m o r handles' holders' drained → Works place f o s handles holders handed r handles' holders' drained
-  works-by f o m r handles' holders' drained e w =
-      record { does = e ∙ w.does; stays = w.stays; whole = w.whole; few = w.few; handles-length = w.handles-length; holders-length = w.holders-length }
+pub none-refused-4 : (c : rule.Scopes) → (rule.pop_scope base none c ≡ refused 4) × (rule.dangle_scope none c ≡ refused 4) × (rule.restore_scope none c ≡ refused 4)
+unfolding rule.pop_scope rule.poppable rule.dangle_scope rule.restore_scope ◌>>=◌ refuse◌unless◌
+none-refused-4 c = (refl, refl, refl)

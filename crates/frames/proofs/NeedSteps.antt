@@ -1,132 +1,178 @@
 -- The steps that make a need, or ask one: 20, 21, 22, 24. Assumes nothing.
-use mathlib.Core.Path.{◌≡◌, refl, sym, ap, subst, ◌∙◌}
+use mathlib.Core.Path.{◌≡◌, refl, sym, ap, ◌∙◌}
 use mathlib.Core.Bool.{Bool, true, false, ◌||◌}
 use mathlib.Core.List.{List, [], ◌∷◌}
-use mathlib.Core.Option.{none}
-use Prim.Native.Nat.{ℕ, ◌+◌, ◌≤◌, ◌<◌}
-use native.Mathlib.Omega.{arith}
-use lib.ListN.{length, get_or, set, length-set}
+use mathlib.Core.Logic.{⊎_elim}
+use Prim.Native.Nat.{ℕ, ◌≤◌, ◌<◌}
+use lib.ListN.{get_or}
 use borrow.Author.Tests.{le-leb, lt-leb}
-use Rattle.rules.specs.Notation.{◌>>=◌, refuse◌when◌}
-use Rattle.rules.specs.Sizes.{base, NEEDS}
+use Rattle.std.specs.Prelude.{Result, Ok, Err}
+use Rattle.rules.specs.Notation.{Answer, given, refused, ◌>>=◌, refuse◌unless◌}
+use Rattle.rules.specs.Refusals.{number_of, says}
+use Rattle.rules.specs.declared.refusal.Refusal.{Refusal}
+use Rattle.rules.specs.Sizes.{base}
+use Rattle.rules.specs.Slots.{Placement}
 use Rattle.rules.specs.Scopes as rule
-use Rattle.rules.specs.Scopes.{by_id, by_number}
-use Rattle.rules.specs.Needs.{output_of}
-use Rattle.rules.specs.Frames.{Frame, output_need, Remembered, is_gone, lost, output_shown, State, add_need, set_need, shows, one_line, step}
-use Rattle.rules.proofs.Chains.{when_false}
-use Rattle.rules.proofs.Tells.{clash}
-use Rattle.scopes.specs.View.{view, id_of}
-use Rattle.scopes.specs.declared.Scopes.{Scopes}
+use Rattle.rules.specs.Scopes.{by_number}
+use Rattle.rules.specs.Needs as need
+use Rattle.rules.specs.Needs.{defer, at, assigned}
+use Rattle.rules.specs.Frames.{Frame, new_defer, new_assigned, new_ignore, output_need, Remembered, is_gone, lost, output_shown, State, add_need, shows, one_line, step}
+use Rattle.rules.proofs.Chains.{unless-some, unless-none, when_true, when_false}
+use Rattle.rules.proofs.Tells.{clash, or-second}
+use Rattle.scopes.specs.View.{view, id_of, replied}
 use Rattle.scopes.specs.declared.ScopeId.{ScopeId}
-use Rattle.needs.specs.Answers.{output_says}
-use Rattle.needs.specs.declared.OutputAnswer.{OutputAnswer}
-use Rattle.needs.specs.declared.OutputAnswer.TheVariants as output
-use Rattle.handles.specs.Handles.{handle_at}
-use Rattle.handles.specs.NeedTable.{need_in, Needing, table, state_with}
-use Rattle.handles.proofs.NeedTables.{need-set}
+use Rattle.needs.specs.Kinds.{need_of}
+use Rattle.needs.specs.Answers.{output_of}
+use Rattle.needs.specs.declared.Output.{Output}
+use Rattle.needs.specs.declared.Output.TheVariants as output
+use Rattle.needs.specs.declared.Need.{Need as Need'}
+use Rattle.handles.specs.Handles.{Knows, KnownAs}
+use Rattle.handles.specs.NeedTable.{need_in, state_with, KnowsNeed, AddsNeed}
+use Rattle.handles.specs.declared.Handle.{Handle as Known}
+use Rattle.handles.specs.declared.remembered.Needs.{Needs}
+use Rattle.handles.specs.declared.remembered.NeedNumber.{NeedNumber}
 use Rattle.frames.specs.Steps.{nowhere, stepped, Few}
-use Rattle.frames.specs.Needing.{StandsWith, WorksWith, AddsNeed, shown_of}
+use Rattle.frames.specs.Needing.{script, standing, StandsWith, WorksWith}
+use Rattle.frames.specs.declared.steps.Script.{Script}
 use Rattle.frames.specs.declared.steps.Adds.{Adds}
-use Rattle.frames.specs.declared.steps.Adds.TheVariants.{Number, Refused}
+use Rattle.frames.specs.declared.steps.Adds.TheVariants.{Slot, NoSlot, Number}
+use Rattle.frames.proofs.Told.{adding, few-adding}
+use Rattle.frames.proofs.Moving.{numbered-some, numbered-none}
+use Rattle.frames.proofs.Handling.{is-unknown, is_known}
+use Rattle.frames.proofs.Beside.{refused-with}
 
--- ---- one more
+-- what 24 shows
+abbrev pub shown_as : Output → Adds
+shown_as (output.Keep a) = Slot a
+shown_as output.Discard = NoSlot
 
-module _ (needs remembers : List ℕ) (needed b h : ℕ) (long : length needs ≡ NEEDS) (long' : length remembers ≡ NEEDS) where
-  abbrev x : Remembered
-  x = record { need = need_in b; handle = h }
+shown_few : (a : Output) → Few (Ok (shown_as a))
+shown_few (output.Keep a) = tt
+shown_few output.Discard = tt
 
-  pub adding-22 : NEEDS ≤ needed → AddsNeed x (table needs remembers needed) (Refused 22) (table needs remembers needed)
-  unfolding add_need base ◌>>=◌ refuse◌when◌
-  adding-22 l = record {
-    does = λ c handles holders handed o drained. rw (le-leb NEEDS needed l, add_need);
-    stays = λ _. refl;
-    few = tt;
-    needs-length = long;
-    remembers-length = long';
-  }
+module _ {p : Script} (stands : StandsWith p) where
+  abbrev here : State
+  here = standing p
 
-  pub adding : needed < NEEDS → AddsNeed x (table needs remembers needed) (Number needed) (table (set needs needed b) (set remembers needed h) (needed + 1))
-  unfolding add_need set_need base ◌>>=◌ refuse◌when◌
-  adding l = record {
-    does = λ c handles holders handed o drained.
-        rw (lt-leb NEEDS needed l, add_need)
-        (λ t. one_line (shows o (needed ∷ [])) (record { scopes = c; handles = handle_at c.slots.occupied handles holders; handed = handed; needs = sym (need-set needs remembers needed b h (omega arith) (omega arith)) t; needed = needed + 1 }));
-    stays = λ q. clash q refl;
-    few = tt;
-    needs-length = simp length-set long;
-    remembers-length = simp length-set long';
-  }
+  -- ---- a step that only makes a need, or is refused
 
--- ---- a step that only makes a need, or is refused
+  module _ (f : Frame) (o : ℕ) (y : Remembered) (e : step base nowhere here f ≡ (add_need base y here >>= λ u. one_line (shows o (p.needs.needed ∷ [])) u)) where
+    pub made-works : (k : NeedNumber) {t : Needs} → AddsNeed y p.needs (Ok k) t → (drained : List ℕ) → WorksWith nowhere f o p (Ok (Number k.0)) (script p.scopes p.handles t) drained
+    unfolding ◌>>=◌
+    made-works k {t} a drained = record {
+      does = e ∙ ap (λ (m : Answer State). m >>= λ u. one_line (shows o (p.needs.needed ∷ [])) u) (a.does (view p.scopes) p.handles) ∙ λ i. one_line (shows o (sym a.numbered i ∷ [])) (state_with (view p.scopes) p.handles t);
+      stays = λ q. clash q refl;
+      needs_stay = λ q. clash q refl;
+      whole = stands.stands.whole;
+      few = tt;
+      handles-length = stands.stands.handles-length;
+      holders-length = stands.stands.holders-length;
+      needs-length = a.needs-length;
+      remembers-length = a.remembers-length;
+    }
 
-module _ (s : Scopes) (handles holders : List ℕ) (handed : ℕ) (t : Needing) (stands : StandsWith s handles holders handed t) (f : Frame) (o : ℕ) where
-  abbrev standing : State
-  standing = state_with (view s) handles holders handed t
+    pub full-works : (x : Refusal) {t : Needs} → AddsNeed y p.needs (Err x) t → (drained : List ℕ) → WorksWith nowhere f o p (Err x) (script p.scopes p.handles t) drained
+    unfolding ◌>>=◌
+    full-works x {t} a drained = record {
+      does = e ∙ ap (λ (m : Answer State). m >>= λ u. one_line (shows o (p.needs.needed ∷ [])) u) (a.does (view p.scopes) p.handles);
+      stays = λ _. (refl, refl);
+      needs_stay = a.stays;
+      whole = stands.stands.whole;
+      few = tt;
+      handles-length = stands.stands.handles-length;
+      holders-length = stands.stands.holders-length;
+      needs-length = a.needs-length;
+      remembers-length = a.remembers-length;
+    }
 
-  pub makes : (x y : Remembered) → x ≡ y → (adds : Adds) (t' : Needing) → AddsNeed x t adds t'
-      → step base nowhere standing f ≡ (add_need base y standing >>= λ u. one_line (shows o (t.needed ∷ [])) u) → (drained : List ℕ)
-      → WorksWith nowhere f o s handles holders handed t (record { state = s; handed = handed; adds = adds }) handles holders t' drained
-  makes x y q adds t' a e drained = record {
-    does = e ∙ ap (λ (z : Remembered). add_need base z standing >>= λ u. one_line (shows o (t.needed ∷ [])) u) (sym q) ∙ a.does (view s) handles holders handed o drained;
-    stays = λ _. (refl, refl, refl, refl);
-    needs_stay = a.stays;
-    whole = stands.stands.whole;
-    few = a.few;
-    handles-length = stands.stands.handles-length;
-    holders-length = stands.stands.holders-length;
-    needs-length = a.needs-length;
-    remembers-length = a.remembers-length;
-  }
+  -- ---- 20, of a number that the code has as m
 
--- ---- 20
+  module _ (n : ℕ) {m : ℕ} (same : m ≡ n) where
+    pub defer-4 : (e : Refusal) → refused (number_of e) ≡ replied rule.id_of (refuse 4 unless (by_number base (view p.scopes) m)) → (drained : List ℕ) → WorksWith nowhere (new_defer n) 0x20 p (Err e) p drained
+    unfolding step
+    defer-4 e is drained =
+        let z = numbered-none p.scopes m (Err e) is e refl in
+        refused-with stands (new_defer n) 0x20 e (unless-none 4 _ (ap (by_number base (view p.scopes)) (sym same) ∙ z.0) ∙ ap refused (sym z.1)) drained
 
--- an id that no scope has
-pub none-meant : (c : rule.Scopes) (n : ℕ) (id : ScopeId) → by_id base c (id_of id) ≡ by_number base c n → id.index ≡ 255 → by_number base c n ≡ none
-unfolding base by_id
-none-meant c n id is e = sym is ∙ ap (λ (i : ℕ). by_id base c (record { index = i; number = id.number })) e
+    pub defer-as : (id : ScopeId) → given (id_of id) ≡ replied rule.id_of (refuse 4 unless (by_number base (view p.scopes) m)) → (b : ℕ) → need_in b ≡ defer (id_of id)
+        → step base nowhere here (new_defer n) ≡ (add_need base (record { need = need_in b; handle = 0 }) here >>= λ u. one_line (shows 0x20 (p.needs.needed ∷ [])) u)
+    unfolding step
+    defer-as id is b q =
+        let k = numbered-some p.scopes m (Ok id) is id refl in
+        unless-some 4 _ (ap (by_number base (view p.scopes)) (sym same) ∙ k.1.0)
+        ∙ λ t. add_need base (record { need = (ap defer (sym k.1.1) ∙ sym q) t; handle = 0 }) here >>= λ u. one_line (shows 0x20 (p.needs.needed ∷ [])) u
 
--- ---- 24
+  -- ---- 21
 
-shows-output : (a : OutputAnswer) (t : State) (drained : List ℕ) → (output_says a >>= λ o. one_line (shows 0x24 (output_shown o ∷ [])) t) ≡ stepped 0x24 (shown_of a) t drained
-unfolding ◌>>=◌
-shows-output (output.Keep a) t drained = refl
-shows-output output.Discard t drained = refl
-shows-output (output.Refused n) t drained = refl
+  module _ (h : ℕ) where
+    pub assigned-13 : (e : Refusal) → Knows p.handles h (Err e) → (drained : List ℕ) → WorksWith nowhere (new_assigned h) 0x21 p (Err e) p drained
+    unfolding step
+    assigned-13 e k drained = refused-with stands (new_assigned h) 0x21 e (when_true 13 _ (is-unknown here h k.0) ∙ ap (λ (x : Refusal). refused (number_of x)) (sym k.1)) drained
 
-few-output : (a : OutputAnswer) → Few (shown_of a)
-few-output (output.Keep a) = tt
-few-output output.Discard = tt
-few-output (output.Refused n) = tt
+    pub assigned-as : (x : Known) → KnownAs p.handles h x → (b : ℕ) → need_in b ≡ at (record { slot = x.address.slot.0; kind = assigned })
+        → step base nowhere here (new_assigned h) ≡ (add_need base (record { need = need_in b; handle = h }) here >>= λ u. one_line (shows 0x21 (p.needs.needed ∷ [])) u)
+    unfolding step
+    assigned-as x k b q =
+        when_false 13 _ (is_known here h k.0)
+        ∙ λ t. add_need base (record { need = ((λ i. at (record { slot = k.1.slot i; kind = assigned })) ∙ sym q) t; handle = h }) here >>= λ u. one_line (shows 0x21 (p.needs.needed ∷ [])) u
 
-module _ (t : State) (n : ℕ) where
-  pub lost-unknown : t.needed ≤ n → lost t n ≡ true
-  unfolding lost
-  lost-unknown l = ap (λ (b : Bool). b || is_gone (t.needs n).need) (le-leb t.needed n l)
+  -- ---- 22
 
-  pub lost-gone : n < t.needed → is_gone (t.needs n).need ≡ true → lost t n ≡ true
-  unfolding lost
-  lost-gone l e = rw (lt-leb t.needed n l, e)
-
-  pub not-lost : n < t.needed → is_gone (t.needs n).need ≡ false → lost t n ≡ false
-  unfolding lost
-  not-lost l e = rw (lt-leb t.needed n l, e)
-
-module _ (s : Scopes) (handles holders : List ℕ) (handed : ℕ) (t : Needing) (stands : StandsWith s handles holders handed t) (n : ℕ) where
-  pub output-works : n < t.needed → is_gone (need_in (get_or t.needs n 0)) ≡ false → (a : OutputAnswer) → output_says a ≡ output_of (need_in (get_or t.needs n 0)) → (adds : Adds) → adds ≡ shown_of a → (drained : List ℕ)
-      → WorksWith nowhere (output_need n) 0x24 s handles holders handed t (record { state = s; handed = handed; adds = adds }) handles holders t drained
+  pub ignore-as : step base nowhere here new_ignore ≡ (add_need base (record { need = need.ignore; handle = 0 }) here >>= λ u. one_line (shows 0x22 (p.needs.needed ∷ [])) u)
   unfolding step
-  output-works l g a e adds q drained = record {
-    does =
-        when_false 21 _ (not-lost (state_with (view s) handles holders handed t) n l g)
-        ∙ (λ u. sym e u >>= λ o. one_line (shows 0x24 (output_shown o ∷ [])) (state_with (view s) handles holders handed t))
-        ∙ shows-output a (state_with (view s) handles holders handed t) drained
-        ∙ λ u. stepped 0x24 (sym q u) (state_with (view s) handles holders handed t) drained;
-    stays = λ _. (refl, refl, refl, refl);
-    needs_stay = λ _. refl;
-    whole = stands.stands.whole;
-    few = subst Few (sym q) (few-output a);
-    handles-length = stands.stands.handles-length;
-    holders-length = stands.stands.holders-length;
-    needs-length = stands.needs-length;
-    remembers-length = stands.remembers-length;
-  }
+  ignore-as = refl
+
+  -- ---- 21 of a need that isn't there any more, or never was
+
+  module _ (n : ℕ) where
+    lost-unknown : p.needs.needed ≤ n → lost here n ≡ true
+    unfolding lost
+    lost-unknown l = ap (λ (b : Bool). b || is_gone (here.needs n).need) (le-leb p.needs.needed n l)
+
+    lost-freed : is_gone (need_in (get_or p.needs.table n 0)) ≡ true → lost here n ≡ true
+    unfolding lost
+    lost-freed e = or-second _ _ e
+
+    pub lost-one : (e : Refusal) → KnowsNeed p.needs n (Err e) → lost here n ≡ true
+    lost-one e k = ⊎_elim lost-unknown lost-freed k.0
+
+    pub not-lost : n < p.needs.needed → is_gone (need_in (get_or p.needs.table n 0)) ≡ false → lost here n ≡ false
+    unfolding lost
+    not-lost l e = rw (lt-leb p.needs.needed n l, e)
+
+    pub there : (d : Need') → KnowsNeed p.needs n (Ok d) → lost here n ≡ false
+    there d k = not-lost k.0 (ap is_gone (sym k.1) ∙ k.2)
+
+    -- 23, 24, 25 of it
+    pub need-21 : {place : Placement} (f : Frame) (o : ℕ) → (lost here n ≡ true → step base place here f ≡ refused 21) → (e : Refusal) → KnowsNeed p.needs n (Err e) → (drained : List ℕ) → WorksWith place f o p (Err e) p drained
+    need-21 f o q e k drained = refused-with stands f o e (q (lost-one e k) ∙ ap (λ (x : Refusal). refused (number_of x)) (sym k.1)) drained
+
+    -- ---- 24
+
+    pub output-21 : (e : Refusal) → KnowsNeed p.needs n (Err e) → (drained : List ℕ) → WorksWith nowhere (output_need n) 0x24 p (Err e) p drained
+    unfolding step
+    output-21 = need-21 (output_need n) 0x24 (λ q. when_true 21 _ q)
+
+    shows_it : (r : Result Output Refusal) (drained : List ℕ) → (says output_of r >>= λ o. one_line (shows 0x24 (output_shown o ∷ [])) here) ≡ stepped 0x24 (adding shown_as r) here drained
+    unfolding ◌>>=◌
+    shows_it (Ok (output.Keep a)) drained = refl
+    shows_it (Ok output.Discard) drained = refl
+    shows_it (Err x) drained = refl
+
+    module _ (d : Need') (k : KnowsNeed p.needs n (Ok d)) where
+      output-as : {a : Answer need.Output} → a ≡ need.output_of (need_of d) → step base nowhere here (output_need n) ≡ (a >>= λ o. one_line (shows 0x24 (output_shown o ∷ [])) here)
+      unfolding step
+      output-as e = when_false 21 _ (there d k) ∙ λ t. (ap need.output_of (sym k.1) ∙ sym e) t >>= λ o. one_line (shows 0x24 (output_shown o ∷ [])) here
+
+      pub output-works : (r : Result Output Refusal) → says output_of r ≡ need.output_of (need_of d) → (drained : List ℕ) → WorksWith nowhere (output_need n) 0x24 p (adding shown_as r) p drained
+      output-works r e drained = record {
+        does = output-as e ∙ shows_it r drained;
+        stays = λ _. (refl, refl);
+        needs_stay = λ _. refl;
+        whole = stands.stands.whole;
+        few = few-adding shown_as shown_few r;
+        handles-length = stands.stands.handles-length;
+        holders-length = stands.stands.holders-length;
+        needs-length = stands.needs-length;
+        remembers-length = stands.remembers-length;
+      }

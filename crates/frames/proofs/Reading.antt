@@ -1,88 +1,86 @@
 -- 09 define, 0a get, 0b take, 0f drain and 12 read name. Assumes nothing.
-use mathlib.Core.Path.{◌≡◌, refl, sym, ap, subst, ◌∙◌}
-use mathlib.Core.Bool.{true, false}
+use mathlib.Core.Path.{◌≡◌, refl, sym, ap, ◌∙◌}
 use mathlib.Core.List.{List, [], ◌∷◌}
 use Prim.Native.Nat.{ℕ, ◌≤◌, ◌<◌}
 use native.Mathlib.Omega.{arith}
-use lib.ListN.{length, get_or, take, length-take}
+use lib.ListN.{length, length-take}
+use Rattle.std.specs.Prelude.{Result, Ok, Err}
 use Rattle.rules.specs.Notation.{Answer, given, refused, ◌>>=◌}
-use Rattle.rules.specs.Sizes.{base, HANDLES, SCOPES, SLOTS}
+use Rattle.rules.specs.Refusals.{number_of, says}
+use Rattle.rules.specs.declared.refusal.Refusal.{Refusal}
+use Rattle.rules.specs.Sizes.{base, SLOTS}
 use Rattle.rules.specs.Scopes as rule
 use Rattle.rules.specs.Needs.{is_freed}
 use Rattle.rules.specs.Frames as frame
-use Rattle.rules.specs.Frames.{State, scopes≔, Line, shows, one_line, Step, step}
+use Rattle.rules.specs.Frames.{State, scopes≔, shows, one_line, Step, step}
 use Rattle.rules.proofs.Chains.{unless-some, unless-none, when_true, when_false}
 use Rattle.rules.proofs.Leaves.{bind-leaves, take-leaves}
 use Rattle.rules.proofs.Held.{got-agrees}
 use Rattle.rules.proofs.Tells.{clash}
-use Rattle.scopes.specs.View.{view, bound, seen, told, told_only, replied}
-use Rattle.scopes.specs.Lent.{is_refusal, Whole}
-use Rattle.scopes.proofs.Finds.{no_top}
+use Rattle.scopes.specs.View.{view, bound_to, target, told, told_only, replied}
+use Rattle.scopes.specs.Steps.{Becomes, Drains}
+use Rattle.scopes.specs.Leaves.{Tops}
 use Rattle.scopes.specs.declared.Scopes.{Scopes}
-use Rattle.scopes.specs.declared.Outcome.{Outcome}
-use Rattle.scopes.specs.declared.Reply.{Reply}
-use Rattle.scopes.specs.declared.Reply.TheVariants as reply
-use Rattle.needs.specs.Kinds.{kind_of}
-use Rattle.handles.specs.Handles.{state_of, Coded}
-use Rattle.frames.specs.Steps.{nowhere, stepped, adds_of, handle_or, Few, loading, LoadsOf, Stands, Works, Reached}
+use Rattle.scopes.specs.declared.Bound.{Bound}
+use Rattle.handles.specs.Handles.{state_of, KnowsUnspent}
+use Rattle.handles.specs.declared.Handles.{Handles}
 use Rattle.handles.specs.declared.Handle.{Handle as Known}
+use Rattle.frames.specs.Steps.{nowhere, loading, LoadsOf, Stands, Works}
 use Rattle.frames.specs.declared.steps.Adds.{Adds}
-use Rattle.frames.specs.declared.steps.Adds.TheVariants.{Drained}
-use Rattle.frames.proofs.Moving.{few-reply, reply-leaves, over-same, told-does, only-does}
-use Rattle.frames.proofs.Allocations.{has-top}
-use Rattle.frames.proofs.Handling.{spent-unknown, spent-freed, unspent}
+use Rattle.frames.specs.declared.steps.Adds.TheVariants.{Nothing, Slot, Drained}
+use Rattle.frames.proofs.Told.{adding, few-adding, given-refused, unless-ok, unless-err, told-then, replied-then}
+use Rattle.frames.proofs.Moving.{over-same, works-refused, moved-works, nothing-does}
+use Rattle.frames.proofs.Handling.{spent-one, unspent, coded}
 
 -- read name, of what the name's lookup answers
 named-chain : (name : ℕ) (t : State) (m : Answer rule.Binding) → rule.get_name base name t.scopes ≡ m → step base nowhere t (frame.read_name name) ≡ (m >>= λ b. loading 0x12 t b.handle)
 unfolding step
 named-chain name t m e = ap (λ (x : Answer rule.Binding). x >>= λ b. loading 0x12 t b.handle) e
 
-module _ (s : Scopes) (handles holders : List ℕ) (handed : ℕ) (stands : Stands s handles holders handed) where
+-- what a binding gives is its address
+abbrev pub slot_adds : Bound → Adds
+slot_adds b = Slot b.address
+
+module _ {s : Scopes} {handles : Handles} (stands : Stands s handles) where
   abbrev c : rule.Scopes
   c = view s
 
   abbrev standing : State
-  standing = state_of c handles holders handed
-
-  -- nothing moves
-  still : (f : frame.Frame) (o : ℕ) (adds : Adds) (drained : List ℕ) → Few adds → step base nowhere standing f ≡ stepped o adds standing drained
-      → Works nowhere f o s handles holders handed (record { state = s; handed = handed; adds = adds }) handles holders drained
-  still f o adds drained few e = record { does = e; stays = λ _. (refl, refl, refl, refl); whole = stands.whole; few = few; handles-length = stands.handles-length; holders-length = stands.holders-length }
+  standing = state_of c handles
 
   -- ---- get
 
-  got-step : (name : ℕ) (y : Reply) (adds : Adds) (drained : List ℕ) → y ≡ replied bound (rule.get_name base name c) → adds ≡ adds_of y → step base nowhere standing (frame.get name) ≡ stepped 0x0a adds standing drained
-  unfolding step ◌>>=◌
-  got-step name y adds drained e q = go (rule.get_name base name c) (e)
-    where
-      go : (m : Answer rule.Binding) → y ≡ replied bound m → (m >>= λ b. one_line (shows 0x0a (b.address ∷ [])) standing) ≡ stepped 0x0a adds standing drained
-      go (given b) p = λ t. stepped 0x0a (sym (q ∙ ap adds_of p) t) standing drained
-      go (refused n) p = λ t. stepped 0x0a (sym (q ∙ ap adds_of p) t) standing drained
-
-  pub get-works : (name : ℕ) (y : Reply) (adds : Adds) (drained : List ℕ) → y ≡ replied bound (rule.get_name base name c) → adds ≡ adds_of y → Works nowhere (frame.get name) 0x0a s handles holders handed (record { state = s; handed = handed; adds = adds }) handles holders drained
-  get-works name y adds drained e q = still (frame.get name) 0x0a adds drained (subst Few (sym q) (few-reply y)) (got-step name y adds drained e q)
+  pub get-works : (name : ℕ) (r : Result Bound Refusal) → says bound_to r ≡ replied target (rule.get_name base name c) → (drained : List ℕ) → Works nowhere (frame.get name) 0x0a s handles (adding slot_adds r) s handles drained
+  unfolding step
+  get-works name r e drained = record {
+    does = replied-then bound_to slot_adds 0x0a standing drained target r (rule.get_name base name c) e _ (λ x v _ _ q t. one_line (shows 0x0a ((sym q t).0 ∷ [])) standing);
+    stays = λ _. (refl, refl);
+    whole = stands.whole;
+    few = few-adding slot_adds (λ _. tt) r;
+    handles-length = stands.handles-length;
+    holders-length = stands.holders-length;
+  }
 
   -- ---- take
 
-  pub take-does : (drained : List ℕ) (d : rule.Scopes) (y : Reply) (name : ℕ) → record { next = d; says = y } ≡ told bound c (rule.take_name base name c)
-      → step base nowhere standing (frame.take_from name) ≡ stepped 0x0b (adds_of y) (state_of d handles holders handed) drained
+  pub take-works : (name : ℕ) (r : Result Bound Refusal) → {s' : Scopes} → Becomes s s' (says bound_to r) (λ c. told target c (rule.take_name base name c)) → (drained : List ℕ)
+      → Works nowhere (frame.take_from name) 0x0b s handles (adding slot_adds r) s' handles drained
   unfolding step
-  take-does drained d y name e =
-      told-does c handles holders handed drained 0x0b d y bound (λ b. shows 0x0b (b.address ∷ [])) (rule.take_name base name c) e
-      (λ x q. ((take-leaves base c name).at x q).1.slots-are)
-      (λ x q t. refl)
+  take-works name r {s'} b drained =
+      moved-works stands bound_to slot_adds (λ _. tt) r b (frame.take_from name) 0x0b drained
+      (told-then bound_to slot_adds 0x0b (state_of (view s') handles) drained target c (view s') r (rule.take_name base name c) b.is _
+      (λ x v q d _ i t. one_line (shows 0x0b ((sym i t).0 ∷ [])) (over-same s s' handles drained x.1 (view s') d ((take-leaves base c name).at x q).1.slots-are t)))
 
   -- ---- drain
 
-  pub drain-works : (t : Scopes) (count : ℕ) (drained : List ℕ) → view t ≡ (rule.drain_dangling c).1 → take count drained ≡ (rule.drain_dangling c).0 → Whole t → length drained ≡ SLOTS → count ≤ SLOTS
-      → Works nowhere frame.drain 0x0f s handles holders handed (record { state = t; handed = handed; adds = Drained count }) handles holders drained
+  pub drain-works : {s' : Scopes} {n : ℕ} (drained : List ℕ) → Drains s s' n drained → length drained ≡ SLOTS → n ≤ SLOTS → Works nowhere frame.drain 0x0f s handles (Ok (Drained n)) s' handles drained
   unfolding step rule.drain_dangling
-  drain-works t count drained e q ok long few =
-      let n : length c.dangling ≡ count = sym (ap length q) ∙ length-take count drained ∙ omega arith in
+  drain-works {s'} {n} drained d long few =
+      let m : length c.dangling ≡ n = sym (ap length d.first) ∙ length-take n drained ∙ omega arith in
       record {
-        does = λ u. one_line (shows 0x0f (n u ∷ sym q u)) (over-same c handles holders handed drained (rule.dangling≔ [] c) (view t) (sym e) refl u);
+        does = λ u. one_line (shows 0x0f (m u ∷ sym d.first u)) (over-same s s' handles drained (rule.dangling≔ [] c) (view s') d.next refl u);
         stays = λ q. clash q refl;
-        whole = ok;
+        whole = d.whole;
         few = few;
         handles-length = stands.handles-length;
         holders-length = stands.holders-length;
@@ -90,63 +88,60 @@ module _ (s : Scopes) (handles holders : List ℕ) (handed : ℕ) (stands : Stan
 
   -- ---- define
 
-  pub define-3 : (name h : ℕ) → s.top ≡ SCOPES → step base nowhere standing (frame.define name h) ≡ refused 3
+  pub define-3 : (name h : ℕ) (e : Refusal) → Tops s (Err e) → (drained : List ℕ) → Works nowhere (frame.define name h) 0x09 s handles (Err e) s handles drained
   unfolding step
-  define-3 name h e = unless-none 3 _ (no_top s e)
+  define-3 name h e t drained = let n = unless-err 3 (rule.top_scope c) e t.is in works-refused stands (frame.define name h) 0x09 e (unless-none 3 _ n.0 ∙ ap refused (sym n.1)) drained
 
-  module _ (name h : ℕ) (ne : s.top ≡ SCOPES → ⊥) where
-    pub define-unknown : handed ≤ h → step base nowhere standing (frame.define name h) ≡ refused 13
+  module _ (name h : ℕ) {i : ℕ} (t : Tops s (Ok i)) where
+    pub define-13 : (e : Refusal) → KnowsUnspent handles h (Err e) → (drained : List ℕ) → Works nowhere (frame.define name h) 0x09 s handles (Err e) s handles drained
     unfolding step
-    define-unknown l = unless-some 3 _ (has-top s stands ne).1 ∙ when_true 13 _ (spent-unknown standing h l)
+    define-13 e k drained =
+        works-refused stands (frame.define name h) 0x09 e
+        (unless-some 3 _ (unless-ok 3 (rule.top_scope c) t.is) ∙ when_true 13 _ (spent-one c handles h k.0) ∙ ap (λ (x : Refusal). refused (number_of x)) (sym k.1)) drained
 
-    module _ (x : Known) (coded : Coded (get_or handles h 0) x) where
-      pub define-freed : is_freed (kind_of x.address.kind) ≡ true → step base nowhere standing (frame.define name h) ≡ refused 13
-      unfolding step
-      define-freed e = unless-some 3 _ (has-top s stands ne).1 ∙ when_true 13 _ (spent-freed standing h (ap is_freed coded.kind ∙ e))
-
-      pub define-works : h < handed → is_freed (kind_of x.address.kind) ≡ false → (o : Outcome) → seen o ≡ told_only c (rule.define_name base name x.address.slot.0 h c) → Whole o.state → (is_refusal o.reply ≡ true → o.state ≡ s)
-          → (r : Reached) → r ≡ record { state = o.state; handed = handed; adds = adds_of o.reply } → (drained : List ℕ) → Works nowhere (frame.define name h) 0x09 s handles holders handed r handles holders drained
-      unfolding step
-      define-works l live o e ok left r is drained =
-          let t = has-top s stands ne in
-          let known : seen o ≡ told_only c (rule.bind_in base t.0 name (standing.handles h).address h c)
-          = e ∙ (λ u. told_only c (rule.define_name base name (sym coded.slot u) h c)) ∙ ap (told_only c) (unless-some 3 _ t.1) in
-          let does : step base nowhere standing (frame.define name h) ≡ stepped 0x09 (adds_of o.reply) (state_of (view o.state) handles holders handed) drained
-          = unless-some 3 _ t.1 ∙ when_false 13 _ (unspent standing h l (ap is_freed coded.kind ∙ live))
-          ∙ only-does c handles holders handed drained 0x09 (view o.state) o.reply (rule.bind_in base t.0 name (standing.handles h).address h c) known
-          (λ x q. ((bind-leaves base c t.0 name (standing.handles h).address h).at x q).slots-are) in
-          subst (λ (z : Reached). Works nowhere (frame.define name h) 0x09 s handles holders handed z handles holders drained) (sym is)
-          (record { does = does; stays = λ q. (reply-leaves o.reply left q, refl, refl, refl); whole = ok; few = few-reply o.reply; handles-length = stands.handles-length; holders-length = stands.holders-length })
+    pub define-works : (x : Known) → KnowsUnspent handles h (Ok x) → (r : Result (Unit {0}) Refusal) → {s' : Scopes} → Becomes s s' (says (λ u. u) r) (λ c. told_only c (rule.define_name base name x.address.slot.0 h c)) → (drained : List ℕ)
+        → Works nowhere (frame.define name h) 0x09 s handles (adding (λ _. Nothing) r) s' handles drained
+    unfolding step
+    define-works x k r {s'} b drained =
+        let top = unless-ok 3 (rule.top_scope c) t.is in
+        let known = coded stands h x k.0 in
+        let is = b.is ∙ (λ u. told_only c (rule.define_name base name (sym known.slot u) h c)) ∙ ap (told_only c) (unless-some 3 _ top) in
+        moved-works stands (λ (u : Unit {0}). u) (λ _. Nothing) (λ _. tt) r b (frame.define name h) 0x09 drained
+        (unless-some 3 _ top ∙ when_false 13 _ (unspent standing h k.0.0 (ap is_freed known.kind ∙ k.1))
+        ∙ nothing-does s s' handles drained 0x09 r (rule.bind_in base _ name (standing.handles h).address h c) is (λ y q. ((bind-leaves base c _ name (standing.handles h).address h).at y q).slots-are))
 
   -- ---- read name
 
-  -- the load of the same handle, by another name for its number
-  pub loads-at : (f : frame.Frame) (o : ℕ) {h k : ℕ} → h ≡ k → LoadsOf f o s handles holders handed h → LoadsOf f o s handles holders handed k
-  loads-at f o e l = subst (LoadsOf f o s handles holders handed) e l
-
-  module _ (name : ℕ) (y : Reply) (e : y ≡ replied bound (rule.get_name base name c)) where
-    -- what is known of the name's answer
-    pub named-refused : handed ≤ handle_or y → (adds : Adds) → adds ≡ adds_of y → (drained : List ℕ)
-        → Works nowhere (frame.read_name name) 0x12 s handles holders handed (record { state = s; handed = handed; adds = adds }) handles holders drained
-    unfolding step ◌>>=◌
-    named-refused l adds q drained = still (frame.read_name name) 0x12 adds drained (subst Few (sym q) (few-reply y)) (go (rule.get_name base name c) refl)
+  module _ (name : ℕ) where
+    pub named-refused : (e : Refusal) → refused (number_of e) ≡ replied target (rule.get_name base name c) → (drained : List ℕ) → Works nowhere (frame.read_name name) 0x12 s handles (Err e) s handles drained
+    unfolding ◌>>=◌
+    named-refused e q drained = works-refused stands (frame.read_name name) 0x12 e (go (rule.get_name base name c) refl) drained
       where
-        go : (m : Answer rule.Binding) → rule.get_name base name c ≡ m → step base nowhere standing (frame.read_name name) ≡ stepped 0x12 adds standing drained
-        go (given b) p =
-            let says : handle_or y ≡ b.handle = ap handle_or (e ∙ ap (replied bound) p) in
-            absurd (omega (arith, ((got-agrees base standing stands.state name).at b p).0))
+        go : (m : Answer rule.Binding) → rule.get_name base name c ≡ m → step base nowhere standing (frame.read_name name) ≡ refused (number_of e)
+        go (given b) p = given-refused (sym (q ∙ ap (replied target) p))
         go (refused n) p =
-            let says : y ≡ reply.Refused n = e ∙ ap (replied bound) p in
-            named-chain name standing (refused n) p ∙ λ t. stepped 0x12 (sym (q ∙ ap adds_of says) t) standing drained
+            let z : refused (number_of e) ≡ replied target (refused n) = q ∙ ap (replied target) p in
+            let same : number_of e ≡ n = cc in
+            named-chain name standing (refused n) p ∙ ap refused (sym same)
 
-    pub named-loads : handle_or y < handed → handed ≤ HANDLES → LoadsOf (frame.read_name name) 0x12 s handles holders handed (handle_or y)
-    unfolding step ◌>>=◌
-    named-loads l few = go (rule.get_name base name c) refl
-      where
-        go : (m : Answer rule.Binding) → rule.get_name base name c ≡ m → LoadsOf (frame.read_name name) 0x12 s handles holders handed (handle_or y)
-        go (given b) p =
-            let says : handle_or y ≡ b.handle = ap handle_or (e ∙ ap (replied bound) p) in
-            named-chain name standing (given b) p ∙ λ t. loading 0x12 standing (sym says t)
-        go (refused n) p =
-            let says : handle_or y ≡ 65535 = ap handle_or (e ∙ ap (replied bound) p) in
-            absurd (omega arith)
+    module _ (b : Bound) (is : given (bound_to b) ≡ replied target (rule.get_name base name c)) where
+      found : (x : rule.Binding) × ((rule.get_name base name c ≡ given x) × (x.handle ≡ b.handle.0))
+      found = go (rule.get_name base name c) refl
+        where
+          go : (m : Answer rule.Binding) → rule.get_name base name c ≡ m → (x : rule.Binding) × ((rule.get_name base name c ≡ given x) × (x.handle ≡ b.handle.0))
+          go (given x) p =
+              let z : given (bound_to b) ≡ replied target (given x) = is ∙ ap (replied target) p in
+              let same : bound_to b ≡ target x = cc in
+              (x, (p, sym (ap (λ (y : ℕ × ℕ). y.1) same)))
+          go (refused n) p = given-refused (is ∙ ap (replied target) p)
+
+      -- its handle was handed out
+      pub named-known : b.handle.0 < handles.handed
+      named-known = let f = found in omega (arith, f.1.1, ((got-agrees base standing stands.state name).at f.0 f.1.0).0)
+
+      pub named-loads : LoadsOf (frame.read_name name) 0x12 s handles b.handle.0
+      unfolding ◌>>=◌
+      named-loads = let f = found in go f.0 f.1.0 f.1.1
+        where
+          go : (x : rule.Binding) → rule.get_name base name c ≡ given x → x.handle ≡ b.handle.0 → LoadsOf (frame.read_name name) 0x12 s handles b.handle.0
+          go x p q = named-chain name standing (given x) p ∙ λ t. loading 0x12 standing (q t)

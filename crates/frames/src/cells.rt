@@ -1,120 +1,69 @@
 // 10 and 14 write, 11 read, 12 read name: frames that leave the state alone.
-ghost use Rattle.std.specs.Prelude.{◌≡◌, ℕ, ◌<◌};
+ghost use Rattle.std.specs.Prelude.{◌≡◌, ℕ};
 ghost use Rattle.rules.specs.Frames as frame;
-ghost use Rattle.frames.specs.Steps.{handle_or, source_of, on_halves, halves_in, cells_in, Stands, StandsCells, StaysReading, StaysMarking, LoadsOn};
+ghost use Rattle.handles.specs.Handles.{KnownAs};
+ghost use Rattle.frames.specs.Steps.{source_of, Stands, Leads, LoadsOn};
 
-use crate::steps::{Adds, Source, adds_of};
-use handles::{Handle, is_held, packed, unpacked};
+use crate::steps::{Adds, Source};
+use handles::{Handle, Handles};
 use needs::addresses::allocated;
-use rules::{BINDINGS, HALVES, HANDLES, SCOPES, SLOTS};
-use scopes::lent::names;
-use scopes::{HandleNumber, Numbers, Reply, Scopes};
+use rules::refusal::Refusal;
+use scopes::{HandleNumber, Scopes};
 
 // 13, 14. A write makes a Dangling handle Local.
 pub fn write(
-    halves: &[u64; HALVES],
-    handles: &mut [u64; HANDLES],
-    holders: &[u16; SLOTS],
-    handed: usize,
+    scopes: &Scopes,
+    handles: &mut Handles,
     h: HandleNumber,
     x: Source,
-) -> Adds
-    requires { (s : Scopes) × Stands (on_halves s halves.now) handles.old holders.now handed }
-    ensures { (o : ℕ) (s : Scopes) → StaysMarking (frame.write h.0 (source_of x)) o (halves_in s halves) handles holders handed result }
+) -> Result<Adds, Refusal>
+    requires { Stands scopes.now handles.old }
+    ensures leads { (o : ℕ) → Leads (frame.write h.0 (source_of x)) o scopes.now handles.old result scopes.now handles.new }
+    ensures holders { handles.new.holders ≡ handles.old.holders }
 {
-    let i = h.0 as usize;
-    if handed <= i {
-        return Adds::Refused(13);
+    let known = handles.known(h)?;
+    let slot = known.address.slot;
+    if !handles.is_held(&scopes.halves, slot, h) {
+        return Err(Refusal::NotHeld);
     }
-    let known = unpacked(handles[i]);
-    let address = known.address;
-    let slot = address.slot;
-    if !is_held(halves, holders, slot, h) {
-        return Adds::Refused(14);
-    }
-    handles[i] = packed(Handle {
-        address: allocated(address),
+    let written = Handle {
+        address: allocated(known.address),
         written: true,
-    });
-    Adds::Store(slot, x)
+    };
+    handles.set(h, written);
+    Ok(Adds::Store(slot, x))
 }
 
-// The load of handle h, which is known: 14, 15.
-fn load(
-    halves: &[u64; HALVES],
-    handles: &[u64; HANDLES],
-    holders: &[u16; SLOTS],
-    handed: usize,
-    h: HandleNumber,
-) -> Adds
-    requires { ((s : Scopes) × Stands (on_halves s halves.now) handles.now holders.now handed) × (h.0 < handed) }
-    ensures { LoadsOn halves handles holders handed h.0 result }
+// The load of handle h, which is known as x: 14, 15.
+fn load(scopes: &Scopes, handles: &Handles, h: HandleNumber, x: Handle) -> Result<Adds, Refusal>
+    requires { Stands scopes.now handles.now × KnownAs handles.now h.0 x }
+    ensures { LoadsOn scopes.now handles.now h.0 result }
 {
-    let i = h.0 as usize;
-    let x = unpacked(handles[i]);
-    let address = x.address;
-    let slot = address.slot;
-    if !is_held(halves, holders, slot, h) {
-        return Adds::Refused(14);
+    let slot = x.address.slot;
+    if !handles.is_held(&scopes.halves, slot, h) {
+        return Err(Refusal::NotHeld);
     }
     if x.written {
-        return Adds::Load(slot);
+        return Ok(Adds::Load(slot));
     }
-    Adds::Refused(15)
+    Err(Refusal::NeverWritten)
 }
 
 // 13, 14, 15.
-pub fn read(
-    halves: &[u64; HALVES],
-    handles: &[u64; HANDLES],
-    holders: &[u16; SLOTS],
-    handed: usize,
-    h: HandleNumber,
-) -> Adds
-    requires { (s : Scopes) × Stands (on_halves s halves.now) handles.now holders.now handed }
-    ensures { (s : Scopes) → StaysReading (frame.read h.0) 0x11 (halves_in s halves) handles holders handed result }
+pub fn read(scopes: &Scopes, handles: &Handles, h: HandleNumber) -> Result<Adds, Refusal>
+    requires { Stands scopes.now handles.now }
+    ensures { Leads (frame.read h.0) 0x11 scopes.now handles.now result scopes.now handles.now }
 {
-    let i = h.0 as usize;
-    if handed <= i {
-        return Adds::Refused(13);
-    }
-    load(halves, handles, holders, handed, h)
-}
-
-// The handle of the binding that was answered; one that was never handed out where none was.
-fn handle_or(reply: Reply) -> HandleNumber
-    ensures { result.0 ≡ handle_or reply }
-{
-    match reply {
-        Reply::Found(b) => b.handle,
-        Reply::Done => HandleNumber(65535),
-        Reply::At(_) => HandleNumber(65535),
-        Reply::Empty => HandleNumber(65535),
-        Reply::Opened(_) => HandleNumber(65535),
-        Reply::Refused(_) => HandleNumber(65535),
-    }
+    let x = handles.known(h)?;
+    load(scopes, handles, h, x)
 }
 
 // 3, 10, 11, 14, 15.
-pub fn read_name<'a>(
-    halves: &[u64; HALVES],
-    live: &'a [bool; SCOPES],
-    parent: &'a [u8; SCOPES],
-    bindings: &'a [u64; BINDINGS],
-    n: Numbers,
-    handles: &[u64; HANDLES],
-    holders: &[u16; SLOTS],
-    handed: usize,
-    name: u16,
-) -> Adds
-    requires { StandsCells halves live parent bindings n handles.now holders handed }
-    ensures { (s : Scopes) → StaysReading (frame.read_name name) 0x12 (cells_in s halves live parent bindings n) handles holders handed result }
+pub fn read_name(scopes: &Scopes, handles: &Handles, name: u16) -> Result<Adds, Refusal>
+    requires { Stands scopes.now handles.now }
+    ensures { Leads (frame.read_name name) 0x12 scopes.now handles.now result scopes.now handles.now }
 {
-    let reply = names::get(live, parent, bindings, n, name);
-    let k = handle_or(reply);
-    let i = k.0 as usize;
-    if handed <= i {
-        return adds_of(reply);
-    }
-    load(halves, handles, holders, handed, k)
+    let b = scopes.get(name)?;
+    let x = handles.known(b.handle)?; // a binding's handle was handed out
+    load(scopes, handles, b.handle, x)
 }

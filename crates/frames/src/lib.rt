@@ -1,7 +1,9 @@
-// One step for each frame of a script, over the lent arrays of the state and the handles.
+// One step for each frame of a script, over the state, the handles and the needs where they stand. Those that look at needs take the whole
+// script, the others what they change or ask of it.
+// Where `as` takes a number to another type, it fits, and the proof says so: `From` has no such step, and `try_from` would bring an error that can't be.
 #![tactic(auto)]
 
-pub mod steps; // what a step is
+pub mod steps; // where a script stands; what a step adds
 pub mod scoped; // 01 to 05
 pub mod allots; // 06 to 08
 pub mod named; // 09 to 0b

@@ -1,101 +1,58 @@
-// 01 child, 02 pop, 03 dangle, 04 restore, 05 pop last: frames that leave the tables alone. A handle is held while its slot is occupied
+// 01 child, 02 pop, 03 dangle, 04 restore, 05 pop last: frames that leave the handles alone. A handle is held while its slot is occupied
 // and no later handle took it, so closing a scope touches no handle.
 ghost use Rattle.rules.specs.Frames as frame;
-ghost use Rattle.scopes.specs.Lent.{with_scopes, whole_now, child_arrays, dangle_arrays, restore_arrays, Whole};
-ghost use Rattle.frames.specs.Steps.{LeadsAlone, LeadsWhole};
+ghost use Rattle.scopes.specs.Steps.{Whole};
+ghost use Rattle.frames.specs.Steps.{LeadsAlone};
 
-use crate::steps::{Stepped, ended, meant};
-use rules::{BINDINGS, HALVES, LINKS, SCOPES, SLOTS};
-use scopes::lent::{close, open};
-use scopes::{Numbers, Scopes};
+use crate::steps::Adds;
+use rules::WORD;
+use rules::refusal::Refusal;
+use scopes::Scopes;
 
-pub fn child(
-    live: &mut [bool; SCOPES],
-    parent: &mut [u8; SCOPES],
-    number: &mut [u32; SCOPES],
-    n: Numbers,
-    handed: usize,
-) -> Stepped
-    requires { (s : Scopes) × Whole (with_scopes s live.old s.dangled parent.old number.old n) }
-    ensures { LeadsAlone frame.child 0x01 (child_arrays live parent number) n handed result }
+// 3, 8.
+pub fn child(scopes: &mut Scopes) -> Result<Adds, Refusal>
+    requires { Whole scopes.old }
+    ensures { LeadsAlone frame.child 0x01 scopes.old result scopes.new }
 {
-    let o = open::child(live, parent, number, n);
-    ended(o, handed)
+    let id = scopes.child()?;
+    Ok(Adds::Number((u64::from(id.number) % WORD) as u16)) // a script's numbers are below that
 }
 
-pub fn pop(
-    halves: &mut [u64; HALVES],
-    links: &mut [u16; LINKS],
-    owner: &mut [u8; SLOTS],
-    live: &mut [bool; SCOPES],
-    dangled: &mut [bool; SCOPES],
-    parent: &mut [u8; SCOPES],
-    number: &mut [u32; SCOPES],
-    bindings: &mut [u64; BINDINGS],
-    n: Numbers,
-    handed: usize,
-    k: u16,
-) -> Stepped
-    requires { Whole (whole_now halves links owner live dangled parent number bindings n) }
-    ensures { LeadsWhole (frame.pop k) 0x02 halves links owner live dangled parent number bindings n handed result }
+// 4, 5, 6.
+pub fn pop(scopes: &mut Scopes, n: u16) -> Result<Adds, Refusal>
+    requires { Whole scopes.old }
+    ensures { LeadsAlone (frame.pop n) 0x02 scopes.old result scopes.new }
 {
-    let id = meant(live, number, k);
-    let o = close::pop(
-        halves, links, owner, live, dangled, parent, number, bindings, n, id,
-    );
-    ended(o, handed)
+    let id = scopes.numbered(u32::from(n))?;
+    scopes.pop(id)?;
+    Ok(Adds::Nothing)
 }
 
-pub fn dangle<'a>(
-    live: &'a [bool; SCOPES],
-    dangled: &mut [bool; SCOPES],
-    parent: &'a [u8; SCOPES],
-    number: &'a [u32; SCOPES],
-    n: Numbers,
-    handed: usize,
-    k: u16,
-) -> Stepped
-    requires { (s : Scopes) × Whole (with_scopes s live.now dangled.old parent.now number.now n) }
-    ensures { LeadsAlone (frame.dangle k) 0x03 (dangle_arrays live dangled parent number) n handed result }
+// 4, 5.
+pub fn dangle(scopes: &mut Scopes, n: u16) -> Result<Adds, Refusal>
+    requires { Whole scopes.old }
+    ensures { LeadsAlone (frame.dangle n) 0x03 scopes.old result scopes.new }
 {
-    let id = meant(live, number, k);
-    let o = open::dangle(live, dangled, parent, number, n, id);
-    ended(o, handed)
+    let id = scopes.numbered(u32::from(n))?;
+    scopes.dangle(id)?;
+    Ok(Adds::Nothing)
 }
 
-pub fn restore<'a>(
-    live: &'a [bool; SCOPES],
-    dangled: &mut [bool; SCOPES],
-    number: &'a [u32; SCOPES],
-    n: Numbers,
-    handed: usize,
-    k: u16,
-) -> Stepped
-    requires { (s : Scopes) × Whole (with_scopes s live.now dangled.old s.parent number.now n) }
-    ensures { LeadsAlone (frame.restore k) 0x04 (restore_arrays live dangled number) n handed result }
+// 4, 5.
+pub fn restore(scopes: &mut Scopes, n: u16) -> Result<Adds, Refusal>
+    requires { Whole scopes.old }
+    ensures { LeadsAlone (frame.restore n) 0x04 scopes.old result scopes.new }
 {
-    let id = meant(live, number, k);
-    let o = open::restore(live, dangled, number, n, id);
-    ended(o, handed)
+    let id = scopes.numbered(u32::from(n))?;
+    scopes.restore(id)?;
+    Ok(Adds::Nothing)
 }
 
-pub fn pop_last(
-    halves: &mut [u64; HALVES],
-    links: &mut [u16; LINKS],
-    owner: &mut [u8; SLOTS],
-    live: &mut [bool; SCOPES],
-    dangled: &mut [bool; SCOPES],
-    parent: &mut [u8; SCOPES],
-    number: &mut [u32; SCOPES],
-    bindings: &mut [u64; BINDINGS],
-    n: Numbers,
-    handed: usize,
-) -> Stepped
-    requires { Whole (whole_now halves links owner live dangled parent number bindings n) }
-    ensures { LeadsWhole frame.pop_last 0x05 halves links owner live dangled parent number bindings n handed result }
+// 3, 6.
+pub fn pop_last(scopes: &mut Scopes) -> Result<Adds, Refusal>
+    requires { Whole scopes.old }
+    ensures { LeadsAlone frame.pop_last 0x05 scopes.old result scopes.new }
 {
-    let o = close::pop_last(
-        halves, links, owner, live, dangled, parent, number, bindings, n,
-    );
-    ended(o, handed)
+    scopes.pop_last()?;
+    Ok(Adds::Nothing)
 }

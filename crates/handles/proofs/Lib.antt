@@ -1,4 +1,3 @@
 pub mod Changes
-pub mod Packing
 pub mod Grants
 pub mod NeedTables

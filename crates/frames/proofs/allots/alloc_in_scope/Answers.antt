@@ -1,55 +1,23 @@
--- A slot in the scope of an id: 4, 16, 7. Assumes nothing.
 use native.Mathlib.Omega.{arith}
-use Rattle.scopes.specs.View.{id_of}
-use Rattle.scopes.specs.declared.Outcome.{Outcome}
-use Rattle.scopes.proofs.Finds.{unknown, known}
-use Rattle.scopes.specs.Lent.{on_allots}
-use Rattle.frames.proofs.Allotting.{answered-below}
-use Rattle.frames.proofs.Allocations.{reached-is, made-is}
-use Rattle.frames.proofs.InScope.{in-refused, in-4, in-16, in-seen, in-granted}
+use Rattle.frames.proofs.Told.{handed-on}
+use Rattle.frames.proofs.InScope.{found-none, found-some, in-4, in-16, in-7, in-low, in-granted}
 use Rattle.frames.proofs.allots.alloc_in_scope.Goals as goal
 
-pub place_of-i-requires : goal.place_of-i-requires
-place_of-i-requires c = tt
+pub returns-then-is_none : goal.returns-then-is_none
+returns-then-is_none c = in-4 _ c.requires c.args.id (found-none c.index_of.result c.index_of.ensures c.if-is_none.ensures)
 
-pub refused-requires : goal.refused-requires
-refused-requires c = tt
+pub returns-then-handles-ge-HANDLES : goal.returns-then-handles-ge-HANDLES
+returns-then-handles-ge-HANDLES c = in-16 _ c.requires c.args.id _ (found-some c.index_of.result c.index_of.ensures c.if-is_none.ensures).1 c.if-handles-ge-HANDLES.true
 
-pub returns-then-i-eq-SCOPES : goal.returns-then-i-eq-SCOPES
-returns-then-i-eq-SCOPES c =
-    λ s stands.
-    let id = c.args.id in
-    in-refused _ _ _ _ _ stands id 4 _ (reached-is c.refused.ensures) (in-4 _ _ _ _ _ stands id (unknown (on_allots s c.args.halves.now c.args.links.now c.args.owner.now c.args.live.now c.args.number.now c.args.n) (id_of id) c.place_of-i.result c.place_of-i.ensures c.if-i-eq-SCOPES.true))
+pub returns-in_err-first : goal.returns-in_err-first
+returns-in_err-first c =
+    rw (handed-on c.from_residual.result c.from_residual.ensures.1)
+    (in-7 _ c.requires c.args.id _ (found-some c.index_of.result c.index_of.ensures c.if-is_none.ensures).1 c.if-handles-ge-HANDLES.false c.in_err-first.field-0.0 c.in_err-first.ensures)
 
-pub refused-requires-then-handed-ge-HANDLES : goal.refused-requires-then-handed-ge-HANDLES
-refused-requires-then-handed-ge-HANDLES c = tt
-
-pub returns-then-handed-ge-HANDLES : goal.returns-then-handed-ge-HANDLES
-returns-then-handed-ge-HANDLES c =
-    λ s stands.
-    let id = c.args.id in
-    let k = known (on_allots s c.args.halves.now c.args.links.now c.args.owner.now c.args.live.now c.args.number.now c.args.n) (id_of id) c.place_of-i.result c.place_of-i.ensures c.if-i-eq-SCOPES.false in
-    in-refused _ _ _ _ _ stands id 16 _ (reached-is c.refused-then-handed-ge-HANDLES.ensures) (in-16 _ _ _ _ _ stands id _ k.is c.if-handed-ge-HANDLES.true)
-
-pub alloc_in-o-requires : goal.alloc_in-o-requires
-alloc_in-o-requires c = let p = c.requires in (p.0, p.1.whole)
-
-pub granted-requires : goal.granted-requires
-granted-requires c =
-    let id = c.args.id in
-    let q = c.requires in
-    let k = known (on_allots q.0 c.args.halves.now c.args.links.now c.args.owner.now c.args.live.now c.args.number.now c.args.n) (id_of id) c.place_of-i.result c.place_of-i.ensures c.if-i-eq-SCOPES.false in
-    let o : Outcome = record { state = on_allots q.0 c.alloc_in-o.new.halves c.alloc_in-o.new.links c.alloc_in-o.new.owner c.args.live.now c.args.number.now c.alloc_in-o.result.numbers; reply = c.alloc_in-o.result.reply } in
-    record {
-      many_bound = (omega (arith, c.if-handed-ge-HANDLES.false), q.1.handles-length, q.1.holders-length);
-      a_bound = answered-below _ _ _ _ _ q.1 _ 1 o (in-seen _ _ _ _ _ q.1 id _ k.is o (c.alloc_in-o.ensures q.0 q.1.whole).0) (omega arith);
-    }
+pub grant-requires : goal.grant-requires
+grant-requires c =
+    let k = found-some c.index_of.result c.index_of.ensures c.if-is_none.ensures in
+    (omega (arith, c.if-handles-ge-HANDLES.false), in-low _ c.requires c.args.id _ k.1 c.if-handles-ge-HANDLES.false c.in_ok-first.first c.in_ok-first.ensures)
 
 pub returns : goal.returns
-returns c =
-    λ s stands.
-    let id = c.args.id in
-    let k = known (on_allots s c.args.halves.now c.args.links.now c.args.owner.now c.args.live.now c.args.number.now c.args.n) (id_of id) c.place_of-i.result c.place_of-i.ensures c.if-i-eq-SCOPES.false in
-    let o : Outcome = record { state = on_allots s c.alloc_in-o.new.halves c.alloc_in-o.new.links c.alloc_in-o.new.owner c.args.live.now c.args.number.now c.alloc_in-o.result.numbers; reply = c.alloc_in-o.result.reply } in
-    let b = c.alloc_in-o.ensures s stands.whole in
-    in-granted _ _ _ _ _ stands id _ k.is o _ _ _ (in-seen _ _ _ _ _ stands id _ k.is o b.0) c.granted.ensures.1 (omega (arith, c.if-handed-ge-HANDLES.false)) b.1 b.2 (made-is c.granted.ensures.0)
+returns c = in-granted _ c.requires c.args.id _ (found-some c.index_of.result c.index_of.ensures c.if-is_none.ensures).1 c.if-handles-ge-HANDLES.false c.in_ok-first.first c.in_ok-first.ensures c.grant.new.self c.grant.ensures

@@ -1,32 +1,18 @@
--- 12 read name: 3, 10, 11, 14, 15. Assumes nothing.
 use native.Mathlib.Omega.{arith}
-use mathlib.Core.Path.{sym}
 use Rattle.rules.specs.Frames as frame
-use Rattle.rules.specs.Sizes.{base}
-use Rattle.frames.specs.Steps.{on_cells}
-use Rattle.frames.proofs.Reading.{named-refused, named-loads, loads-at}
+use Rattle.frames.proofs.Told.{handed-on}
+use Rattle.frames.proofs.Handling.{handed-few}
+use Rattle.frames.proofs.Reading.{named-refused, named-known, named-loads}
 use Rattle.frames.proofs.cells.read_name.Goals as goal
 
-pub get-reply-requires : goal.get-reply-requires
-get-reply-requires c = ((on_cells c.requires.0 c.args.halves.now c.args.live.now c.args.parent.now c.args.bindings.now c.args.n), c.requires.1.whole)
+pub returns-in_err-b : goal.returns-in_err-b
+returns-in_err-b c = rw (handed-on c.from_residual.result c.from_residual.ensures.1) (named-refused c.requires c.args.name c.in_err-b.field-0.0 c.in_err-b.ensures)
 
-pub handle_or-k-requires : goal.handle_or-k-requires
-handle_or-k-requires c = tt
+pub known-requires : goal.known-requires
+known-requires c = handed-few c.requires
 
-pub adds_of-requires : goal.adds_of-requires
-adds_of-requires c = tt
-
-pub returns-then-handed-i : goal.returns-then-handed-i
-returns-then-handed-i c =
-    λ s stands.
-    named-refused _ _ _ _ stands c.args.name c.get-reply.result (c.get-reply.ensures (on_cells s c.args.halves.now c.args.live.now c.args.parent.now c.args.bindings.now c.args.n) stands.whole) (omega (arith, c.handle_or-k.ensures, c.if-handed-i.true)) c.adds_of.result c.adds_of.ensures
-
-pub load-requires : goal.load-requires
-load-requires c = (((on_cells c.requires.0 c.args.halves.now c.args.live.now c.args.parent.now c.args.bindings.now c.args.n), c.requires.1), c.if-handed-i.false)
+pub returns-in_err-x : goal.returns-in_err-x
+returns-in_err-x c = absurd (omega (arith, c.in_err-x.ensures.0, named-known c.requires c.args.name c.in_ok-b.b c.in_ok-b.ensures))
 
 pub returns : goal.returns
-unfolding base
-returns c =
-    λ s stands.
-    c.load.ensures (frame.read_name c.args.name) 0x12 (on_cells s c.args.halves.now c.args.live.now c.args.parent.now c.args.bindings.now c.args.n)
-    (loads-at _ _ _ _ stands (frame.read_name c.args.name) 0x12 (sym c.handle_or-k.ensures) (named-loads _ _ _ _ stands c.args.name c.get-reply.result (c.get-reply.ensures (on_cells s c.args.halves.now c.args.live.now c.args.parent.now c.args.bindings.now c.args.n) stands.whole) (omega (arith, c.handle_or-k.ensures, c.if-handed-i.false)) stands.state.handles.few)) stands
+returns c = c.load.ensures (frame.read_name c.args.name) 0x12 (named-loads c.requires c.args.name c.in_ok-b.b c.in_ok-b.ensures)

@@ -1,46 +1,35 @@
--- 10 and 14 write. Assumes nothing.
 use native.Mathlib.Omega.{arith}
-use mathlib.Core.Path.{refl, sym, ap, subst, ◌∙◌}
-use Rattle.rules.specs.Frames as frame
-use Rattle.rules.specs.Sizes.{base, SLOTS}
-use Prim.Native.Nat.{ℕ, ◌<◌}
+use mathlib.Core.Path.{refl, ap, ◌∙◌}
 use Rattle.rules.specs.Needs.{Address}
-use Rattle.frames.proofs.Allocations.{works-refused}
-use Rattle.frames.proofs.Handling.{write-unknown, write-14, write-works, held-is, slot-low}
+use Rattle.rules.specs.Frames as frame
+use Rattle.rules.specs.declared.refusal.Refusal.TheVariants.{NotHeld}
 use Rattle.frames.specs.Steps.{source_of}
+use Rattle.frames.proofs.Told.{handed-on}
+use Rattle.frames.proofs.Moving.{works-refused}
+use Rattle.frames.proofs.Handling.{handed-few, slot-low, below, held-is, write-unknown, write-14, write-works}
 use Rattle.frames.proofs.cells.write.Goals as goal
 
-pub returns-then-handed-i : goal.returns-then-handed-i
-returns-then-handed-i c = λ o s stands. let a = c.args in works-refused _ _ _ _ stands (frame.write a.h.0 (source_of a.x)) o 13 _ refl (write-unknown _ a.h.0 c.if-handed-i.true (source_of a.x))
+pub known-requires : goal.known-requires
+known-requires c = handed-few c.requires
 
-pub bounds-handles-i : goal.bounds-handles-i
-unfolding base
-bounds-handles-i c = omega (arith, c.requires.1.state.handles.few)
+pub returns-in_err-known-clause-leads : goal.returns-in_err-known-clause-leads
+returns-in_err-known-clause-leads c = rw (handed-on c.from_residual.result c.from_residual.ensures.1) (λ o drained. write-unknown c.requires c.args.h.0 c.in_err-known.field-0.0 drained o (source_of c.args.x) c.in_err-known.ensures)
 
-pub unpacked-known-requires : goal.unpacked-known-requires
-unpacked-known-requires c = tt
+pub returns-then-not-is_held-clause-leads : goal.returns-then-not-is_held-clause-leads
+returns-then-not-is_held-clause-leads c =
+    λ o drained.
+    let knows = c.in_ok-known.ensures in
+    works-refused c.requires (frame.write c.args.h.0 (source_of c.args.x)) o NotHeld
+    (write-14 c.requires c.args.h.0 c.in_ok-known.known knows (source_of c.args.x) (held-is c.requires c.args.h.0 c.in_ok-known.known knows c.is_held.ensures ∙ c.if-not-is_held.true)) drained
 
-pub returns-then-not-is_held : goal.returns-then-not-is_held
-returns-then-not-is_held c =
-    λ o s stands.
-    works-refused _ _ _ _ stands (frame.write c.args.h.0 (source_of c.args.x)) o 14 _ refl
-    (write-14 _ _ _ _ stands c.args.h.0 c.unpacked-known.result c.unpacked-known.ensures (source_of c.args.x) c.if-handed-i.false
-    (held-is _ _ _ _ stands c.args.h.0 c.unpacked-known.result c.unpacked-known.ensures c.is_held.result c.is_held.ensures ∙ c.if-not-is_held.true))
+pub set-requires : goal.set-requires
+set-requires c =
+    let knows = c.in_ok-known.ensures in
+    (below c.args.handles.now c.args.h.0 c.in_ok-known.known knows (handed-few c.requires), omega (arith, ap (λ (a : Address). a.slot) c.allocated.ensures, slot-low c.args.handles.now c.args.h.0 c.in_ok-known.known knows))
 
-pub allocated-requires : goal.allocated-requires
-allocated-requires c = tt
-
-pub packed-requires : goal.packed-requires
-packed-requires c = subst (λ (a : ℕ). a < SLOTS) (sym (ap (λ (a : Address). a.slot) c.allocated.ensures)) (slot-low _ _ _ _ c.requires.1 c.args.h.0 c.unpacked-known.result c.unpacked-known.ensures)
-
-pub bounds-handles-i-2 : goal.bounds-handles-i-2
-unfolding base
-bounds-handles-i-2 c = omega (arith, c.requires.1.state.handles.few)
-
-pub returns : goal.returns
-unfolding base
-returns c =
-    λ o s stands.
-    write-works _ _ _ _ stands c.args.h.0 c.unpacked-known.result c.unpacked-known.ensures o c.args.x c.packed.result _ c.packed.ensures c.allocated.ensures refl c.if-handed-i.false
-    (omega (arith, stands.state.handles.few, stands.handles-length))
-    (held-is _ _ _ _ stands c.args.h.0 c.unpacked-known.result c.unpacked-known.ensures c.is_held.result c.is_held.ensures ∙ c.if-not-is_held.false)
+pub returns-clause-leads : goal.returns-clause-leads
+returns-clause-leads c =
+    λ o.
+    let knows = c.in_ok-known.ensures in
+    write-works c.requires c.args.h.0 c.in_ok-known.known knows _ c.set.new.self c.set.ensures o c.args.x c.allocated.ensures refl
+    (held-is c.requires c.args.h.0 c.in_ok-known.known knows c.is_held.ensures ∙ c.if-not-is_held.false)

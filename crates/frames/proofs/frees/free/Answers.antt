@@ -1,49 +1,15 @@
--- 0c free, 0d free without dangling: 13, then as the handle's kind says. Assumes nothing.
-use native.Mathlib.Omega.{arith}
-use mathlib.Core.Path.{sym, ◌∙◌}
-use Rattle.rules.specs.Sizes.{base}
+use Rattle.frames.proofs.Told.{handed-on}
 use Rattle.frames.specs.Steps.{freeing, free_code}
-use Rattle.frames.proofs.Allocations.{reached-is, works-refused}
 use Rattle.frames.proofs.Moving.{works-by}
-use Rattle.frames.proofs.Freeing.{free-13, free-freed, free-then}
+use Rattle.frames.proofs.Handling.{handed-few}
+use Rattle.frames.proofs.Freeing.{free-13, free-then}
 use Rattle.frames.proofs.frees.free.Goals as goal
 
-pub refused-requires : goal.refused-requires
-refused-requires c = tt
+pub unspent-requires : goal.unspent-requires
+unspent-requires c = handed-few c.requires
 
-pub returns-then-handed-i : goal.returns-then-handed-i
-returns-then-handed-i c =
-    λ s stands.
-    let a = c.args in
-    works-refused _ _ _ _ stands (freeing a.dangles a.h.0) (free_code a.dangles) 13 _ (reached-is c.refused.ensures) (free-13 a.dangles a.h.0 _ c.if-handed-i.true)
+pub returns-in_err-x-clause-leads : goal.returns-in_err-x-clause-leads
+returns-in_err-x-clause-leads c = rw (handed-on c.from_residual.result c.from_residual.ensures.1) (free-13 c.requires c.args.dangles c.args.h.0 c.in_err-x.field-0.0 c.in_err-x.ensures)
 
-pub bounds-handles-i : goal.bounds-handles-i
-unfolding base
-bounds-handles-i c = omega (arith, c.requires.1.state.handles.few)
-
-pub unpacked-x-requires : goal.unpacked-x-requires
-unpacked-x-requires c = tt
-
-pub is_freed-requires : goal.is_freed-requires
-is_freed-requires c = tt
-
-pub refused-requires-then-is_freed : goal.refused-requires-then-is_freed
-refused-requires-then-is_freed c = tt
-
-pub returns-then-is_freed : goal.returns-then-is_freed
-returns-then-is_freed c =
-    λ s stands.
-    let a = c.args in
-    works-refused _ _ _ _ stands (freeing a.dangles a.h.0) (free_code a.dangles) 13 _ (reached-is c.refused-then-is_freed.ensures)
-    (free-freed _ _ _ _ stands a.h.0 c.unpacked-x.result c.unpacked-x.ensures a.dangles (sym c.is_freed.ensures ∙ c.if-is_freed.true))
-
-pub free_as-requires : goal.free_as-requires
-free_as-requires c = (c.requires, (c.if-handed-i.false, c.unpacked-x.ensures))
-
-pub returns : goal.returns
-returns c =
-    λ s stands drained.
-    let a = c.args in
-    works-by _ _ _ _ (freeing a.dangles a.h.0) (free_code a.dangles) _ _ _ _ drained
-    (free-then _ _ _ _ stands a.h.0 c.unpacked-x.result c.unpacked-x.ensures a.dangles c.if-handed-i.false (sym c.is_freed.ensures ∙ c.if-is_freed.false))
-    (c.free_as.ensures s stands (free_code a.dangles) drained)
+pub returns-clause-leads : goal.returns-clause-leads
+returns-clause-leads c = λ drained. works-by (free_code c.args.dangles) (freeing c.args.dangles c.args.h.0) (free-then c.requires c.args.dangles c.args.h.0 c.in_ok-x.x c.in_ok-x.ensures.0 c.in_ok-x.ensures.1) (c.free_as.ensures.frees (free_code c.args.dangles) drained)

@@ -1,53 +1,25 @@
--- The slot of a handle goes back: 14, 12. Assumes nothing.
 use native.Mathlib.Omega.{arith}
-use mathlib.Core.Path.{sym, ◌∙◌}
-use Rattle.rules.specs.Sizes.{base}
-use Rattle.scopes.specs.Lent.{with_slots}
-use Rattle.scopes.specs.declared.Outcome.{Outcome}
-use Rattle.frames.proofs.Allocations.{reached-is}
-use Rattle.frames.proofs.Moving.{comes-refused}
-use Rattle.frames.proofs.Handling.{held-is}
-use Rattle.frames.proofs.Freeing.{back-14, back-refused, back-comes}
+use mathlib.Core.Path.{ap, ◌∙◌}
+use Rattle.handles.specs.declared.Handle.{Handle as Known}
+use Rattle.frames.proofs.Told.{handed-on}
+use Rattle.frames.proofs.Handling.{handed-few, slot-low, below, held-is}
+use Rattle.frames.proofs.Freeing.{back-14, back-12, back-comes}
 use Rattle.frames.proofs.frees.hand_back.Goals as goal
 
-pub refused-requires : goal.refused-requires
-refused-requires c = tt
+pub returns-then-not-is_held-clause-frees : goal.returns-then-not-is_held-clause-frees
+returns-then-not-is_held-clause-frees c =
+    back-14 c.requires.0 c.args.dangles c.args.h.0 c.args.x c.requires.1 (held-is c.requires.0 c.args.h.0 c.args.x c.requires.1 c.is_held.ensures ∙ c.if-not-is_held.true)
 
-pub returns-then-not-is_held : goal.returns-then-not-is_held
-returns-then-not-is_held c =
-    λ s stands o.
-    comes-refused _ _ _ _ stands _ o 14 _ (reached-is c.refused.ensures)
-    (back-14 _ _ _ _ stands c.args.h.0 c.args.x c.requires.1.1 c.args.dangles c.requires.1.0
-    (held-is _ _ _ _ stands c.args.h.0 c.args.x c.requires.1.1 c.is_held.result c.is_held.ensures ∙ c.if-not-is_held.true) o)
+pub returns-in_err-give_back-clause-frees : goal.returns-in_err-give_back-clause-frees
+returns-in_err-give_back-clause-frees c =
+    rw (handed-on c.from_residual.result c.from_residual.ensures.1)
+    (back-12 c.requires.0 c.args.dangles c.args.h.0 c.args.x c.requires.1 (held-is c.requires.0 c.args.h.0 c.args.x c.requires.1 c.is_held.ensures ∙ c.if-not-is_held.false) c.in_err-give_back.field-0.0 c.in_err-give_back.ensures)
 
-pub give_back-o-requires : goal.give_back-o-requires
-give_back-o-requires c = let p = c.requires.0 in (p.0, p.1.whole)
+pub set-requires : goal.set-requires
+set-requires c =
+    (below c.args.handles.now c.args.h.0 c.args.x c.requires.1 (handed-few c.requires.0), omega (arith, ap (λ (z : Known). z.address.slot.0) c.forgotten.ensures, slot-low c.args.handles.now c.args.h.0 c.args.x c.requires.1))
 
-pub is_done-requires : goal.is_done-requires
-is_done-requires c = tt
-
-pub ended-requires : goal.ended-requires
-ended-requires c = tt
-
-pub returns-then-not-is_done : goal.returns-then-not-is_done
-returns-then-not-is_done c =
-    λ s stands op.
-    let o : Outcome = record { state = with_slots s c.give_back-o.new.halves c.give_back-o.new.links c.give_back-o.new.owner c.give_back-o.result.numbers; reply = c.give_back-o.result.reply } in
-    let e = c.give_back-o.ensures s stands.whole in
-    back-refused _ _ _ _ stands c.args.h.0 c.args.x c.requires.1.1 c.args.dangles c.requires.1.0
-    (held-is _ _ _ _ stands c.args.h.0 c.args.x c.requires.1.1 c.is_held.result c.is_held.ensures ∙ c.if-not-is_held.false)
-    o e.0 e.1 e.2 (sym c.is_done.ensures ∙ c.if-not-is_done.true) _ (reached-is c.ended.ensures) op
-
-pub bounds-handles-i : goal.bounds-handles-i
-unfolding base
-bounds-handles-i c = omega (arith, c.requires.1.0, c.requires.0.1.state.handles.few)
-
-pub returns : goal.returns
-unfolding base
-returns c =
-    λ s stands op.
-    let o : Outcome = record { state = with_slots s c.give_back-o.new.halves c.give_back-o.new.links c.give_back-o.new.owner c.give_back-o.result.numbers; reply = c.give_back-o.result.reply } in
-    let e = c.give_back-o.ensures s stands.whole in
-    back-comes _ _ _ _ stands c.args.h.0 c.args.x c.requires.1.1 c.args.dangles c.requires.1.0
-    (held-is _ _ _ _ stands c.args.h.0 c.args.x c.requires.1.1 c.is_held.result c.is_held.ensures ∙ c.if-not-is_held.false)
-    c.forgotten.result c.forgotten.ensures (omega (arith, c.requires.1.0, stands.state.handles.few, stands.handles-length)) o e.0 e.1 (sym c.is_done.ensures ∙ c.if-not-is_done.false) op
+pub returns-clause-frees : goal.returns-clause-frees
+returns-clause-frees c =
+    back-comes c.requires.0 c.args.dangles c.args.h.0 c.args.x c.requires.1 (held-is c.requires.0 c.args.h.0 c.args.x c.requires.1 c.is_held.ensures ∙ c.if-not-is_held.false) _ c.set.new.self c.forgotten.ensures c.set.ensures
+    c.in_ok-give_back.ensures

@@ -1,12 +1,10 @@
--- 0a get. Assumes nothing.
+use Rattle.std.specs.Prelude.{Ok, Err}
+use Rattle.frames.proofs.Told.{handed-on}
 use Rattle.frames.proofs.Reading.{get-works}
 use Rattle.frames.proofs.named.get.Goals as goal
 
-pub get-reply-requires : goal.get-reply-requires
-get-reply-requires c = c.requires
-
-pub adds_of-requires : goal.adds_of-requires
-adds_of-requires c = tt
+pub returns-in_err-b : goal.returns-in_err-b
+returns-in_err-b c = rw (handed-on c.from_residual.result c.from_residual.ensures.1) (λ handles stands. get-works stands c.args.name (Err c.in_err-b.field-0.0) c.in_err-b.ensures)
 
 pub returns : goal.returns
-returns c = λ s handles holders handed stands drained. get-works _ _ _ _ stands c.args.name c.get-reply.result c.adds_of.result drained (c.get-reply.ensures s stands.whole) c.adds_of.ensures
+returns c = λ handles stands. get-works stands c.args.name (Ok c.in_ok-b.b) c.in_ok-b.ensures

@@ -1,40 +1,15 @@
--- 21 assigned: 13, 22. Assumes nothing.
-use native.Mathlib.Omega.{arith}
-use mathlib.Core.Path.{refl, sym, ◌∙◌}
-use Rattle.rules.specs.Needs as rule
 use Rattle.rules.specs.Frames as frame
-use Rattle.rules.specs.Frames.{step}
-use Rattle.rules.proofs.Chains.{when_true, when_false}
-use Rattle.frames.proofs.Handling.{is-unknown, is_known}
-use Rattle.frames.proofs.Beside.{refused-with}
-use Rattle.frames.proofs.NeedSteps.{makes}
+use Rattle.frames.proofs.Told.{handed-on}
+use Rattle.frames.proofs.NeedSteps.{assigned-13, assigned-as, made-works, full-works}
 use Rattle.frames.proofs.needing.assigned.Goals as goal
 
-pub returns-then-handed-i : goal.returns-then-handed-i
-unfolding step
-returns-then-handed-i c =
-    λ s holders stands drained.
-    let h = c.args.h.0 in
-    refused-with _ _ _ _ _ stands (frame.new_assigned h) 0x21 13 _ refl (when_true 13 _ (is-unknown _ h c.if-handed-i.true)) drained
+pub returns-in_err-x : goal.returns-in_err-x
+returns-in_err-x c = rw (handed-on c.from_residual.result c.from_residual.ensures.1) (λ s stands. assigned-13 stands c.args.h.0 c.in_err-x.field-0.0 c.in_err-x.ensures)
 
-pub bounds-handles-i : goal.bounds-handles-i
-bounds-handles-i c = omega (arith, c.requires.0.most)
-
-pub unpacked-x-requires : goal.unpacked-x-requires
-unpacked-x-requires c = tt
-
-pub assigned-b-requires : goal.assigned-b-requires
-assigned-b-requires c = omega (arith, c.unpacked-x.ensures.slot)
-
-pub add-requires : goal.add-requires
-add-requires c = c.requires.1
+pub returns-in_err-k : goal.returns-in_err-k
+returns-in_err-k c =
+    rw (handed-on c.from_residual-in_err-k.result c.from_residual-in_err-k.ensures.1)
+    (λ s stands. full-works stands (frame.new_assigned c.args.h.0) 0x21 _ (assigned-as stands c.args.h.0 c.in_ok-x.x c.in_ok-x.ensures c.assigned.result c.assigned.ensures) c.in_err-k.field-0.0 c.in_err-k.ensures)
 
 pub returns : goal.returns
-unfolding step
-returns c =
-    λ s holders stands drained.
-    let h = c.args.h.0 in
-    let u = c.unpacked-x.ensures.slot in
-    makes _ _ _ _ _ stands (frame.new_assigned h) 0x21 _ _
-    (λ t. record { need = (c.assigned-b.ensures ∙ λ i. rule.at (rule.address (sym u i) rule.assigned)) t; handle = h }) _ _ c.add.ensures
-    (when_false 13 _ (is_known _ h c.if-handed-i.false)) drained
+returns c = λ s stands. made-works stands (frame.new_assigned c.args.h.0) 0x21 _ (assigned-as stands c.args.h.0 c.in_ok-x.x c.in_ok-x.ensures c.assigned.result c.assigned.ensures) c.in_ok-k.k c.in_ok-k.ensures

@@ -1,10 +1,10 @@
--- `ignore` meets its contract. Assumes nothing.
-use mathlib.Core.Path.{refl}
-use Rattle.frames.proofs.NeedSteps.{makes}
 use Rattle.rules.specs.Frames as frame
-use Rattle.rules.specs.Frames.{step}
+use Rattle.frames.proofs.Told.{handed-on}
+use Rattle.frames.proofs.NeedSteps.{ignore-as, made-works, full-works}
 use Rattle.frames.proofs.needing.ignore.Goals as goal
 
+pub returns-in_err-k : goal.returns-in_err-k
+returns-in_err-k c = rw (handed-on c.from_residual.result c.from_residual.ensures.1) (λ s handles stands. full-works stands frame.new_ignore 0x22 _ (ignore-as stands) c.in_err-k.field-0.0 c.in_err-k.ensures)
+
 pub returns : goal.returns
-unfolding step
-returns c = λ s handles holders handed stands drained. makes _ _ _ _ _ stands frame.new_ignore 0x22 _ _ refl _ _ c.add.ensures refl drained
+returns c = λ s handles stands. made-works stands frame.new_ignore 0x22 _ (ignore-as stands) c.in_ok-k.k c.in_ok-k.ensures

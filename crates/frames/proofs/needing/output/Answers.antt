@@ -1,43 +1,19 @@
--- 24 output of need: 21, 18. Assumes nothing.
-use mathlib.Core.Path.{refl, sym, ap, ◌∙◌}
-use Rattle.rules.specs.Needs.{output_of}
-use Rattle.rules.specs.Frames as frame
-use Rattle.rules.specs.Frames.{is_gone, step}
-use Rattle.rules.proofs.Chains.{when_true}
-use Rattle.frames.proofs.Beside.{refused-with}
-use Rattle.frames.proofs.NeedSteps.{lost-unknown, lost-gone, output-works}
+use Rattle.std.specs.Prelude.{Ok, Err}
+use Rattle.needs.specs.declared.Output.TheVariants.{Keep, Discard}
+use Rattle.frames.proofs.Told.{handed-on}
+use Rattle.frames.proofs.NeedSteps.{output-21, output-works}
 use Rattle.frames.proofs.needing.output.Goals as goal
 
-pub returns-then-needed-i : goal.returns-then-needed-i
-unfolding step
-returns-then-needed-i c =
-    λ s remembers handles holders handed stands drained.
-    let k = c.args.k.0 in
-    refused-with _ _ _ _ _ stands (frame.output_need k) 0x24 21 _ refl (when_true 21 _ (lost-unknown _ k c.if-needed-i.true)) drained
+pub returns-in_err-d : goal.returns-in_err-d
+returns-in_err-d c = rw (handed-on c.from_residual.result c.from_residual.ensures.1) (λ stands. output-21 stands c.args.k.0 c.in_err-d.field-0.0 c.in_err-d.ensures)
 
-pub need_in-d-requires : goal.need_in-d-requires
-need_in-d-requires c = tt
+pub returns-in_err-a : goal.returns-in_err-a
+returns-in_err-a c =
+    rw (handed-on c.from_residual-in_err-a.result c.from_residual-in_err-a.ensures.1)
+    (λ stands. output-works stands c.args.k.0 c.in_ok-d.d c.in_ok-d.ensures (Err c.in_err-a.field-0.0) c.in_err-a.ensures)
 
-pub is_gone-requires : goal.is_gone-requires
-is_gone-requires c = tt
+pub returns-in-Keep : goal.returns-in-Keep
+returns-in-Keep c = λ stands. output-works stands c.args.k.0 c.in_ok-d.d c.in_ok-d.ensures (Ok (Keep c.in-Keep.a)) (rw c.in-Keep.is at c.in_ok-a.ensures)
 
-pub returns-then-is_gone : goal.returns-then-is_gone
-unfolding step
-returns-then-is_gone c =
-    λ s remembers handles holders handed stands drained.
-    let k = c.args.k.0 in
-    refused-with _ _ _ _ _ stands (frame.output_need k) 0x24 21 _ refl
-    (when_true 21 _ (lost-gone _ k c.if-needed-i.false (sym (ap is_gone c.need_in-d.ensures) ∙ sym c.is_gone.ensures ∙ c.if-is_gone.true))) drained
-
-pub output-a-requires : goal.output-a-requires
-output-a-requires c = tt
-
-pub shown-requires : goal.shown-requires
-shown-requires c = tt
-
-pub returns : goal.returns
-returns c =
-    λ s remembers handles holders handed stands drained.
-    let k = c.args.k.0 in
-    output-works _ _ _ _ _ stands k c.if-needed-i.false (sym (ap is_gone c.need_in-d.ensures) ∙ sym c.is_gone.ensures ∙ c.if-is_gone.false) c.output-a.result
-    (c.output-a.ensures ∙ ap output_of c.need_in-d.ensures) _ c.shown.ensures drained
+pub returns-in-Discard : goal.returns-in-Discard
+returns-in-Discard c = λ stands. output-works stands c.args.k.0 c.in_ok-d.d c.in_ok-d.ensures (Ok Discard) (rw c.in-Discard.is at c.in_ok-a.ensures)

@@ -1,25 +1,19 @@
--- 03 dangle. Assumes nothing.
-use Rattle.rules.specs.Frames as frame
-use Rattle.scopes.specs.View.{view}
-use Rattle.scopes.specs.Lent.{with_scopes}
-use Rattle.scopes.specs.declared.Outcome.{Outcome}
-use Rattle.frames.proofs.Allocations.{reached-is}
-use Rattle.frames.proofs.Moving.{dangle-does, ended-works}
+use Rattle.std.specs.Prelude.{Ok, Err}
+use Rattle.rules.specs.Scopes as rule
+use Rattle.frames.proofs.Told.{handed-on}
+use Rattle.frames.proofs.Moving.{dangle-works, number-refused, number-becomes, none-refused-4}
 use Rattle.frames.proofs.scoped.dangle.Goals as goal
 
-pub meant-id-requires : goal.meant-id-requires
-meant-id-requires c = tt
+pub returns-in_err-id : goal.returns-in_err-id
+returns-in_err-id c =
+    let e = c.in_err-id.field-0.0 in
+    rw (handed-on c.from_residual.result c.from_residual.ensures.1)
+    (λ handles stands drained. dangle-works stands c.args.n (Err e) (number-refused c.args.scopes.now c.args.n rule.dangle_scope c.from.ensures c.requires (none-refused-4 _).1 e c.in_err-id.ensures) drained)
 
-pub dangle-o-requires : goal.dangle-o-requires
-dangle-o-requires c = c.requires
-
-pub ended-requires : goal.ended-requires
-ended-requires c = tt
+pub returns-in_err-dangle : goal.returns-in_err-dangle
+returns-in_err-dangle c =
+    rw (handed-on c.from_residual-in_err-dangle.result c.from_residual-in_err-dangle.ensures.1)
+    (λ handles stands drained. dangle-works stands c.args.n (Err c.in_err-dangle.field-0.0) (number-becomes c.args.scopes.now c.args.n rule.dangle_scope c.from.ensures c.in_ok-id.id c.in_ok-id.ensures c.in_err-dangle.ensures) drained)
 
 pub returns : goal.returns
-returns c =
-    λ s handles holders stands drained.
-    let o : Outcome = record { state = with_scopes s c.args.live.now c.dangle-o.new.dangled c.args.parent.now c.args.number.now c.dangle-o.result.numbers; reply = c.dangle-o.result.reply } in
-    let e = c.dangle-o.ensures s stands.whole in
-    ended-works _ _ _ _ stands o e.1 e.2 _ (reached-is c.ended.ensures) (frame.dangle c.args.k) 0x03 drained
-    (dangle-does _ _ _ _ stands drained (view o.state) o.reply c.args.k (c.meant-id.ensures (with_scopes s c.args.live.now c.args.dangled.now c.args.parent.now c.args.number.now c.args.n)).is e.0)
+returns c = λ handles stands drained. dangle-works stands c.args.n (Ok tt) (number-becomes c.args.scopes.now c.args.n rule.dangle_scope c.from.ensures c.in_ok-id.id c.in_ok-id.ensures c.in_ok-dangle.ensures) drained

@@ -1,25 +1,20 @@
--- 02 pop. Assumes nothing.
-use Rattle.rules.specs.Frames as frame
-use Rattle.scopes.specs.View.{view}
-use Rattle.scopes.specs.Lent.{made}
-use Rattle.scopes.specs.declared.Outcome.{Outcome}
-use Rattle.frames.proofs.Allocations.{reached-is}
-use Rattle.frames.proofs.Moving.{pop-does, ended-works}
+use Rattle.std.specs.Prelude.{Ok, Err}
+use Rattle.rules.specs.Scopes as rule
+use Rattle.rules.specs.Sizes.{base}
+use Rattle.frames.proofs.Told.{handed-on}
+use Rattle.frames.proofs.Moving.{pop-works, number-refused, number-becomes, none-refused-4}
 use Rattle.frames.proofs.scoped.pop.Goals as goal
 
-pub meant-id-requires : goal.meant-id-requires
-meant-id-requires c = tt
+pub returns-in_err-id : goal.returns-in_err-id
+returns-in_err-id c =
+    let e = c.in_err-id.field-0.0 in
+    rw (handed-on c.from_residual.result c.from_residual.ensures.1)
+    (λ handles stands drained. pop-works stands c.args.n (Err e) (number-refused c.args.scopes.now c.args.n (rule.pop_scope base) c.from.ensures c.requires (none-refused-4 _).0 e c.in_err-id.ensures) drained)
 
-pub pop-o-requires : goal.pop-o-requires
-pop-o-requires c = c.requires
-
-pub ended-requires : goal.ended-requires
-ended-requires c = tt
+pub returns-in_err-pop : goal.returns-in_err-pop
+returns-in_err-pop c =
+    rw (handed-on c.from_residual-in_err-pop.result c.from_residual-in_err-pop.ensures.1)
+    (λ handles stands drained. pop-works stands c.args.n (Err c.in_err-pop.field-0.0) (number-becomes c.args.scopes.now c.args.n (rule.pop_scope base) c.from.ensures c.in_ok-id.id c.in_ok-id.ensures c.in_err-pop.ensures) drained)
 
 pub returns : goal.returns
-returns c =
-    λ handles holders stands drained.
-    let o : Outcome = record { state = made c.pop-o.new.halves c.pop-o.new.links c.pop-o.new.owner c.pop-o.new.live c.pop-o.new.dangled c.pop-o.new.parent c.pop-o.new.number c.pop-o.new.bindings c.pop-o.result.numbers; reply = c.pop-o.result.reply } in
-    let e = c.pop-o.ensures stands.whole in
-    ended-works _ _ _ _ stands o e.1 e.2 _ (reached-is c.ended.ensures) (frame.pop c.args.k) 0x02 drained
-    (pop-does _ _ _ _ stands drained (view o.state) o.reply c.args.k (c.meant-id.ensures (made c.args.halves.now c.args.links.now c.args.owner.now c.args.live.now c.args.dangled.now c.args.parent.now c.args.number.now c.args.bindings.now c.args.n)).is e.0)
+returns c = λ handles stands drained. pop-works stands c.args.n (Ok tt) (number-becomes c.args.scopes.now c.args.n (rule.pop_scope base) c.from.ensures c.in_ok-id.id c.in_ok-id.ensures c.in_ok-pop.ensures) drained
