@@ -69,41 +69,42 @@ module _ (s : List ℕ) (p : ℕ) where
   here = ap (λ (x : ℕ). get_or s x 0) (omega arith)
 
   -- the words of the first eleven bytes, and what the digits in them make
-  module _ (room : p + 11 ≤ length s) (d : Digits) (below : d.number < 0x10000000000)
+  module _ (room : p + 11 ≤ length s)
       (front : ℕ) (pf : Packed (get_or s p 0) (get_or s (p + 1) 0) (get_or s (p + 2) 0) (get_or s (p + 3) 0) front) (o : ℕ) (ho : WordMakes (opcode_in front) o) where
-    module _ (small : o < 0x10000) where
-      op : FourDigits 48 48 (get_or s p 0) (get_or s (p + 1) 0) o
-      op = ho 48 48 (get_or s p 0) (get_or s (p + 1) 0) (opcode-word _ _ _ _ front pf) small
+    op : FourDigits 48 48 (get_or s p 0) (get_or s (p + 1) 0) o
+    op = ho 48 48 (get_or s p 0) (get_or s (p + 1) 0) (opcode-word _ _ _ _ front pf)
 
-      coded : o ≡ code s p
-      unfolding value
-      coded = omega (arith, op.number, ap value here)
+    coded : o ≡ code s p
+    unfolding value
+    coded = omega (arith, op.number, ap value here)
 
-      two : Hex 2
-      two = one_more_lem 1 (one_more_lem 0 none (subst (λ (x : ℕ). value x < 16) (sym here) op.third)) op.fourth
+    two : Hex 2
+    two = one_more_lem 1 (one_more_lem 0 none (subst (λ (x : ℕ). value x < 16) (sym here) op.third)) op.fourth
 
-    pub two_digits : Joined (p + 2) o 0 0 d → front / 0x10000 % 0x100 ≡ 10 → DigitsFrom s p d
-    two_digits j lf = whole 2 d j.ends (omega arith) (two j.opcode-is) (third-byte _ _ _ _ front pf lf) (j.makes ∙ omega (arith, coded j.opcode-is, number-two s p)) below
+    -- an opcode has two digits
+    pub opcode-below : o < 0x100
+    unfolding value
+    opcode-below = omega (arith, op.number, op.third, op.fourth)
+
+    pub two_digits : (d : Digits) → Joined (p + 2) o 0 0 d → front / 0x10000 % 0x100 ≡ 10 → DigitsFrom s p d
+    two_digits d j lf =
+        whole 2 d j.ends (omega arith) two (third-byte _ _ _ _ front pf lf) (j.makes ∙ omega (arith, coded, number-two s p)) (omega (arith, j.makes, opcode-below))
 
     module _ (back : ℕ) (pb : Packed (get_or s (p + 4) 0) (get_or s (p + 5) 0) (get_or s (p + 6) 0) (get_or s (p + 7) 0) back) (a : ℕ) (ha : WordMakes (between front back) a) where
-      module _ (small : o < 0x10000) (fits : a < 0x10000) where
-        fa : FourDigits (get_or s (p + 2) 0) (get_or s (p + 3) 0) (get_or s (p + 4) 0) (get_or s (p + 5) 0) a
-        fa = ha _ _ _ _ (word-between _ _ _ _ _ _ _ _ front back pf pb) fits
+      fa : FourDigits (get_or s (p + 2) 0) (get_or s (p + 3) 0) (get_or s (p + 4) 0) (get_or s (p + 5) 0) a
+      fa = ha _ _ _ _ (word-between _ _ _ _ _ _ _ _ front back pf pb)
 
-        six : Hex 6
-        six = one_more_lem 5 (one_more_lem 4 (one_more_lem 3 (one_more_lem 2 (two small) fa.first) fa.second) fa.third) fa.fourth
+      six : Hex 6
+      six = one_more_lem 5 (one_more_lem 4 (one_more_lem 3 (one_more_lem 2 two fa.first) fa.second) fa.third) fa.fourth
 
-      pub six-digits : Joined (p + 6) o a 0 d → back / 0x10000 % 0x100 ≡ 10 → DigitsFrom s p d
-      six-digits j lf =
-          let f = fa j.opcode-is j.first-is in
-          whole 6 d j.ends (omega arith) (six j.opcode-is j.first-is) (third-byte _ _ _ _ back pb lf) (j.makes ∙ omega (arith, coded j.opcode-is, f.number, number-six s p)) below
+      pub six-digits : (d : Digits) → Joined (p + 6) o a 0 d → back / 0x10000 % 0x100 ≡ 10 → DigitsFrom s p d
+      six-digits d j lf =
+          whole 6 d j.ends (omega arith) six (third-byte _ _ _ _ back pb lf) (j.makes ∙ omega (arith, coded, fa.number, number-six s p)) (omega (arith, j.makes, opcode-below, fa))
 
       module _ (last : ℕ) (pl : Packed (get_or s (p + 8) 0) (get_or s (p + 9) 0) (get_or s (p + 10) 0) 0 last) (b : ℕ) (hb : WordMakes (between back last) b) where
-        pub ten-digits : Joined (p + 10) o a b d → last / 0x10000 ≡ 10 → DigitsFrom s p d
-        ten-digits j lf =
-            let f = fa j.opcode-is j.first-is in
-            let g = hb _ _ _ _ (word-between _ _ _ _ _ _ _ _ back last pb pl) j.second_is in
-            let h = six j.opcode-is j.first-is in
-            let ten = one_more_lem 9 (one_more_lem 8 (one_more_lem 7 (one_more_lem 6 h g.first) g.second) g.third) g.fourth in
+        pub ten-digits : (d : Digits) → Joined (p + 10) o a b d → last / 0x10000 ≡ 10 → DigitsFrom s p d
+        ten-digits d j lf =
+            let g = hb _ _ _ _ (word-between _ _ _ _ _ _ _ _ back last pb pl) in
+            let ten = one_more_lem 9 (one_more_lem 8 (one_more_lem 7 (one_more_lem 6 six g.first) g.second) g.third) g.fourth in
             let e : get_or s (p + 10) 0 ≡ 10 = omega (arith, pl.makes, pl.byte-1, pl.byte-2) in
-            whole 10 d j.ends (omega arith) ten e (j.makes ∙ omega (arith, coded j.opcode-is, f.number, g.number, number-ten s p)) below
+            whole 10 d j.ends (omega arith) ten e (j.makes ∙ omega (arith, coded, fa.number, g.number, number-ten s p)) (omega (arith, j.makes, opcode-below, fa, g))

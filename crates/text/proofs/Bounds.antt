@@ -1,6 +1,6 @@
 -- How far the reading of a text goes: numbers 1 and 2, a line no later than the last that can be, no more lines than there is room for, and
 -- a size no greater. Assumes nothing.
-use mathlib.Core.Path.{◌≡◌, refl, sym}
+use mathlib.Core.Path.{◌≡◌, refl, sym, ap}
 use mathlib.Core.Bool.{Bool, true, false}
 use mathlib.Core.List.{List, [], ◌∷◌}
 use mathlib.Core.Option.{Option, none, some}
@@ -14,9 +14,9 @@ use Rattle.rules.specs.Slots.{Place, by_head, lowest, exactly_at}
 use Rattle.rules.specs.Frames as rules
 use Rattle.rules.specs.Frames.{Line}
 use Rattle.rules.specs.Text.{Split, split, line_of, frame_table, line_table, size_table, Script, frames, unread, frame_before, script_from, titled, title, read_script, Listed, listed, unlisted, line_before, size_or, list_from, under_title, read_list}
-use Rattle.text.specs.Whole.{of_script, of_listed, script_checked, listing}
-use Rattle.text.specs.declared.whole.CheckedScript.TheVariants.{Good, Refused}
-use Rattle.text.specs.declared.whole.Listing.TheVariants.{Read, Unread}
+use Rattle.text.specs.Refused.{good, bad}
+use Rattle.text.specs.Whole.{sized, of_script, of_listed, script_checked, listing}
+use Rattle.text.specs.declared.whole.Listing.{Listing}
 
 abbrev pub Refusal : Room → ℕ → ℕ → Type 0
 Refusal room n j = (1 ≤ n) × (n ≤ 2) × (j ≤ room.lines)
@@ -71,11 +71,8 @@ list-in room (k ∷ ls) i l = go (line_of size_table k) ls (eqb i room.lines) re
 
 -- ---- the check of a whole text
 
-not_good : {P : Type 0} {n m j : ℕ} → Good n ≡ Refused m j → P
-not_good e = absurd (let z : ◌≡◌ {A = ℕ} 0 1 = cc in omega arith)
-
-not-read : {P : Type 0} {size n m j : ℕ} → Read size n ≡ Unread m j → P
-not-read e = absurd (let z : ◌≡◌ {A = ℕ} 0 1 = cc in omega arith)
+not_good : {A P : Type 0} {a : A} {m j : ℕ} → good a ≡ bad m j → P
+not_good e = cc
 
 -- the title is one line at most
 titles-few : (p : Place) → length (title p) ≤ 1
@@ -102,34 +99,38 @@ module _ (room : Room) (one : 1 ≤ room.lines) (s : List ℕ) where
       let above = title (titled (split s)).place in
       under-in room above (list_from room (length above) (titled (split s)).rest) (list-in room (titled (split s)).rest (length above) (omega (arith, one, titles-few (titled (split s)).place)))
 
-  pub script-refused : (n j : ℕ) → script_checked room s ≡ Refused n j → Refusal room n j
+  pub script-refused : (n j : ℕ) → script_checked room s ≡ bad n j → Refusal room n j
   unfolding script_checked
   script-refused n j e = go (read_script room s).script e read-in
     where
-      go : (r : Script) → of_script titles r ≡ Refused n j → ScriptIn room titles r → Refusal room n j
+      go : (r : Script) → of_script titles r ≡ bad n j → ScriptIn room titles r → Refusal room n j
       go (frames fs) e h = not_good e
       go (unread m i) e h = let a : m ≡ n = cc in let b : i ≡ j = cc in (omega (arith, h.0), omega (arith, h.1), omega (arith, h.2))
 
-  pub script-good : (n : ℕ) → script_checked room s ≡ Good n → n ≤ room.lines
+  pub script-good : (n : ℕ) → script_checked room s ≡ good n → n ≤ room.lines
   unfolding script_checked
   script-good n e = go (read_script room s).script e read-in
     where
-      go : (r : Script) → of_script titles r ≡ Good n → ScriptIn room titles r → n ≤ room.lines
+      go : (r : Script) → of_script titles r ≡ good n → ScriptIn room titles r → n ≤ room.lines
       go (frames fs) e h = let a : titles + length fs ≡ n = cc in omega (arith, h)
       go (unread m i) e h = not_good (sym e)
 
-  pub list-refused : (n j : ℕ) → listing room s ≡ Unread n j → Refusal room n j
+  pub list-refused : (n j : ℕ) → listing room s ≡ bad n j → Refusal room n j
   unfolding listing
   list-refused n j e = go (read_list room s) e read-list-in
     where
-      go : (r : Listed) → of_listed 0 r ≡ Unread n j → ListIn room 0 r → Refusal room n j
-      go (listed ls m) e h = not-read e
+      go : (r : Listed) → of_listed 0 r ≡ bad n j → ListIn room 0 r → Refusal room n j
+      go (listed ls m) e h = not_good e
       go (unlisted m i) e h = let a : m ≡ n = cc in let b : i ≡ j = cc in (omega (arith, h.0), omega (arith, h.1), omega (arith, h.2))
 
-  pub list-good : (size n : ℕ) → listing room s ≡ Read size n → (size ≤ room.size) × (n ≤ room.lines)
+  pub list-good : (l : Listing) → listing room s ≡ good l → (l.size ≤ room.size) × (l.lines ≤ room.lines)
   unfolding listing
-  list-good size n e = go (read_list room s) e read-list-in
+  list-good l e = go (read_list room s) e read-list-in
     where
-      go : (r : Listed) → of_listed 0 r ≡ Read size n → ListIn room 0 r → (size ≤ room.size) × (n ≤ room.lines)
-      go (listed ls m) e h = let a : m ≡ size = cc in let b : 0 + length ls ≡ n = cc in (omega (arith, h.1), omega (arith, h.0))
-      go (unlisted m i) e h = not-read (sym e)
+      go : (r : Listed) → of_listed 0 r ≡ good l → ListIn room 0 r → (l.size ≤ room.size) × (l.lines ≤ room.lines)
+      go (listed ls m) e h =
+          let q : sized m (0 + length ls) ≡ l = cc in
+          let a : m ≡ l.size = ap (λ (x : Listing). x.size) q in
+          let b : 0 + length ls ≡ l.lines = ap (λ (x : Listing). x.lines) q in
+          (omega (arith, h.1), omega (arith, h.0))
+      go (unlisted m i) e h = not_good (sym e)

@@ -13,3 +13,4 @@ pub mod Bounds
 pub mod Over
 pub mod Halves
 pub mod Tabling
+pub mod Numbered

@@ -13,8 +13,9 @@ use Rattle.rules.proofs.Tables.{by_eqb}
 use Rattle.rules.specs.Notation.{all_below}
 use Rattle.text.proofs.Computed.{at, same_at}
 use Rattle.text.specs.Shapes.{pick, shape_of, fit, frame, read_as}
-use Rattle.text.specs.Lines.{word_at, weight, number_of, reading_by, unpacked, decoded, reading_of, ended}
-use Rattle.text.specs.declared.lines.Reading.TheVariants.{Malformed, One}
+use Rattle.text.specs.Lines.{word_at, weight, number_of, reading_by, unpacked, reading_of, ended}
+use Rattle.std.specs.declared.option.Option.TheVariants.{Some, None}
+use Rattle.text.specs.declared.lines.TextKind.{TextKind}
 use Rattle.text.proofs.Words.{all_hex, hex-at, hex-all, code_at, operand_at, raw-short, raw-odd, raw-bad, raw-whole, operands-count, operand-none, operand-first, operand-second}
 use Rattle.text.proofs.Rows.{reading-raw, reading-none}
 
@@ -182,21 +183,21 @@ pub parts : (t : List ℕ) → 2 ≤ length t → all_hex t ≡ true → (length
 parts t k h m = by_eqb (length t) 2 (parts-two t) (λ a. by_eqb (length t) 6 (parts-six t h) (λ b. parts_more t h (omega (arith, a, b))))
 
 -- a line of digits reads as its number says
-whole : (list : Bool) (t : List ℕ) (n : ℕ) → 2 ≤ length t → all_hex t ≡ true → (length t - 2) % 4 ≡ 0 → Parts t n
-    → read_as (shape_of list (n / 0x100000000)) (n / 0x100000000) ((length t - 2) / 4) (n / 0x10000 % 0x10000) (n % 0x10000) ≡ reading_of list (ended t)
-whole list t n k h m u =
+whole : (which : TextKind) (t : List ℕ) (n : ℕ) → 2 ≤ length t → all_hex t ≡ true → (length t - 2) % 4 ≡ 0 → Parts t n
+    → read_as (shape_of which (n / 0x100000000)) (n / 0x100000000) ((length t - 2) / 4) (n / 0x10000 % 0x10000) (n % 0x10000) ≡ reading_of which (ended t)
+whole which t n k h m u =
     let o : n / 0x100000000 ≡ code_at t = omega (arith, u.sum, u.first, u.second) in
     let a : n / 0x10000 % 0x10000 ≡ operand_at t 0 = omega (arith, u.sum, u.first, u.second) in
     let b : n % 0x10000 ≡ operand_at t 1 = omega (arith, u.sum, u.first, u.second) in
-    rw (o, a, b, ← operands-count t m) (sym (reading-raw list t _ (raw-whole t k h m)))
+    rw (o, a, b, ← operands-count t m) (sym (reading-raw which t _ (raw-whole t k h m)))
 
-digits-read : (list : Bool) (t : List ℕ) → all_hex t ≡ true → reading_by list (length t) (number_of t 0 (length t)) ≡ reading_of list (ended t)
-digits-read list t h = go (ltb (length t) 2) refl (eqb ((length t - 2) % 4) 0) refl
+digits-read : (which : TextKind) (t : List ℕ) → all_hex t ≡ true → reading_by which (length t) (number_of t 0 (length t)) ≡ reading_of which (ended t)
+digits-read which t h = go (ltb (length t) 2) refl (eqb ((length t - 2) % 4) 0) refl
   where
-    go : (x : Bool) → ltb (length t) 2 ≡ x → (y : Bool) → eqb ((length t - 2) % 4) 0 ≡ y → reading_by list (length t) (number_of t 0 (length t)) ≡ reading_of list (ended t)
-    go true p y q = rw p (sym (reading-none list t (raw-short t (ltb-true _ _ p))))
-    go false p false q = rw (p, q) (sym (reading-none list t (raw-odd t (ltb-false _ _ p) (eqb-false _ _ q))))
-    go false p true q = rw (p, q) (whole list t _ (ltb-false _ _ p) h (eqb-true _ _ q) (parts t (ltb-false _ _ p) h (eqb-true _ _ q)))
+    go : (x : Bool) → ltb (length t) 2 ≡ x → (y : Bool) → eqb ((length t - 2) % 4) 0 ≡ y → reading_by which (length t) (number_of t 0 (length t)) ≡ reading_of which (ended t)
+    go true p y q = rw p (sym (reading-none which t (raw-short t (ltb-true _ _ p))))
+    go false p false q = rw (p, q) (sym (reading-none which t (raw-odd t (ltb-false _ _ p) (eqb-false _ _ q))))
+    go false p true q = rw (p, q) (whole which t _ (ltb-false _ _ p) h (eqb-true _ _ q) (parts t (ltb-false _ _ p) h (eqb-true _ _ q)))
 
 -- ---- by positions of the text
 
@@ -214,14 +215,14 @@ module _ (s : List ℕ) (p e : ℕ) (pe : p ≤ e) (es : e ≤ length s) where
   number-slice zero h = refl
   number-slice (suc k) h = rw (number-slice k (omega arith), slice_at (0 + k) (p + k) (omega arith) (omega arith))
 
-  pub line_reads : (list : Bool) → ((k : ℕ) → p ≤ k → k < e → value (get_or s k 0) < 16) → reading_by list (e - p) (number_of s p (e - p)) ≡ reading_of list (ended (slice p e s))
-  line_reads list f =
+  pub line_reads : (which : TextKind) → ((k : ℕ) → p ≤ k → k < e → value (get_or s k 0) < 16) → reading_by which (e - p) (number_of s p (e - p)) ≡ reading_of which (ended (slice p e s))
+  line_reads which f =
       let l : length (slice p e s) ≡ e - p = length-slice p e s es in
-      rw (number-slice (e - p) (omega arith), ← l) (digits-read list (slice p e s) (hex-in f))
+      rw (number-slice (e - p) (omega arith), ← l) (digits-read which (slice p e s) (hex-in f))
 
   -- a byte that is no digit
-  pub line-bad : (list : Bool) (k : ℕ) → p ≤ k → k < e → 16 ≤ value (get_or s k 0) → Malformed ≡ reading_of list (ended (slice p e s))
-  line-bad list k a b v = sym (reading-none list (slice p e s) (raw-bad (slice p e s) (go (all_hex (slice p e s)) refl)))
+  pub line-bad : (which : TextKind) (k : ℕ) → p ≤ k → k < e → 16 ≤ value (get_or s k 0) → None ≡ reading_of which (ended (slice p e s))
+  line-bad which k a b v = sym (reading-none which (slice p e s) (raw-bad (slice p e s) (go (all_hex (slice p e s)) refl)))
     where
       go : (x : Bool) → all_hex (slice p e s) ≡ x → all_hex (slice p e s) ≡ false
       go false q = q
@@ -230,24 +231,12 @@ module _ (s : List ℕ) (p e : ℕ) (pe : p ≤ e) (es : e ≤ length s) where
           let w : get_or (slice p e s) (k - p) 0 ≡ get_or s k 0 = slice_at (k - p) k (omega arith) b in
           absurd (omega (arith, v, subst (λ (x : ℕ). value x < 16) w h))
 
--- ---- a line as one number
+-- ---- the number of n digits: whether they have the shape decides
 
-pub coded : (code : ℕ) → code < 0x10000000000 → decoded code ≡ One (unpacked code)
-coded code h = rw (lt-ltb code 0x10000000000 h)
-
-pub uncoded : (code : ℕ) → 0x10000000000 ≤ code → decoded code ≡ Malformed
-uncoded code h = rw (le-ltb code 0x10000000000 h)
-
--- the number of n digits: whether they have the shape decides
-module _ (list : Bool) (n x : ℕ) (h : 2 ≤ n) (m : (n - 2) % 4 ≡ 0) (below : x < 0x10000000000) (d : ℕ) (ed : d ≡ shape_of list (x / 0x100000000)) where
-  by_shape : (b : Bool) → b ≡ fit d ((n - 2) / 4) (x / 0x10000 % 0x10000)
-      → reading_by list n x ≡ pick b (One (frame (x / 0x100000000) (x / 0x10000 % 0x10000) (x % 0x10000))) Malformed
-  by_shape b e = rw (le-ltb n 2 h, eq-eqb ((n - 2) % 4) 0 m, ← ed, ← e)
-
-  pub shape-fits : (b : Bool) → b ≡ fit d ((n - 2) / 4) (x / 0x10000 % 0x10000) → b ≡ true → decoded x ≡ reading_by list n x
-  shape-fits b e q =
-      let o : x / 0x100000000 % 0x100 ≡ x / 0x100000000 = omega (arith, below) in
-      coded x below ∙ ap (λ (k : ℕ). One (frame k (x / 0x10000 % 0x10000) (x % 0x10000))) o ∙ sym (by_shape b e ∙ rw q)
-
-  pub shape-other : (b : Bool) → b ≡ fit d ((n - 2) / 4) (x / 0x10000 % 0x10000) → b ≡ false → Malformed ≡ reading_by list n x
-  shape-other b e q = sym (by_shape b e ∙ rw q)
+pub by_shape : (which : TextKind) (n x : ℕ) → 2 ≤ n → (n - 2) % 4 ≡ 0 → x < 0x10000000000 → (d : ℕ) → d ≡ shape_of which (x / 0x100000000 % 0x100)
+    → (b : Bool) → b ≡ fit d ((n - 2) / 4) (x / 0x10000 % 0x10000) → pick b (Some (unpacked x)) None ≡ reading_by which n x
+by_shape which n x h m below d ed b e = rw (le-ltb n 2 h, eq-eqb ((n - 2) % 4) 0 m) (at_opcode (x / 0x100000000 % 0x100) (omega (arith, below)) ed)
+  where
+    at_opcode : (o : ℕ) → o ≡ x / 0x100000000 → d ≡ shape_of which o
+        → pick b (Some (frame o (x / 0x10000 % 0x10000) (x % 0x10000))) None ≡ read_as (shape_of which (x / 0x100000000)) (x / 0x100000000) ((n - 2) / 4) (x / 0x10000 % 0x10000) (x % 0x10000)
+    at_opcode o q u = rw (← q, ← u, ← e)

@@ -38,14 +38,13 @@ pub byte_put : (out : List ℕ) (w n a b : ℕ) → w + 2 ≤ length out → a �
 unfolding hex2
 byte_put out w n a b h ea eb = rw (← ea, ← eb) (simp add-one (over-sets out w (a ∷ b ∷ []) h))
 
-pub word-put : (out : List ℕ) (w n a b c d : ℕ) → n < 65536 → w + 4 ≤ length out → a ≡ digit (n / 256 / 16) → b ≡ digit (n / 256 % 16) → c ≡ digit (n % 256 / 16) → d ≡ digit (n % 256 % 16)
-    → set (set (set (set out w a) (w + 1) b) (w + 1 + 1) c) (w + 1 + 1 + 1) d ≡ over out w (hex4 n)
-unfolding hex4
-word-put out w n a b c d bn h ea eb ec ed =
-    let e1 : n / 4096 ≡ n / 256 / 16 = omega arith in
-    let e3 : n / 16 % 16 ≡ n % 256 / 16 = omega arith in
-    let e4 : n % 16 ≡ n % 256 % 16 = omega arith in
-    rw (e1, e3, e4, ← ea, ← eb, ← ec, ← ed) (simp add-one (over-sets out w (a ∷ b ∷ c ∷ d ∷ []) h))
+hex-halves : (n : ℕ) → n < 65536 → hex2 (n / 256) ++ hex2 (n % 256) ≡ hex4 n
+unfolding hex2 hex4
+hex-halves n h =
+    let e1 : n / 256 / 16 ≡ n / 4096 = omega arith in
+    let e3 : n % 256 / 16 ≡ n / 16 % 16 = omega arith in
+    let e4 : n % 256 % 16 ≡ n % 16 = omega arith in
+    rw (e1, e3, e4)
 
 pub end-put : (out : List ℕ) (w : ℕ) → w + 1 ≤ length out → set out w 10 ≡ over out w (10 ∷ [])
 end-put out w h = over-sets out w (10 ∷ []) h
@@ -53,25 +52,11 @@ end-put out w h = over-sets out w (10 ∷ []) h
 pub next : (out out1 out2 : List ℕ) (w w1 : ℕ) (t u : List ℕ) → w ≤ length out → w1 ≡ w + length t → out1 ≡ over out w t → out2 ≡ over out1 w1 u → out2 ≡ over out w (t ++ u)
 next out out1 out2 w w1 t u h e e1 e2 = e2 ∙ ap (λ (o : List ℕ). over o w1 u) e1 ∙ over-over out w t w1 u h e
 
-module _ (out : List ℕ) (w o n a b : ℕ) (h : w ≤ length out) (out1 : List ℕ) (w1 : ℕ) (e1 : w1 ≡ w + 2) (p1 : out1 ≡ over out w (hex2 o)) where
-  pub line-none : (out2 : List ℕ) → n ≡ 0 → out2 ≡ over out1 w1 (10 ∷ []) → out2 ≡ over out w (line_text (shows o (take n (a ∷ b ∷ []))))
-  unfolding hex2 hexes line_text
-  line-none out2 q p = rw q (next out out1 out2 w w1 (hex2 o) (10 ∷ []) h e1 p1 p)
-
-  module _ (out2 : List ℕ) (w2 : ℕ) (e2 : w2 ≡ w1 + 4) (p2 : out2 ≡ over out1 w1 (hex4 a)) where
-    two : out2 ≡ over out w (hex2 o ++ hex4 a)
-    unfolding hex2
-    two = next out out1 out2 w w1 (hex2 o) (hex4 a) h e1 p1 p2
-
-    pub line-one : (out3 : List ℕ) → n ≡ 1 → out3 ≡ over out2 w2 (10 ∷ []) → out3 ≡ over out w (line_text (shows o (take n (a ∷ b ∷ []))))
-    unfolding hex2 hex4 hexes line_text
-    line-one out3 q p = rw q (next out out2 out3 w w2 (hex2 o ++ hex4 a) (10 ∷ []) h (omega arith) two p)
-
-    pub line-two : (out3 out4 : List ℕ) (w3 : ℕ) → n ≡ 2 → w3 ≡ w2 + 4 → out3 ≡ over out2 w2 (hex4 b) → out4 ≡ over out3 w3 (10 ∷ []) → out4 ≡ over out w (line_text (shows o (take n (a ∷ b ∷ []))))
-    unfolding hex2 hex4 hexes line_text
-    line-two out3 out4 w3 q e3 p3 p4 =
-        rw q
-        (next out out3 out4 w w3 ((hex2 o ++ hex4 a) ++ hex4 b) (10 ∷ []) h (omega arith) (next out out2 out3 w w2 (hex2 o ++ hex4 a) (hex4 b) h (omega arith) two p3) p4)
+pub word-put : (out out1 out2 : List ℕ) (w w1 n a b : ℕ) → n < 65536 → w ≤ length out → w1 ≡ w + 2 → a ≡ n / 256 → b ≡ n % 256 → out1 ≡ over out w (hex2 a) → out2 ≡ over out1 w1 (hex2 b)
+    → out2 ≡ over out w (hex4 n)
+unfolding hex2
+word-put out out1 out2 w w1 n a b small h e ea eb p q =
+    next out out1 out2 w w1 (hex2 a) (hex2 b) h e p q ∙ (rw (ea, eb) (ap (over out w) (hex-halves n small)))
 
 -- ---- any number of operands
 
@@ -96,21 +81,29 @@ pub words-none : (out : List ℕ) (w : ℕ) (ws : List ℕ) → out ≡ over out
 unfolding hexes
 words-none out w ws = over_nothing out w
 
+pub line-put : (out out1 out2 out3 : List ℕ) (w w1 w2 o : ℕ) (l : List ℕ) → w ≤ length out → w1 ≡ w + 2 → w2 ≡ w1 + 4 * length l
+    → out1 ≡ over out w (hex2 o) → out2 ≡ over out1 w1 (hexes l) → out3 ≡ over out2 w2 (10 ∷ []) → out3 ≡ over out w (line_text (shows o l))
+unfolding hex2 line_text
+line-put out out1 out2 out3 w w1 w2 o l h e1 e2 p1 p2 p3 =
+    let a = next out out1 out2 w w1 (hex2 o) (hexes l) h e1 p1 p2 in
+    let n : length (hexes l) ≡ 4 * length l = hexes-length l in
+    next out out2 out3 w w2 (hex2 o ++ hexes l) (10 ∷ []) h (omega (arith, n)) a p3
+
 pub words_more : (out out1 out2 : List ℕ) (w v i : ℕ) (ws : List ℕ) → w ≤ length out → i < length ws → v ≡ w + 4 * i → out1 ≡ over out w (hexes (take i ws)) → out2 ≡ over out1 v (hex4 (get_or ws i 0))
     → out2 ≡ over out w (hexes (take (i + 1) ws))
 words_more out out1 out2 w v i ws h k e p q =
     let l : length (take i ws) ≡ i = length-take-le i ws (omega arith) in
     next out out1 out2 w v (hexes (take i ws)) (hex4 (get_or ws i 0)) h (omega (arith, hexes-length (take i ws))) p q ∙ ap (over out w) (hexes-more ws i k)
 
-pub drain-put : (out out1 out2 out3 out4 : List ℕ) (w w1 w2 w3 n : ℕ) (ws : List ℕ) → n ≤ length ws → w ≤ length out → w1 ≡ w + 2 → w2 ≡ w1 + 4 → w3 ≡ w2 + 4 * n
-    → out1 ≡ over out w (hex2 15) → out2 ≡ over out1 w1 (hex4 n) → out3 ≡ over out2 w2 (hexes (take n ws)) → out4 ≡ over out3 w3 (10 ∷ [])
-    → out4 ≡ over out w (line_text (shows 15 (n ∷ take n ws)))
+pub drain-put : (out out1 out2 out3 out4 : List ℕ) (w w1 w2 w3 : ℕ) (ws : List ℕ) → w ≤ length out → w1 ≡ w + 2 → w2 ≡ w1 + 4 → w3 ≡ w2 + 4 * length ws
+    → out1 ≡ over out w (hex2 15) → out2 ≡ over out1 w1 (hex4 (length ws)) → out3 ≡ over out2 w2 (hexes ws) → out4 ≡ over out3 w3 (10 ∷ [])
+    → out4 ≡ over out w (line_text (shows 15 (length ws ∷ ws)))
 unfolding hex2 hex4 line_text hexes
-drain-put out out1 out2 out3 out4 w w1 w2 w3 n ws k h e1 e2 e3 p1 p2 p3 p4 =
-    let l : length (hexes (take n ws)) ≡ 4 * n = hexes-length (take n ws) ∙ ap (λ (m : ℕ). 4 * m) (length-take-le n ws k) in
-    let a = next out out1 out2 w w1 (hex2 15) (hex4 n) h e1 p1 p2 in
-    let b = next out out2 out3 w w2 (hex2 15 ++ hex4 n) (hexes (take n ws)) h (omega arith) a p3 in
-    next out out3 out4 w w3 ((hex2 15 ++ hex4 n) ++ hexes (take n ws)) (10 ∷ []) h (omega (arith, l)) b p4
+drain-put out out1 out2 out3 out4 w w1 w2 w3 ws h e1 e2 e3 p1 p2 p3 p4 =
+    let l = hexes-length ws in
+    let a = next out out1 out2 w w1 (hex2 15) (hex4 (length ws)) h e1 p1 p2 in
+    let b = next out out2 out3 w w2 (hex2 15 ++ hex4 (length ws)) (hexes ws) h (omega arith) a p3 in
+    next out out3 out4 w w3 ((hex2 15 ++ hex4 (length ws)) ++ hexes ws) (10 ∷ []) h (omega (arith, l)) b p4
 
 pub refusal-put : (out out1 out2 out3 out4 : List ℕ) (w w1 w2 w3 n i : ℕ) → w ≤ length out → w1 ≡ w + 2 → w2 ≡ w1 + 2 → w3 ≡ w2 + 4
     → out1 ≡ over out w (hex2 0xee) → out2 ≡ over out1 w1 (hex2 n) → out3 ≡ over out2 w2 (hex4 i) → out4 ≡ over out3 w3 (10 ∷ [])

@@ -11,14 +11,13 @@ use lib.Seq.{slice, slice-cons, slice_empty, drop-cons, length-slice}
 use borrow.Author.Tests.{eq-eqb, ne_eqb, eqb-true, eqb-false, ltb-true, ltb-false}
 use Rattle.rules.specs.Text.{value, Split, split, onto}
 use Rattle.rules.proofs.Tables.{by_eqb}
-use Rattle.text.specs.Shapes.{pick}
-use Rattle.text.specs.Lines.{Ends, NextLine, DigitsFrom, ended, reading_by, decoded, taken_of, reading_of, width, Took}
+use Rattle.text.specs.Shapes.{pick, Reading}
+use Rattle.text.specs.Lines.{Ends, NextLine, DigitsFrom, ended, reading_by, reading_of, width, Took}
 use Rattle.text.specs.declared.lines.Digits.{Digits}
-use Rattle.text.specs.declared.lines.Reading.{Reading}
 use Rattle.text.specs.declared.lines.Frame.{Frame}
-use Rattle.text.specs.declared.lines.Reading.TheVariants.{Malformed, One}
+use Rattle.std.specs.declared.option.Option.TheVariants.{Some, None}
+use Rattle.text.specs.declared.lines.TextKind.{TextKind}
 use Rattle.text.specs.declared.lines.TakenLine.{TakenLine}
-use Rattle.text.specs.declared.lines.Coded.{Coded}
 use Rattle.text.proofs.Rows.{reading-open, reading-none}
 use Rattle.text.proofs.Words.{raw-short}
 use Rattle.text.proofs.Numbers.{line_reads, line-bad}
@@ -84,23 +83,23 @@ last_line s q h = go (eqb q (length s)) refl
 
 -- ---- the line at p, by where it ends
 
-module _ (list : Bool) (s : List ℕ) (p e : ℕ) (h : Ends s p e) where
+module _ (which : TextKind) (s : List ℕ) (p e : ℕ) (h : Ends s p e) where
   long : length (slice p e s) ≡ e - p
   long = length-slice p e s h.to
 
-  took-open : p < length s → e ≡ length s → Took (reading_of list) s p (record { reading = Malformed; next = e })
+  took-open : p < length s → e ≡ length s → Took (reading_of which) s p (record { frame = None; next = e })
   took-open l q = record {
     line = record { text = slice p e s; ended = false };
     here =
         split-open (e - p - 1) s p e (omega (arith, h.from)) q h.none_before
         ∙ ap (λ (ls : List Split). record { text = slice p e s; ended = false } ∷ ls) (sym (split-end s e (omega arith)));
-    as_read = sym (reading-open list (slice p e s));
+    as_read = sym (reading-open which (slice p e s));
     place = omega (arith, long, h.from);
     forward = omega arith;
     within = h.to;
   }
 
-  took-ended : (e ≡ length s → ⊥) → (x : Reading) → x ≡ reading_of list (ended (slice p e s)) → Took (reading_of list) s p (record { reading = x; next = e + 1 })
+  took-ended : (e ≡ length s → ⊥) → (x : Reading) → x ≡ reading_of which (ended (slice p e s)) → Took (reading_of which) s p (record { frame = x; next = e + 1 })
   took-ended n x q =
       let l : e < length s = omega (arith, h.to, n) in
       record {
@@ -135,60 +134,51 @@ ends_on s p e q pe f h = record { from = omega (arith, h.from); to = h.to; none_
 ends-here : (s : List ℕ) (e : ℕ) → e ≤ length s → (e < length s → get_or s e 0 ≡ 10) → Ends s e e
 ends-here s e h l = record { from = omega arith; to = h; none_before = λ k a b x. omega (arith, a, b); last = l }
 
-module _ (list : Bool) (s : List ℕ) (p : ℕ) (l : p < length s) (d : Digits) (h : DigitsFrom s p d) where
-  -- the text's end
-  pub took-torn : d.end ≡ length s → Took (reading_of list) s p (record { reading = Malformed; next = d.end })
-  took-torn q =
-      took-open list s p d.end (ends_on s p d.end d.end h.from h.all (ends-here s d.end h.to (λ b. absurd (omega (arith, b, q))))) l q
-
+module _ (which : TextKind) (s : List ℕ) (p : ℕ) (l : p < length s) (d : Digits) (h : DigitsFrom s p d) where
   -- LF
-  pub took-digits : (d.end ≡ length s → ⊥) → get_or s d.end 0 ≡ 10 → (x : Reading) → x ≡ reading_by list (d.end - p) d.number
-      → Took (reading_of list) s p (record { reading = x; next = d.end + 1 })
+  pub took-digits : (d.end ≡ length s → ⊥) → get_or s d.end 0 ≡ 10 → (x : Reading) → x ≡ reading_by which (d.end - p) d.number
+      → Took (reading_of which) s p (record { frame = x; next = d.end + 1 })
   took-digits n z x q =
-      took-ended list s p d.end (ends_on s p d.end d.end h.from h.all (ends-here s d.end h.to (λ b. z))) n x
-      (q ∙ ap (reading_by list (d.end - p)) h.number_is ∙ line_reads s p d.end h.from h.to list h.all)
+      took-ended which s p d.end (ends_on s p d.end d.end h.from h.all (ends-here s d.end h.to (λ b. z))) n x
+      (q ∙ ap (reading_by which (d.end - p)) h.number_is ∙ line_reads s p d.end h.from h.to which h.all)
 
-  -- another byte
-  pub took-other : (d.end ≡ length s → ⊥) → (get_or s d.end 0 ≡ 10 → ⊥) → (q : ℕ) → NextLine s d.end q
-      → Took (reading_of list) s p (record { reading = Malformed; next = q })
-  took-other n z q w = subst (λ (m : ℕ). Took (reading_of list) s p (record { reading = Malformed; next = m })) (sym w.is) (go (eqb w.end (length s)) refl)
+  -- another byte, or the text's end
+  pub took-other : (d.end < length s → get_or s d.end 0 ≡ 10 → ⊥) → (q : ℕ) → NextLine s d.end q → Took (reading_of which) s p (record { frame = None; next = q })
+  took-other z q w = subst (λ (m : ℕ). Took (reading_of which) s p (record { frame = None; next = m })) (sym w.is) (go (eqb w.end (length s)) refl)
     where
       ends : Ends s p w.end
       ends = ends_on s p d.end w.end h.from h.all w.ends
 
-      past : d.end < w.end
-      past = by_eqb d.end w.end (λ u. absurd (z (ap (λ (k : ℕ). get_or s k 0) u ∙ w.ends.last (omega (arith, h.to, n, u))))) (λ u. omega (arith, u, w.ends.from))
+      past : (w.end ≡ length s → ⊥) → d.end < w.end
+      past u = by_eqb d.end w.end (λ v. absurd (z (omega (arith, v, u, ends.to)) (ap (λ (k : ℕ). get_or s k 0) v ∙ w.ends.last (omega (arith, u, ends.to))))) (λ v. omega (arith, v, w.ends.from))
 
-      go : (b : Bool) → eqb w.end (length s) ≡ b → Took (reading_of list) s p (record { reading = Malformed; next = pick b w.end (w.end + 1) })
-      go true u = took-open list s p w.end ends l (eqb-true _ _ u)
+      go : (b : Bool) → eqb w.end (length s) ≡ b → Took (reading_of which) s p (record { frame = None; next = pick b w.end (w.end + 1) })
+      go true u = took-open which s p w.end ends l (eqb-true _ _ u)
       go false u =
-          took-ended list s p w.end ends (eqb-false _ _ u) Malformed
-          (line-bad s p w.end ends.from ends.to list d.end h.from past (h.stop (omega (arith, h.to, n))))
-
--- the reading of a line's number
-pub took-as : (f : Split → Reading) (s : List ℕ) (p : ℕ) (t : Coded) → Took f s p (taken_of t) → (x : Reading) → x ≡ decoded t.code → Took f s p (record { reading = x; next = t.next })
-took-as f s p t k x e = record { line = k.line; here = k.here; as_read = e ∙ k.as_read; place = k.place; forward = k.forward; within = k.within }
+          let n : w.end ≡ length s → ⊥ = eqb-false _ _ u in
+          let f = past n in
+          took-ended which s p w.end ends n None (line-bad s p w.end ends.from ends.to which d.end h.from f (h.stop (omega (arith, f, ends.to))))
 
 -- any two readings of the line at p are equal
 pub took_one : {f : Split → Reading} {s : List ℕ} {p : ℕ} {r r' : TakenLine} → Took f s p r → Took f s p r' → r ≡ r'
 took_one {f} {s} {p} {r} {r'} t t' =
     let l : t.line ≡ t'.line = cc (t.here, t'.here) in
-    let a : r.reading ≡ r'.reading = t.as_read ∙ ap f l ∙ sym t'.as_read in
+    let a : r.frame ≡ r'.frame = t.as_read ∙ ap f l ∙ sym t'.as_read in
     let b : r.next ≡ r'.next = t.place ∙ ap (λ (x : Split). p + width x) l ∙ sym t'.place in
-    λ u. record { reading = a u; next = b u }
+    λ u. record { frame = a u; next = b u }
 
 -- ---- a line that is read has three bytes at least
 
-not-one : {P : Type 0} {f : Frame} → Malformed ≡ One f → P
-not-one e = absurd (let z : ◌≡◌ {A = ℕ} 0 1 = cc in omega arith)
+not-one : {P : Type 0} {f : Frame} → None ≡ Some f → P
+not-one e = cc
 
-wide : (list : Bool) (t : List ℕ) (b : Bool) (f : Frame) → reading_of list (record { text = t; ended = b }) ≡ One f → 3 ≤ width (record { text = t; ended = b })
-wide list t false f e = not-one (sym (reading-open list t) ∙ e)
-wide list t true f e = go (ltb (length t) 2) refl
+wide : (which : TextKind) (t : List ℕ) (b : Bool) (f : Frame) → reading_of which (record { text = t; ended = b }) ≡ Some f → 3 ≤ width (record { text = t; ended = b })
+wide which t false f e = not-one (sym (reading-open which t) ∙ e)
+wide which t true f e = go (ltb (length t) 2) refl
   where
     go : (x : Bool) → ltb (length t) 2 ≡ x → 3 ≤ length t + 1
-    go true q = not-one (sym (reading-none list t (raw-short t (ltb-true (length t) 2 q))) ∙ e)
+    go true q = not-one (sym (reading-none which t (raw-short t (ltb-true (length t) 2 q))) ∙ e)
     go false q = omega (arith, ltb-false (length t) 2 q)
 
-pub took-wide : (list : Bool) (s : List ℕ) (p : ℕ) (t : TakenLine) → Took (reading_of list) s p t → (f : Frame) → t.reading ≡ One f → p + 3 ≤ t.next
-took-wide list s p t k f e = omega (arith, wide list k.line.text k.line.ended f (sym k.as_read ∙ e), k.place)
+pub took-wide : (which : TextKind) (s : List ℕ) (p : ℕ) (t : TakenLine) → Took (reading_of which) s p t → (f : Frame) → t.frame ≡ Some f → p + 3 ≤ t.next
+took-wide which s p t k f e = omega (arith, wide which k.line.text k.line.ended f (sym k.as_read ∙ e), k.place)

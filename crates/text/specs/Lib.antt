@@ -1,4 +1,5 @@
 pub mod Shapes
+pub mod Refused
 pub mod Lines
 pub mod Titles
 pub mod Writing

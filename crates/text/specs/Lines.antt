@@ -1,16 +1,16 @@
 -- What the reader answers for a line of a script or of a list, over the rules' own definitions. Assumes nothing.
-use Rattle.std.specs.Prelude.{◌≡◌, Bool, true, false, List, [], ◌∷◌, ℕ, zero, suc, ◌+◌, ◌*◌, ◌/◌, ◌%◌, ◌-◌, ◌≤◌, ◌<◌, length, get_or, take, drop, eqb, ltb}
+use Rattle.std.specs.Prelude as std
+use Rattle.std.specs.Prelude.{◌≡◌, Bool, true, false, List, [], ◌∷◌, ℕ, zero, suc, ◌+◌, ◌*◌, ◌/◌, ◌%◌, ◌-◌, ◌≤◌, ◌<◌, length, get_or, take, drop, eqb, ltb, Some, None}
 use Rattle.std.proofs.Math.Option.{Option, none, some}
 use Rattle.rules.specs.Frames as rules
 use Rattle.rules.specs.Frames.{child, pop, dangle, restore, pop_last, alloc, alloc_in, linear, define, get, take_from, free, free_quietly, forget, drain, constant, next_sample, write, read, read_name, new_defer, new_assigned, new_ignore, alloc_need, output_need, drop_need, Line, stores, loads, shows}
 use Rattle.rules.specs.Text.{value, Split, split, rowed, line_of, frame_table, line_table, size_table, opcode_of, operands_of}
 use Rattle.text.specs.declared.lines.Frame.{Frame}
-use Rattle.text.specs.declared.lines.Reading.{Reading}
-use Rattle.text.specs.declared.lines.Reading.TheVariants.{Malformed, One}
+use Rattle.text.specs.declared.lines.TextKind.{TextKind}
+use Rattle.text.specs.declared.lines.TextKind.TheVariants as kind
 use Rattle.text.specs.declared.lines.TakenLine.{TakenLine}
-use Rattle.text.specs.declared.lines.Coded.{Coded}
 use Rattle.text.specs.declared.lines.Digits.{Digits}
-use Rattle.text.specs.Shapes.{pick, frame, shape_of, read_as}
+use Rattle.text.specs.Shapes.{pick, frame, Reading, shape_of, read_as}
 
 -- ---- positions of a text
 
@@ -28,6 +28,10 @@ pub record NextLine (s : List ℕ) (e q : ℕ) : Type 0 where
   pub is : q ≡ pick (eqb end (length s)) end (end + 1)
 
 -- ---- digits
+
+-- the value of a byte, if it is a digit
+abbrev pub digit_in : ℕ → std.Option ℕ
+digit_in c = pick (ltb (value c) 16) (Some (value c)) None
 
 -- the number of four digits at p
 abbrev pub word_at : List ℕ → ℕ → ℕ
@@ -49,9 +53,9 @@ pub record FourDigits (a b c d v : ℕ) : Type 0 where
   pub fourth : value d < 16
   pub number : v ≡ value a * 4096 + value b * 256 + value c * 16 + value d
 
--- v is the number that the bytes of the word w make as digits, if it is one of four digits
+-- v is the number that the bytes of the word w make as digits
 abbrev pub WordMakes : ℕ → ℕ → Type 0
-WordMakes w v = (a b c d : ℕ) → Packed a b c d w → v < 0x10000 → FourDigits a b c d v
+WordMakes w v = (a b c d : ℕ) → Packed a b c d w → FourDigits a b c d v
 
 -- what digit k of ten counts for; 0 past them
 unfoldable pub weight : ℕ → ℕ
@@ -70,13 +74,6 @@ pub record DigitsEnd (s : List ℕ) (p e : ℕ) : Type 0 where
   pub all : (k : ℕ) → p ≤ k → k < e → value (get_or s k 0) < 16
   pub stop : e < length s → 16 ≤ value (get_or s e 0)
 
--- t is ten places after p, or the end of a text of n bytes
-pub record Tenth (n p t : ℕ) : Type 0 where
-  pub from : p ≤ t
-  pub to : t ≤ n
-  pub near : t ≤ p + 10
-  pub full : t < n → t ≡ p + 10
-
 pub record DigitsFrom (s : List ℕ) (p : ℕ) (d : Digits) : Type 0 where
   pub from : p ≤ d.end
   pub to : d.end ≤ length s
@@ -87,19 +84,16 @@ pub record DigitsFrom (s : List ℕ) (p : ℕ) (d : Digits) : Type 0 where
 
 -- the digits up to end are an opcode's and those of two operands, 0 where there is none
 pub record Joined (end opcode a b : ℕ) (d : Digits) : Type 0 where
-  pub opcode-is : opcode < 0x10000
-  pub first-is : a < 0x10000
-  pub second_is : b < 0x10000
   pub ends : d.end ≡ end
   pub makes : d.number ≡ opcode * 0x100000000 + a * 0x10000 + b
 
 -- what a line of n digits that make the number comes to
-abbrev pub reading_by : Bool → ℕ → ℕ → Reading
-reading_by list n number =
-    pick (ltb n 2) Malformed
+abbrev pub reading_by : TextKind → ℕ → ℕ → Reading
+reading_by k n number =
+    pick (ltb n 2) None
     (pick (eqb ((n - 2) % 4) 0)
-    (read_as (shape_of list (number / 0x100000000)) (number / 0x100000000) ((n - 2) / 4) (number / 0x10000 % 0x10000) (number % 0x10000))
-    Malformed)
+    (read_as (shape_of k (number / 0x100000000)) (number / 0x100000000) ((n - 2) / 4) (number / 0x10000 % 0x10000) (number % 0x10000))
+    None)
 
 abbrev pub ended : List ℕ → Split
 ended t = record { text = t; ended = true }
@@ -136,11 +130,11 @@ code_of (drop_need n) = frame 0x25 n 0
 
 -- the rules' frame of a record
 unfoldable pub frame_of : Frame → Option rules.Frame
-frame_of f = rowed frame_table (record { opcode = f.opcode; operands = take (shape_of false f.opcode - 1) (f.a ∷ f.b ∷ []) })
+frame_of f = rowed frame_table (record { opcode = f.opcode; operands = take (shape_of kind.Script f.opcode - 1) (f.a ∷ f.b ∷ []) })
 
 abbrev pub framed : Option rules.Frame → Reading
-framed none = Malformed
-framed (some f) = One (code_of f)
+framed none = None
+framed (some f) = Some (code_of f)
 
 unfoldable pub frame_reading : Split → Reading
 frame_reading l = framed (line_of frame_table l)
@@ -148,31 +142,25 @@ frame_reading l = framed (line_of frame_table l)
 -- ---- lists
 
 abbrev pub lined : Option Line → Reading
-lined none = Malformed
-lined (some l) = One (frame (opcode_of l) (get_or (operands_of l) 0 0) (get_or (operands_of l) 1 0))
+lined none = None
+lined (some l) = Some (frame (opcode_of l) (get_or (operands_of l) 0 0) (get_or (operands_of l) 1 0))
 
 abbrev pub sized_or : Option ℕ → Reading → Reading
 sized_or none other = other
-sized_or (some n) other = One (frame 0x90 n 0)
+sized_or (some n) other = Some (frame 0x90 n 0)
 
 unfoldable pub line_reading : Split → Reading
 line_reading l = sized_or (line_of size_table l) (lined (line_of line_table l))
 
-abbrev pub reading_of : Bool → Split → Reading
-reading_of false = frame_reading
-reading_of true = line_reading
+abbrev pub reading_of : TextKind → Split → Reading
+reading_of kind.Script = frame_reading
+reading_of kind.List = line_reading
 
 -- ---- a line as one number
 
 -- its opcode, then its two operands
 abbrev pub unpacked : ℕ → Frame
 unpacked code = frame (code / 0x100000000 % 0x100) (code / 0x10000 % 0x10000) (code % 0x10000)
-
-abbrev pub decoded : ℕ → Reading
-decoded code = pick (ltb code 0x10000000000) (One (unpacked code)) Malformed
-
-abbrev pub taken_of : Coded → TakenLine
-taken_of r = record { reading = decoded r.code; next = r.next }
 
 -- ---- a line that was taken at p, by the reading f, and where the next begins
 
@@ -182,7 +170,7 @@ width l = elim l.ended [ true ↦ length l.text + 1 | false ↦ length l.text ]
 pub record Took (f : Split → Reading) (s : List ℕ) (p : ℕ) (r : TakenLine) : Type 0 where
   pub line : Split
   pub here : split (drop p s) ≡ line ∷ split (drop r.next s)
-  pub as_read : r.reading ≡ f line
+  pub as_read : r.frame ≡ f line
   pub place : r.next ≡ p + width line
   pub forward : p < r.next
   pub within : r.next ≤ length s

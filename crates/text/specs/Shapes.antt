@@ -1,8 +1,8 @@
 -- The table of opcodes: the shape of each opcode's operands in scripts and in lists. Assumes nothing.
-use Rattle.std.specs.Prelude.{Bool, true, false, List, [], ◌∷◌, ℕ, ◌+◌, ◌-◌, eqb}
+use Rattle.std.specs.Prelude.{Bool, true, false, List, [], ◌∷◌, ℕ, ◌+◌, ◌-◌, eqb, Option, Some, None}
 use Rattle.text.specs.declared.lines.Frame.{Frame}
-use Rattle.text.specs.declared.lines.Reading.{Reading}
-use Rattle.text.specs.declared.lines.Reading.TheVariants.{Malformed, One}
+use Rattle.text.specs.declared.lines.TextKind.{TextKind}
+use Rattle.text.specs.declared.lines.TextKind.TheVariants as kind
 
 abbrev pub pick : {A : Type 0} → Bool → A → A → A
 pick true a b = a
@@ -19,13 +19,13 @@ pub record Shaped : Type 0 where
 abbrev shaped : ℕ → ℕ → ℕ → Shaped
 shaped o s l = record { opcode = o; script = s; list = l }
 
-abbrev pub column : Bool → Shaped → ℕ
-column false w = w.script
-column true w = w.list
+abbrev pub column : TextKind → Shaped → ℕ
+column kind.Script w = w.script
+column kind.List w = w.list
 
-abbrev pub shape_in : Bool → List Shaped → ℕ → ℕ
-shape_in list [] o = 0
-shape_in list (w ∷ ws) o = elim (eqb w.opcode o) [ true ↦ column list w | false ↦ shape_in list ws o ]
+abbrev pub shape_in : TextKind → List Shaped → ℕ → ℕ
+shape_in k [] o = 0
+shape_in k (w ∷ ws) o = elim (eqb w.opcode o) [ true ↦ column k w | false ↦ shape_in k ws o ]
 
 unfoldable pub frame_shapes : List Shaped
 frame_shapes =
@@ -64,23 +64,25 @@ abbrev pub shapes : List Shaped
 shapes = size_shape ∷ frame_shapes
 
 -- the shape of an opcode, in a list or in a script
-unfoldable pub shape_of : Bool → ℕ → ℕ
-shape_of list o = shape_in list shapes o
+unfoldable pub shape_of : TextKind → ℕ → ℕ
+shape_of k o = shape_in k shapes o
 
 -- the code's row of the opcodes with this first digit: a digit for each, the last for the first
-unfoldable pub row_of : Bool → ℕ → ℕ
-row_of list h =
-    pick (eqb h 1) 0x20223
-    (pick list (pick (eqb h 0) 0x4111221222111120 (pick (eqb h 2) 0x122222 (pick (eqb h 9) 0x2 0)))
-    (pick (eqb h 0) 0x1222223221122210 (pick (eqb h 2) 0x222122 0)))
+unfoldable pub row_of : TextKind → ℕ → ℕ
+row_of kind.Script h = pick (eqb h 0) 0x1222223221122210 (pick (eqb h 1) 0x20223 (pick (eqb h 2) 0x222122 0))
+row_of kind.List h = pick (eqb h 0) 0x4111221222111120 (pick (eqb h 1) 0x20223 (pick (eqb h 2) 0x122222 (pick (eqb h 9) 0x2 0)))
 
 -- ---- what a line comes to, of its opcode, how many operands it has and the first two
 
 abbrev pub frame : ℕ → ℕ → ℕ → Frame
 frame o a b = record { opcode = o; a = a; b = b }
 
+-- what a line comes to: the frame that it is, or none where it is malformed
+abbrev pub Reading : Type 0
+Reading = Option Frame
+
 abbrev pub fit : ℕ → ℕ → ℕ → Bool
 fit d k a = pick (eqb d 4) (eqb k (a + 1)) (pick (eqb d 0) false (eqb k (d - 1)))
 
 abbrev pub read_as : ℕ → ℕ → ℕ → ℕ → ℕ → Reading
-read_as d o k a b = pick (fit d k a) (One (frame o a b)) Malformed
+read_as d o k a b = pick (fit d k a) (Some (frame o a b)) None

@@ -1,42 +1,33 @@
 // A line of a script or of a list: an opcode of two digits, then operands of four. Rows of digits say which operands an opcode
 // has in each of the two.
-ghost use Rattle.std.specs.Prelude.{◌≡◌, ◌+◌, ◌≤◌, ◌<◌, length};
-ghost use Rattle.text.specs.Lines.{Ends, NextLine, DigitsEnd, Tenth, DigitsFrom, Joined, decoded, taken_of, reading_by, reading_of, frame_reading, line_reading, Took};
+ghost use Rattle.std.specs.Prelude.{◌≡◌, ◌+◌, ◌≤◌, ◌<◌, IfSome, length};
+ghost use Rattle.text.specs.Lines.{Ends, NextLine, DigitsEnd, DigitsFrom, Joined, reading_by, reading_of, frame_reading, line_reading, Took};
 ghost use Rattle.text.specs.Shapes.{row_of, shape_of, fit};
 
-use crate::digits::{NO_NUMBER, four_digits, is_other, value_of, word_of};
+use crate::digits::{digit_value, four_digits, word_of};
 use crate::table::unpack;
 
-// A frame, or a line of a list: its opcode and its first two operands, 0 where it has fewer.
+// The two kinds of text: an opcode has other operands in a script than in a list.
 #[derive(Clone, Copy)]
+pub enum TextKind {
+    Script,
+    List,
+}
+
+// A frame, or a line of a list: its opcode and its first two operands, 0 where it has fewer.
+#[derive(Clone, Copy, Debug, PartialEq, Eq)]
 pub struct Frame {
     pub opcode: u8,
     pub a: u16,
     pub b: u16,
 }
 
-#[derive(Clone, Copy)]
-pub enum Reading {
-    Malformed,
-    One(Frame),
-}
-
-// What was read, and where the next line begins.
+// The frame of a line, none where it is malformed; and where the next line begins.
 #[derive(Clone, Copy)]
 pub struct TakenLine {
-    pub reading: Reading,
+    pub frame: Option<Frame>,
     pub next: usize,
 }
-
-// The same, as one number: the opcode, then the two operands; NONE where the line is malformed.
-#[derive(Clone, Copy)]
-pub struct Coded {
-    pub code: u64,
-    pub next: usize,
-}
-
-// No line's number is so large.
-pub const NONE: u64 = 0x100_0000_0000;
 
 // The digits from a place on: where they end, and the number that the first ten make, with zeros after them where there are fewer.
 #[derive(Clone, Copy)]
@@ -50,14 +41,12 @@ fn line_end(s: &[u8], p: usize) -> usize
     requires { p ≤ length s.now }
     ensures { Ends s.now p result }
 {
-    let mut e = p;
-    while e < s.len() {
-        if s[e] == 10 {
+    for e in p..s.len() {
+        if s[e] == b'\n' {
             return e;
         }
-        e += 1;
     }
-    e
+    s.len()
 }
 
 // Where the digits from a place on end.
@@ -65,67 +54,46 @@ fn digits_end(s: &[u8], from: usize) -> usize
     requires { from ≤ length s.now }
     ensures { DigitsEnd s.now from result }
 {
-    let mut e = from;
-    while e < s.len() {
-        if is_other(s[e]) {
+    for e in from..s.len() {
+        if digit_value(s[e]).is_none() {
             return e;
         }
-        e += 1;
     }
-    e
+    s.len()
 }
 
-// Ten places after p, or the end of a text of n bytes.
-fn tenth(n: usize, p: usize) -> usize
-    requires { p ≤ n }
-    ensures { Tenth n p result }
+// The digits up to end, of an opcode and two operands.
+fn joined(end: usize, opcode: u16, a: u16, b: u16) -> Digits
+    ensures { Joined end opcode a b result }
 {
-    if n - p < 10 {
-        return n;
+    Digits {
+        end,
+        number: u64::from(opcode) * 0x1_0000_0000 + u64::from(a) * 0x1_0000 + u64::from(b),
     }
-    p + 10
 }
 
-// The digits up to end, of an opcode and two operands, if each of these is a number.
-fn together(end: usize, opcode: u64, a: u64, b: u64) -> Digits
-    ensures { result.number < 0x10000000000 → Joined end opcode a b result }
-{
-    if opcode < NO_NUMBER {
-        if a < NO_NUMBER {
-            if b < NO_NUMBER {
-                let number = opcode * 0x1_0000_0000 + a * 0x1_0000 + b;
-                return Digits { end, number };
-            }
-        }
-    }
-    Digits { end, number: NONE }
-}
-
-// The digits of a whole line with none, one or two operands, or NONE. The bytes are read four at a time, and the LF is looked for in what was
-// read, so that each word is one load.
-fn digits_at_once(s: &[u8], p: usize) -> Digits
+// The digits of a whole line with none, one or two operands. The bytes are read four at a time, and the LF is looked for in what was read, so
+// that each word is one load.
+fn digits_at_once(s: &[u8], p: usize) -> Option<Digits>
     requires { p + 11 ≤ length s.now }
-    ensures { result.number < 0x10000000000 → DigitsFrom s.now p result }
+    ensures { IfSome result (λ d. DigitsFrom s.now p d) }
 {
     let front = word_of(s[p], s[p + 1], s[p + 2], s[p + 3]);
-    let opcode = four_digits(front % 0x1_0000 * 0x1_0000 + 0x3030);
+    let opcode = four_digits(front % 0x1_0000 * 0x1_0000 + 0x3030)?;
     if front / 0x1_0000 % 0x100 == 10 {
-        return together(p + 2, opcode, 0, 0);
+        return Some(joined(p + 2, opcode, 0, 0));
     }
     let back = word_of(s[p + 4], s[p + 5], s[p + 6], s[p + 7]);
-    let a = four_digits(front / 0x1_0000 + back % 0x1_0000 * 0x1_0000);
+    let a = four_digits(front / 0x1_0000 + back % 0x1_0000 * 0x1_0000)?;
     if back / 0x1_0000 % 0x100 == 10 {
-        return together(p + 6, opcode, a, 0);
+        return Some(joined(p + 6, opcode, a, 0));
     }
     let last = word_of(s[p + 8], s[p + 9], s[p + 10], 0);
-    let b = four_digits(back / 0x1_0000 + last % 0x1_0000 * 0x1_0000);
+    let b = four_digits(back / 0x1_0000 + last % 0x1_0000 * 0x1_0000)?;
     if last / 0x1_0000 == 10 {
-        return together(p + 10, opcode, a, b);
+        return Some(joined(p + 10, opcode, a, b));
     }
-    Digits {
-        end: p,
-        number: NONE,
-    }
+    None
 }
 
 // The digits from p on, in one walk: a line's LF stands where they end. Past the tenth they are only passed over.
@@ -133,25 +101,20 @@ pub fn digits_one_by_one(s: &[u8], p: usize) -> Digits
     requires { p ≤ length s.now }
     ensures { DigitsFrom s.now p result }
 {
-    let stop = tenth(s.len(), p);
-    let mut e = p;
+    let stop = p + (s.len() - p).min(10);
     let mut number: u64 = 0;
-    while e < stop {
-        let c = s[e];
-        if is_other(c) {
-            let left = 40 - 4 * ((e - p) as u64);
+    for e in p..stop {
+        let Some(v) = digit_value(s[e]) else {
             return Digits {
                 end: e,
-                number: number << left,
+                number: number << (40 - 4 * (e - p)),
             };
-        }
-        number = number * 16 + value_of(c);
-        e += 1;
+        };
+        number = number * 16 + u64::from(v);
     }
-    let left = 40 - 4 * ((e - p) as u64);
     Digits {
-        end: digits_end(s, e),
-        number: number << left,
+        end: digits_end(s, stop),
+        number: number << (40 - 4 * (stop - p)),
     }
 }
 
@@ -161,8 +124,7 @@ fn digits_from(s: &[u8], p: usize) -> Digits
     ensures { DigitsFrom s.now p result }
 {
     if 11 <= s.len() - p {
-        let d = digits_at_once(s, p);
-        if d.number < NONE {
+        if let Some(d) = digits_at_once(s, p) {
             return d;
         }
     }
@@ -184,72 +146,58 @@ const LIST_2: u64 = 0x12_2222;
 const LIST_9: u64 = 0x2; // 90 the size
 
 // The row of the opcodes with this first digit.
-fn row_of(high: u8, list: bool) -> u64
-    ensures { result ≡ row_of list high }
+#[tactic(auto, unfolding(crate::specs::Shapes::row_of))]
+fn row_of(high: u8, kind: TextKind) -> u64
+    ensures { result ≡ row_of kind high }
 {
-    if high == 1 {
-        return BOTH_1;
+    match kind {
+        TextKind::Script => match high {
+            0 => SCRIPT_0,
+            1 => BOTH_1,
+            2 => SCRIPT_2,
+            _ => 0,
+        },
+        TextKind::List => match high {
+            0 => LIST_0,
+            1 => BOTH_1,
+            2 => LIST_2,
+            9 => LIST_9,
+            _ => 0,
+        },
     }
-    if list {
-        if high == 0 {
-            return LIST_0;
-        }
-        if high == 2 {
-            return LIST_2;
-        }
-        if high == 9 {
-            return LIST_9;
-        }
-        return 0;
-    }
-    if high == 0 {
-        return SCRIPT_0;
-    }
-    if high == 2 {
-        return SCRIPT_2;
-    }
-    0
 }
 
-fn shape_of(opcode: u8, list: bool) -> u8
-    ensures { result ≡ shape_of list opcode }
+fn shape_of(opcode: u8, kind: TextKind) -> u8
+    ensures { result ≡ shape_of kind opcode }
 {
-    let row = row_of(opcode / 16, list);
-    let place = 4 * ((opcode % 16) as u64);
-    ((row >> place) % 16) as u8
+    let row = row_of(opcode / 16, kind);
+    ((row >> (4 * (opcode % 16))) % 16) as u8
 }
 
 // Whether a line of so many operands, a the first, has the shape.
 fn fits(shape: u8, count: usize, a: u16) -> bool
     ensures { result ≡ fit shape count a }
 {
-    if shape == 4 {
-        return count == (a as usize) + 1;
+    match shape {
+        0 => false,
+        4 => count == usize::from(a) + 1,
+        n => count == usize::from(n - 1),
     }
-    if shape == 0 {
-        return false;
-    }
-    count == ((shape - 1) as usize)
 }
 
-// The line of n digits whose number it is.
-fn code_of(number: u64, n: usize, list: bool) -> u64
+// The frame of a line of n digits whose number it is.
+fn frame_by(number: u64, n: usize, kind: TextKind) -> Option<Frame>
     requires { number < 0x10000000000 }
-    ensures { decoded result ≡ reading_by list n number }
+    ensures { result ≡ reading_by kind n number }
 {
-    if n < 2 {
-        return NONE;
+    if n < 2 || (n - 2) % 4 != 0 {
+        return None;
     }
-    let m = n - 2;
-    if m % 4 != 0 {
-        return NONE;
+    let frame = unpack(number);
+    if fits(shape_of(frame.opcode, kind), (n - 2) / 4, frame.a) {
+        return Some(frame);
     }
-    let opcode = (number / 0x1_0000_0000) as u8;
-    let a = (number / 0x1_0000 % 0x1_0000) as u16;
-    if fits(shape_of(opcode, list), m / 4, a) {
-        return number;
-    }
-    NONE
+    None
 }
 
 // Where the line after the one that holds e begins.
@@ -258,42 +206,24 @@ fn next_line(s: &[u8], e: usize) -> usize
     ensures { NextLine s.now e result }
 {
     let q = line_end(s, e);
-    if q == s.len() {
-        return q;
-    }
-    q + 1
+    if q == s.len() { q } else { q + 1 }
 }
 
 // The line at p. One that holds another byte than digits, or that no LF ends, is malformed.
-fn line_at(s: &[u8], p: usize, list: bool) -> Coded
+fn line_at(s: &[u8], p: usize, kind: TextKind) -> TakenLine
     requires { p < length s.now }
-    ensures { Took (reading_of list) s.now p (taken_of result) }
+    ensures { Took (reading_of kind) s.now p result }
 {
     let d = digits_from(s, p);
     let e = d.end;
-    let number = d.number;
-    if e == s.len() {
-        return Coded {
-            code: NONE,
-            next: e,
-        };
+    if e < s.len() && s[e] == b'\n' {
+        let frame = frame_by(d.number, e - p, kind);
+        return TakenLine { frame, next: e + 1 };
     }
-    if s[e] == 10 {
-        let code = code_of(number, e - p, list);
-        let next = e + 1;
-        return Coded { code, next };
+    TakenLine {
+        frame: None,
+        next: next_line(s, e),
     }
-    let next = next_line(s, e);
-    Coded { code: NONE, next }
-}
-
-fn reading_of(code: u64) -> Reading
-    ensures { result ≡ decoded code }
-{
-    if code < NONE {
-        return Reading::One(unpack(code));
-    }
-    Reading::Malformed
 }
 
 // The line of a script at p.
@@ -301,16 +231,13 @@ pub fn frame_at(s: &[u8], p: usize) -> TakenLine
     requires { p < length s.now }
     ensures { Took frame_reading s.now p result }
 {
-    let t = line_at(s, p, false);
-    let next = t.next;
-    let reading = reading_of(t.code);
-    TakenLine { reading, next }
+    line_at(s, p, TextKind::Script)
 }
 
 // The line of a list at p; the size line is one too, with opcode 90.
-pub fn list_line_at(s: &[u8], p: usize) -> Coded
+pub fn list_line_at(s: &[u8], p: usize) -> TakenLine
     requires { p < length s.now }
-    ensures { Took line_reading s.now p (taken_of result) }
+    ensures { Took line_reading s.now p result }
 {
-    line_at(s, p, true)
+    line_at(s, p, TextKind::List)
 }

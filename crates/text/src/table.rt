@@ -7,7 +7,7 @@ use crate::lines::Frame;
 pub fn pack(f: Frame) -> u64
     ensures { unpacked result ≡ f }
 {
-    (f.opcode as u64) * 0x1_0000_0000 + (f.a as u64) * 0x1_0000 + (f.b as u64)
+    u64::from(f.opcode) * 0x1_0000_0000 + u64::from(f.a) * 0x1_0000 + u64::from(f.b)
 }
 
 pub fn unpack(code: u64) -> Frame

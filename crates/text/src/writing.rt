@@ -1,5 +1,5 @@
 // Lines at a position of lent memory. Each function answers the next position.
-ghost use Rattle.std.specs.Prelude.{◌≡◌, List, [], ◌∷◌, ◌++◌, ℕ, ◌+◌, ◌*◌, ◌≤◌, ◌<◌, length, take};
+ghost use Rattle.std.specs.Prelude.{◌≡◌, List, [], ◌∷◌, ◌++◌, ℕ, ◌+◌, ◌*◌, ◌≤◌, ◌<◌, length};
 ghost use Rattle.rules.specs.Frames.{shows};
 ghost use Rattle.rules.specs.Text.{hex2, hex4, hexes, line_text};
 ghost use Rattle.rules.specs.Entries.{ee_text, malformed_text};
@@ -12,10 +12,9 @@ pub fn put_byte(out: &mut [u8], w: usize, n: u8) -> usize
     ensures value { result ≡ w + 2 }
     ensures out_after { out.new ≡ over out.old w (hex2 n) }
 {
-    let w1 = w + 1;
     out[w] = digit_of(n / 16);
-    out[w1] = digit_of(n % 16);
-    w1 + 1
+    out[w + 1] = digit_of(n % 16);
+    w + 2
 }
 
 pub fn put_word(out: &mut [u8], w: usize, n: u16) -> usize
@@ -23,16 +22,9 @@ pub fn put_word(out: &mut [u8], w: usize, n: u16) -> usize
     ensures value { result ≡ w + 4 }
     ensures out_after { out.new ≡ over out.old w (hex4 n) }
 {
-    let high = (n / 256) as u8;
-    let low = (n % 256) as u8;
-    let w1 = w + 1;
-    let w2 = w1 + 1;
-    let w3 = w2 + 1;
-    out[w] = digit_of(high / 16);
-    out[w1] = digit_of(high % 16);
-    out[w2] = digit_of(low / 16);
-    out[w3] = digit_of(low % 16);
-    w3 + 1
+    let [high, low] = n.to_be_bytes();
+    let v = put_byte(out, w, high);
+    put_byte(out, v, low)
 }
 
 pub fn put_end(out: &mut [u8], w: usize) -> usize
@@ -44,48 +36,39 @@ pub fn put_end(out: &mut [u8], w: usize) -> usize
     w + 1
 }
 
-// A line of at most two operands: the opcode, the first n operands, LF.
-pub fn put_line(out: &mut [u8], w: usize, opcode: u8, n: usize, a: u16, b: u16) -> usize
-    requires { (n ≤ 2) × (w + 3 + 4 * n ≤ length out.old) }
-    ensures value { result ≡ w + 3 + 4 * n }
-    ensures out_after { out.new ≡ over out.old w (line_text (shows opcode (take n (a ∷ b ∷ [])))) }
+// Operands, one behind the other.
+pub fn put_words(out: &mut [u8], w: usize, ws: &[u16]) -> usize
+    requires { w + 4 * length ws.now ≤ length out.old }
+    ensures value { result ≡ w + 4 * length ws.now }
+    ensures out_after { out.new ≡ over out.old w (hexes ws.now) }
 {
-    let w1 = put_byte(out, w, opcode);
-    if n == 0 {
-        return put_end(out, w1);
-    }
-    let w2 = put_word(out, w1, a);
-    if n == 1 {
-        return put_end(out, w2);
-    }
-    let w3 = put_word(out, w2, b);
-    put_end(out, w3)
-}
-
-// The first n of ws as operands.
-pub fn put_words(out: &mut [u8], w: usize, ws: &[u16], n: usize) -> usize
-    requires { (n ≤ length ws.now) × (w + 4 * n ≤ length out.old) }
-    ensures value { result ≡ w + 4 * n }
-    ensures out_after { out.new ≡ over out.old w (hexes (take n ws.now)) }
-{
-    let mut i: usize = 0;
     let mut v = w;
-    while i < n {
-        v = put_word(out, v, ws[i]);
-        i += 1;
+    for n in ws {
+        v = put_word(out, v, *n);
     }
     v
 }
 
+// A line: the opcode, the operands, LF.
+pub fn put_line(out: &mut [u8], w: usize, opcode: u8, operands: &[u16]) -> usize
+    requires { w + 3 + 4 * length operands.now ≤ length out.old }
+    ensures value { result ≡ w + 3 + 4 * length operands.now }
+    ensures out_after { out.new ≡ over out.old w (line_text (shows opcode operands.now)) }
+{
+    let w1 = put_byte(out, w, opcode);
+    let w2 = put_words(out, w1, operands);
+    put_end(out, w2)
+}
+
 // The line of a drain: 0f, the count, the addresses, LF.
-pub fn put_drain(out: &mut [u8], w: usize, ws: &[u16], n: u16) -> usize
-    requires { (n ≤ length ws.now) × (w + 7 + 4 * n ≤ length out.old) }
-    ensures value { result ≡ w + 7 + 4 * n }
-    ensures out_after { out.new ≡ over out.old w (line_text (shows 0x0f (n ∷ take n ws.now))) }
+pub fn put_drain(out: &mut [u8], w: usize, ws: &[u16]) -> usize
+    requires { (length ws.now < 65536) × (w + 7 + 4 * length ws.now ≤ length out.old) }
+    ensures value { result ≡ w + 7 + 4 * length ws.now }
+    ensures out_after { out.new ≡ over out.old w (line_text (shows 0x0f (length ws.now ∷ ws.now))) }
 {
     let w1 = put_byte(out, w, 0x0f);
-    let w2 = put_word(out, w1, n);
-    let w3 = put_words(out, w2, ws, n as usize);
+    let w2 = put_word(out, w1, ws.len() as u16);
+    let w3 = put_words(out, w2, ws);
     put_end(out, w3)
 }
 
@@ -95,7 +78,7 @@ pub fn put_size(out: &mut [u8], w: usize, size: u16) -> usize
     ensures value { result ≡ w + 7 }
     ensures out_after { out.new ≡ over out.old w (line_text (shows 0x90 (size ∷ []))) }
 {
-    put_line(out, w, 0x90, 1, size, 0)
+    put_line(out, w, 0x90, &[size])
 }
 
 // The line of a refusal: ee, the number in two digits, the line in four, LF.
@@ -117,5 +100,5 @@ pub fn put_malformed(out: &mut [u8], w: usize, line: u32) -> usize
     ensures out_after { out.new ≡ over out.old w (malformed_text line) }
 {
     let w1 = put_byte(out, w, 0xee);
-    put_line(out, w1, 24, 2, (line / 65536) as u16, (line % 65536) as u16)
+    put_line(out, w1, 24, &[(line / 65536) as u16, (line % 65536) as u16])
 }

@@ -1,22 +1,19 @@
 -- `digit_value` meets its contract. Assumes nothing.
-use mathlib.Core.Path.{sym, ◌∙◌}
-use Prim.Native.Nat.{◌<◌}
 use native.Mathlib.Omega.{arith}
-use borrow.Author.Tests.{leb-true, leb-false}
-use Rattle.rules.specs.Text.{value}
-use Rattle.text.proofs.Values.{value_none}
+use Rattle.text.proofs.Values.{value_low, value-digit, value_mid, value-letter, value-high, some-digit, no_digit}
 use Rattle.text.proofs.digits.digit_value.Goals as goal
 
-pub returns-then-is_other : goal.returns-then-is_other
-returns-then-is_other c = sym (value_none _ (leb-true _ _ (sym c.is_other.ensures ∙ c.if-is_other.true)))
+pub returns-in-48-to-57 : goal.returns-in-48-to-57
+returns-in-48-to-57 c = some-digit _ _ (value-digit _ (omega arith) (omega arith)) (omega arith)
 
-pub value_of-requires : goal.value_of-requires
-value_of-requires c = leb-false _ _ (sym c.is_other.ensures ∙ c.if-is_other.false)
+pub returns-in-97-to-102 : goal.returns-in-97-to-102
+returns-in-97-to-102 c = let e = value-letter c.args.c (omega arith) (omega arith) in some-digit _ _ (omega (arith, e)) (omega arith)
 
-pub overflow_cast-result : goal.overflow_cast-result
-overflow_cast-result c =
-    let v : value c.args.c < 16 = leb-false _ _ (sym c.is_other.ensures ∙ c.if-is_other.false) in
-    omega (arith, v, c.value_of.ensures)
+pub returns-in_default : goal.returns-in_default
+returns-in_default c = no_digit _ (value_low _ (omega arith))
 
-pub returns : goal.returns
-returns c = c.value_of.ensures
+pub returns-in_default-2 : goal.returns-in_default-2
+returns-in_default-2 c = no_digit _ (value_mid _ (omega arith) (omega arith))
+
+pub returns-in_default-3 : goal.returns-in_default-3
+returns-in_default-3 c = no_digit _ (value-high _ (omega arith))

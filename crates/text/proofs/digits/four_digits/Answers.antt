@@ -29,10 +29,5 @@ overflow_mul-pairs c = omega (arith, values-in (mixed c.args.bytes))
 pub overflow_add-pairs : goal.overflow_add-pairs
 overflow_add-pairs c = omega (arith, values-in (mixed c.args.bytes))
 
-pub returns-then-values-letters : goal.returns-then-values-letters
-returns-then-values-letters c =
-    let s = c.args in
-    λ a b x d p h. digits_of (mixed s.bytes) s.bytes a b x d p c.if-values-letters.true
-
 pub returns : goal.returns
-returns c = λ a b x d p h. absurd (omega (arith, h))
+returns c = λ a b x d p. digits_of (mixed c.args.bytes) c.args.bytes a b x d p c.if-values-letters.false

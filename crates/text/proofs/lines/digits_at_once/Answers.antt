@@ -4,15 +4,12 @@ use Rattle.text.proofs.lines.digits_at_once.Goals as goal
 
 pub returns-then-front-eq10 : goal.returns-then-front-eq10
 returns-then-front-eq10 c =
-    λ h.
-    two_digits c.args.s.now c.args.p c.requires c.together.result h _ c.word_of-front.ensures _ c.four_digits-opcode.ensures (c.together.ensures h) c.if-front-eq10.true
+    two_digits c.args.s.now c.args.p c.requires _ c.word_of-front.ensures _ c.in_ok-opcode.ensures _ c.joined.ensures c.if-front-eq10.true
 
 pub returns-then-back-eq10 : goal.returns-then-back-eq10
 returns-then-back-eq10 c =
-    λ h.
-    six-digits c.args.s.now c.args.p c.requires c.together-then-back-eq10.result h _ c.word_of-front.ensures _ c.four_digits-opcode.ensures _ c.word_of-back.ensures _ c.four_digits-a.ensures (c.together-then-back-eq10.ensures h) c.if-back-eq10.true
+    six-digits c.args.s.now c.args.p c.requires _ c.word_of-front.ensures _ c.in_ok-opcode.ensures _ c.word_of-back.ensures _ c.in_ok-a.ensures _ c.joined-then-back-eq10.ensures c.if-back-eq10.true
 
 pub returns-then-last-eq10 : goal.returns-then-last-eq10
 returns-then-last-eq10 c =
-    λ h.
-    ten-digits c.args.s.now c.args.p c.requires c.together-then-last-eq10.result h _ c.word_of-front.ensures _ c.four_digits-opcode.ensures _ c.word_of-back.ensures _ c.four_digits-a.ensures _ c.word_of-last.ensures _ c.four_digits-b.ensures (c.together-then-last-eq10.ensures h) c.if-last-eq10.true
+    ten-digits c.args.s.now c.args.p c.requires _ c.word_of-front.ensures _ c.in_ok-opcode.ensures _ c.word_of-back.ensures _ c.in_ok-a.ensures _ c.word_of-last.ensures _ c.in_ok-b.ensures _ c.joined-then-last-eq10.ensures c.if-last-eq10.true

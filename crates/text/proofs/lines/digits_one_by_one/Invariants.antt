@@ -5,7 +5,4 @@ use Rattle.text.proofs.Numbers.{Shifted}
 use Rattle.text.proofs.lines.digits_one_by_one.Given as goal
 
 abbrev pub invariant-loop-e : goal.invariant-loop-e
-invariant-loop-e l = (l.p ≤ l.e) × (l.e ≤ l.stop) × ((k : ℕ) → l.p ≤ k → k < l.e → value (get_or l.s k 0) < 16) × Shifted l.s l.p (l.e - l.p) l.number
-
-abbrev pub decreases-loop-e : goal.decreases-loop-e
-decreases-loop-e l = l.stop - l.e
+invariant-loop-e l = ((k : ℕ) → l.p ≤ k → k < l.e → value (get_or l.s k 0) < 16) × Shifted l.s l.p (l.e - l.p) l.number

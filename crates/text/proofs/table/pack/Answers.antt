@@ -1,7 +1,7 @@
 -- `pack` meets its contract. Assumes nothing.
-use Rattle.text.proofs.Tabling.{packs}
 use borrow.Author.Rules.{rules}
+use Rattle.text.proofs.Tabling.{packs}
 use Rattle.text.proofs.table.pack.Goals as goal
 
 pub returns : goal.returns
-returns c = packs c.args.f (search rules) (search rules) (search rules)
+returns c = let p = packs c.args.f (search rules) (search rules) (search rules) in cc

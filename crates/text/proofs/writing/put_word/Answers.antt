@@ -1,20 +1,15 @@
 -- `put_word` meets its contract. Assumes nothing.
+use mathlib.Core.Path.{◌≡◌, ap, ◌∙◌}
+use mathlib.Core.List.{List}
+use Prim.Native.Nat.{ℕ, ◌/◌, ◌%◌}
+use lib.ListN.{get_or}
 use native.Mathlib.Omega.{arith}
-use lib.ListN.{length-set}
-use Rattle.text.proofs.Over as writing
+use Rattle.text.proofs.Over.{word-put}
 use Rattle.text.proofs.writing.put_word.Goals as goal
 
-pub bounds-out-w1 : goal.bounds-out-w1
-bounds-out-w1 c = simp length-set (omega arith)
-
-pub bounds-out-w2 : goal.bounds-out-w2
-bounds-out-w2 c = simp length-set (omega arith)
-
-pub bounds-out-w3 : goal.bounds-out-w3
-bounds-out-w3 c = simp length-set (omega arith)
-
-pub returns : goal.returns
-returns c = record {
-  value = omega arith;
-  out_after = writing.word-put c.args.out.now c.args.w c.args.n _ _ _ _ (omega arith) c.requires c.digit_of.ensures c.digit_of-2.ensures c.digit_of-3.ensures c.digit_of-4.ensures;
-}
+pub returns-clause-out_after : goal.returns-clause-out_after
+returns-clause-out_after c =
+    let bytes = c.to_be_bytes.ensures in
+    let high : get_or c.to_be_bytes.result 0 0 ≡ c.args.n / 256 = ap (λ (l : List ℕ). get_or l 0 0) bytes ∙ omega arith in
+    let low : get_or c.to_be_bytes.result 1 0 ≡ c.args.n % 256 = ap (λ (l : List ℕ). get_or l 1 0) bytes in
+    word-put c.args.out.now _ _ c.args.w _ c.args.n _ _ (omega arith) (omega arith) c.put_byte-v.ensures.value high low c.put_byte-v.ensures.out_after c.put_byte.ensures.out_after
