@@ -3,3 +3,4 @@ pub mod WholeLines
 pub mod Limits
 pub mod Results
 pub mod ReadOn
+pub mod OneByte

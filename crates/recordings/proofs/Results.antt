@@ -2,25 +2,11 @@
 use mathlib.Core.Path.{◌≡◌, sym, ap, ◌∙◌}
 use mathlib.Core.Bool.{true, false}
 use mathlib.Core.List.{List}
-use Prim.Native.Nat.{ℕ, ◌+◌, ◌*◌, ◌/◌, ◌%◌, ◌≤◌, ◌<◌}
-use native.Mathlib.Omega.{arith}
-use lib.ListN.{length, set, length-set}
-use borrow.Author.Tests.{lt-ltb, le-ltb}
-use Rattle.rules.specs.Recordings.{Reader, kept_at, is_reader, reader_of, state_of, fed, kept}
+use Prim.Native.Nat.{ℕ}
+use Rattle.rules.specs.Recordings.{Reader, is_reader, reader_of, state_of, fed, kept}
 use Rattle.rules.specs.Entries.{refusal_answer, PartRead, read_entry}
 use Rattle.rules.proofs.Cuts.{entry-sound, entry-refused}
 use Rattle.recordings.specs.Reading.{LeavesSamples}
-
-pub still-in : (m : List ℕ) (i v j : ℕ) → j < length m → j < length (set m i v)
-still-in m i v j h = omega (arith, length-set m i v)
-
-pub kept_in : (m : List ℕ) (i v : ℕ) → i < length m / 2 → set (set m (2 * i) (v / 256)) (2 * i + 1) (v % 256) ≡ kept_at m i v
-unfolding kept_at
-kept_in m i v h = rw (lt-ltb i (length m / 2) h, kept_at)
-
-pub kept_out : (m : List ℕ) (i v : ℕ) → length m / 2 ≤ i → m ≡ kept_at m i v
-unfolding kept_at
-kept_out m i v h = rw (le-ltb i (length m / 2) h, kept_at)
 
 module _ (n : ℕ) (memory part : List ℕ) (r : Reader) (e : r ≡ reader_of n) where
   pub entry-good : is_reader r ≡ true → (f : Reader) → f ≡ fed r part → (a : ℕ) → a ≡ state_of f → (m : List ℕ) → m ≡ kept r part memory → LeavesSamples (read_entry n memory part) a m

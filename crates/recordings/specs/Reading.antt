@@ -1,6 +1,7 @@
 -- What the code's reader stands for, the promise of read_recording, and what a whole line, a run of them and a turn of the loop are. Assumes nothing.
-use Rattle.std.specs.Prelude.{◌≡◌, true, List, ℕ, ◌+◌, ◌-◌, ◌*◌, ◌≤◌, ◌<◌, length, get_or, drop}
-use Rattle.rules.specs.Recordings.{Reader, reader, is_reader, fed, kept}
+use Rattle.std.specs.Prelude.{◌≡◌, true, ◌&&◌, not, Option, Some, None, List, ℕ, ◌+◌, ◌-◌, ◌*◌, ◌≤◌, ◌<◌, length, get_or, drop, eqb}
+use Rattle.rules.specs.Recordings.{Reader, reader, is_reader, fits_at, digits, fed, kept}
+use Rattle.text.specs.Shapes.{pick}
 use Rattle.rules.specs.Entries.{PartRead}
 use Rattle.text.specs.Lines.{FourDigits}
 use Rattle.recordings.specs.declared.states.Reader as code
@@ -8,6 +9,10 @@ use Rattle.recordings.specs.declared.states.Reader as code
 -- the reader of the rules
 abbrev pub seen : code.Reader → Reader
 seen r = reader r.line r.column r.value
+
+-- the number that a line's digits make with the byte c in column k, if c may stand there and is no LF
+abbrev pub digits_with : ℕ → ℕ → ℕ → Option ℕ
+digits_with k v c = pick (fits_at k c && not (eqb k 6)) (Some (digits k v c)) None
 
 -- the promise: the answer and the lent samples at exit are these
 pub record LeavesSamples (l : PartRead) (answer : ℕ) (samples : List ℕ) : Type 0 where

@@ -1,86 +1,60 @@
 // One byte of a recording.
-ghost use Rattle.std.specs.Prelude.{◌≡◌, true, ◌<◌};
-ghost use Rattle.rules.specs.Recordings.{fits_at, fits, digits, read_byte, kept_at, kept_by, is_reader};
-ghost use Rattle.recordings.specs.Reading.{seen};
+ghost use Rattle.std.specs.Prelude.{◌≡◌, ◌<◌};
+ghost use Rattle.rules.specs.Recordings.{read_byte, kept_at, kept_by};
+ghost use Rattle.recordings.specs.Reading.{seen, digits_with};
 
 use crate::states::{LINES, Reader};
 use text::digits::digit_value;
 
-// Whether c may stand in the column: `30`, four digits, LF.
-fn fits_at(column: u64, c: u8) -> bool
-    ensures { result ≡ fits_at column c }
-{
-    if column == 0 {
-        return c == 51;
-    }
-    if column == 1 {
-        return c == 48;
-    }
-    if column == 6 {
-        return c == 10;
-    }
-    if column < 6 {
-        return digit_value(c) < 16;
-    }
-    false
-}
-
-fn fits_next(r: Reader, c: u8) -> bool
-    ensures { result ≡ fits (seen r) c }
-{
-    if r.line == LINES {
-        return false;
-    }
-    fits_at(r.column, c)
-}
-
-// The number that the digits make, with c in the column.
-fn digits_with(column: u64, value: u64, c: u8) -> u64
+// The number that a line's digits make with c in the column, if c may stand there: `30`, four digits. LF ends the line, and isn't asked about.
+#[tactic(auto, unfolding(rules::specs::Recordings::fits_at))]
+fn digits_with(column: u64, value: u64, c: u8) -> Option<u64>
     requires { value < 65536 }
-    ensures { result ≡ digits column value c }
+    ensures { result ≡ digits_with column value c }
 {
-    if column < 2 {
-        return 0;
+    match column {
+        0 => (c == b'3').then_some(0),
+        1 => (c == b'0').then_some(0),
+        2..=5 => digit_value(c).map(|d| value * 16 + u64::from(d)),
+        _ => None,
     }
-    value * 16 + (digit_value(c) as u64)
 }
 
 // A line's sample into lent memory, two bytes, high first, where there is room for it.
-pub fn keep(samples: &mut [u8], line: u64, value: u64)
-    requires { value < 65536 }
+#[tactic(auto, unfolding(rules::specs::Recordings::kept_at))]
+pub fn keep(samples: &mut [u8], line: u64, value: u16)
     ensures { samples.new ≡ kept_at samples.old line value }
 {
     let room = (samples.len() / 2) as u64;
     if line < room {
-        let high = 2 * (line as usize);
-        let low = high + 1;
-        samples[high] = (value / 256) as u8;
-        samples[low] = (value % 256) as u8;
+        let i = line as usize;
+        let [high, low] = value.to_be_bytes();
+        samples[2 * i] = high;
+        samples[2 * i + 1] = low;
     }
 }
 
 pub fn read_byte(r: Reader, samples: &mut [u8], c: u8) -> Reader
-    requires { is_reader (seen r) ≡ true }
     ensures next { seen result ≡ read_byte (seen r) c }
     ensures left { samples.new ≡ kept_by (seen r) c samples.old }
 {
     let line = r.line;
-    let column = r.column;
-    let value = r.value;
-    if fits_next(r, c) {
-        if column == 6 {
-            keep(samples, line, value);
+    if line < LINES {
+        if r.column == 6 && c == b'\n' {
+            keep(samples, line, r.value as u16);
             return Reader {
                 line: line + 1,
                 column: 0,
                 value: 0,
             };
         }
-        return Reader {
-            line,
-            column: column + 1,
-            value: digits_with(column, value, c),
-        };
+        if let Some(value) = digits_with(r.column, r.value, c) {
+            return Reader {
+                line,
+                column: r.column + 1,
+                value,
+            };
+        }
     }
     Reader {
         line,

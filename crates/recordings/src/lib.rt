@@ -1,13 +1,15 @@
 // Recordings, read in parts of any length: what is known between two parts is one number, and the samples are kept in lent memory, as
 // far as there is room.
+// Where `as` takes a number to another type, it fits, and the proof says so: `From` has no such step, and `try_from` would bring an error that can't be.
 #![tactic(auto)]
 
 ghost use Rattle.rules.specs.Entries.{read_entry};
 ghost use Rattle.recordings.specs.Reading.{LeavesSamples};
 
 use parts::read_part;
-use states::{closed, is_reader, opened};
-use text::refusal::refuse;
+use rules::Refusal;
+use states::Reader;
+use text::refusal::RefusedAt;
 
 pub mod states; // a reader, and the number that stands for it
 pub mod bytes; // one byte
@@ -21,10 +23,8 @@ pub mod parts; // the bytes of a part
 pub extern "C" fn read_recording(state: u64, samples: &mut [u8], part: &[u8]) -> u64
     ensures { LeavesSamples (read_entry state samples.old part.now) result samples.new }
 {
-    let r = opened(state);
-    if is_reader(r) {
-        let n = read_part(r, samples, part);
-        return closed(n);
+    match Reader::of_state(state) {
+        Some(reader) => read_part(reader, samples, part).closed(),
+        None => u64::from(RefusedAt::new(Refusal::NotSound, 0)),
     }
-    refuse(29, 0)
 }

@@ -1,21 +1,15 @@
 -- `read_recording` meets its contract. Assumes nothing.
-use mathlib.Core.Path.{sym, ◌∙◌}
+use mathlib.Core.Path.{refl, ap, ◌∙◌}
+use Rattle.text.specs.Refused.{answer_of}
 use Rattle.recordings.proofs.Results.{entry-good, entry-bad}
 use Rattle.recordings.proofs.read_recording.Goals as goal
 
-pub read_part-n-requires : goal.read_part-n-requires
-read_part-n-requires c = sym c.is_reader.ensures ∙ c.if-is_reader.true
-
-pub returns-then-is_reader : goal.returns-then-is_reader
-returns-then-is_reader c =
+pub returns-in-Some : goal.returns-in-Some
+returns-in-Some c =
     let s = c.args in
-    let o = c.opened-r.ensures in
-    let h = sym c.is_reader.ensures ∙ c.if-is_reader.true in
-    entry-good s.state s.samples.now s.part.now _ o h _ c.read_part-n.ensures.next _ c.closed.ensures _ c.read_part-n.ensures.left
+    entry-good s.state s.samples.now s.part.now _ c.in-Some.ensures c.in-Some.reader.left_by_bytes _ c.read_part.ensures.next _ c.closed.ensures _ c.read_part.ensures.left
 
-pub returns : goal.returns
-returns c =
+pub returns-in-None : goal.returns-in-None
+returns-in-None c =
     let s = c.args in
-    let o = c.opened-r.ensures in
-    let h = sym c.is_reader.ensures ∙ c.if-is_reader.false in
-    entry-bad s.state s.samples.now s.part.now _ o h _ c.refuse.ensures
+    entry-bad s.state s.samples.now s.part.now _ refl c.in-None.ensures _ (c.from.ensures ∙ ap answer_of c.new.ensures)
