@@ -10,22 +10,11 @@ use Rattle.rules.specs.Notation.{provided◌then◌else◌}
 use Rattle.rules.specs.Sizes.{base, TEXT}
 use Rattle.rules.specs.Entries.{ee_text, unless_longer, REFUSAL}
 use Rattle.rules.specs.Suppliers.{Verdict, verdict, verdict_answer, verdict_text, checker_prints}
+use Rattle.rules.specs.Refusals.{number_of}
+use Rattle.text.specs.Refused.{answer_of}
+use Rattle.text.specs.declared.refusal.RefusedAt.{RefusedAt}
+use Rattle.text.proofs.Numbered.{numbered, number-half, line-half}
 use Rattle.supplier.proofs.Answers.{Comes, to_word, to-stop, comes, one-is-yes, zero-is-no}
-
--- ---- bytes at the start
-
-pub put4 : (out : List ℕ) (a b c d : ℕ) → 4 ≤ length out → set (set (set (set out 0 a) 1 b) 2 c) 3 d ≡ a ∷ b ∷ c ∷ d ∷ drop 4 out
-put4 [] a b c d h = absurd (omega arith)
-put4 (w ∷ []) a b c d h = absurd (omega arith)
-put4 (w ∷ x ∷ []) a b c d h = absurd (omega arith)
-put4 (w ∷ x ∷ y ∷ []) a b c d h = absurd (omega arith)
-put4 (w ∷ x ∷ y ∷ z ∷ out) a b c d h = refl
-
-pub put3 : (out : List ℕ) (a b c : ℕ) → 3 ≤ length out → set (set (set out 0 a) 1 b) 2 c ≡ a ∷ b ∷ c ∷ drop 3 out
-put3 [] a b c h = absurd (omega arith)
-put3 (w ∷ []) a b c h = absurd (omega arith)
-put3 (w ∷ x ∷ []) a b c h = absurd (omega arith)
-put3 (w ∷ x ∷ y ∷ out) a b c h = refl
 
 -- ---- the text
 
@@ -69,3 +58,14 @@ module _ (script list : List ℕ) where
 
     pub stopped : (r ≡ 1 → ⊥) → (r ≡ 0 → ⊥) → Stopped
     stopped one zero = stopped_by (verdict base script list) (comes script list) refl one zero
+
+  -- the same of a refusal with its line
+  module _ (k : length script ≤ TEXT) (h : length list ≤ TEXT) (e : RefusedAt) (line : e.line < 4294967296) (promised : answer_of e ≡ verdict_answer (verdict base script list)) where
+    halves : Stopped k h (answer_of e) promised
+    halves = let n = numbered e.refusal in stopped k h (answer_of e) promised (λ q. omega (arith, n, q)) (λ q. omega (arith, n, q))
+
+    pub line-fits : e.line ≤ 65535
+    line-fits = omega (arith, halves.line, line-half e line)
+
+    pub stopped-printed : ee_text (number_of e.refusal) e.line ≡ checker_prints base script list
+    stopped-printed = (λ u. ee_text (sym (number-half e line) u) (sym (line-half e line) u)) ∙ halves.text

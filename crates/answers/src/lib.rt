@@ -1,4 +1,5 @@
 // What each of the programs prints for its input, left at the start of a text buffer; the bytes past it stay.
+// Where `as` takes a number to another type, it fits, and the proof says so: `From` has no such step, and `try_from` would bring an error that can't be.
 #![tactic(auto)]
 
 ghost use Rattle.std.specs.Prelude.{◌+◌, ◌/◌, ◌%◌, ◌≤◌, length};
@@ -22,6 +23,7 @@ pub fn longer(out: &mut [u8; TEXT]) -> usize
 }
 
 // An answer of translate or run as it is printed: what it counts stands there already, the line of a refusal goes over the start.
+// These are functions of the C interface, which answer one number, so it is taken apart as a number.
 fn shown(answer: u64, out: &mut [u8; TEXT]) -> usize
     requires { Halved answer }
     ensures { Shown answer out.old result out.new }
@@ -62,10 +64,10 @@ fn put_left(out: &mut [u8; TEXT], written: usize, left: &[u8]) -> usize
 {
     let high = load(left, 0);
     let low = load(left, 1);
-    put_line(out, written, 0xa1, 2, high, low)
+    put_line(out, written, 0xa1, &[high, low])
 }
 
-// A refusal of run_recorded: 24 shows a line of the recording.
+// A refusal of run_recorded: 24 shows a line of the recording. It comes as one number, as the C interface has it.
 fn refused_beside(answer: u64, out: &mut [u8; TEXT]) -> usize
     requires { HalvedBeside answer }
     ensures { Prints (stopped_text (answer / REFUSAL) (answer % REFUSAL)) out.old result out.new }

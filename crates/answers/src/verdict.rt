@@ -1,34 +1,21 @@
 // What the checking program prints for a script and a list.
-ghost use Rattle.std.specs.Prelude.{[], ◌∷◌, ◌≤◌, length};
-ghost use Rattle.rules.specs.Sizes.{base};
+ghost use Rattle.std.specs.Prelude.{◌≤◌, length};
+ghost use Rattle.rules.specs.Sizes.{base, TEXT};
 ghost use Rattle.rules.specs.Suppliers.{checker_prints};
 ghost use Rattle.answers.specs.Prints.{Prints};
 
 use crate::longer;
 use rules::TEXT;
-use supplier::agrees;
-use text::refusal::REFUSAL;
+use supplier::judged;
 use text::writing::put_refusal;
 
-fn put_yes(out: &mut [u8]) -> usize
-    requires { 4 ≤ length out.old }
-    ensures { Prints (0x79 ∷ 0x65 ∷ 0x73 ∷ 10 ∷ []) out.old result out.new }
+// The word at the start.
+fn put(out: &mut [u8; TEXT], word: &[u8]) -> usize
+    requires { length word.now ≤ TEXT }
+    ensures { Prints word.now out.old result out.new }
 {
-    out[0] = 0x79;
-    out[1] = 0x65;
-    out[2] = 0x73;
-    out[3] = 10;
-    4
-}
-
-fn put_no(out: &mut [u8]) -> usize
-    requires { 3 ≤ length out.old }
-    ensures { Prints (0x6e ∷ 0x6f ∷ 10 ∷ []) out.old result out.new }
-{
-    out[0] = 0x6e;
-    out[1] = 0x6f;
-    out[2] = 10;
-    3
+    out[..word.len()].copy_from_slice(word);
+    word.len()
 }
 
 // `yes`, `no` or the line of a refusal; 17 where either text is longer than is read.
@@ -41,12 +28,9 @@ pub fn checked(script: &[u8], list: &[u8], out: &mut [u8; TEXT]) -> usize
     if list.len() > TEXT {
         return longer(out);
     }
-    let answer = agrees(script, list);
-    if answer == 1 {
-        return put_yes(out);
+    match judged(script, list) {
+        Ok(true) => put(out, b"yes\n"),
+        Ok(false) => put(out, b"no\n"),
+        Err(e) => put_refusal(out, 0, e.refusal.number(), e.line as u16),
     }
-    if answer == 0 {
-        return put_no(out);
-    }
-    put_refusal(out, 0, (answer / REFUSAL) as u8, (answer % REFUSAL) as u16)
 }

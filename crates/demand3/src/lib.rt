@@ -1,4 +1,5 @@
 // A script translated and its list run, in one call on lent memory.
+// Where `as` takes a number to another type, it fits, and the proof says so: `From` has no such step, and `try_from` would bring an error that can't be.
 #![tactic(auto)]
 
 ghost use Rattle.machine.specs.Machine.{LeavesFrame};

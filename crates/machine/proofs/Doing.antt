@@ -18,9 +18,9 @@ use Rattle.machine.proofs.Rows.{left, left-start}
 
 -- ---- one entry
 
-pub load_line : (v b : ℕ) → line_text (shows 0xa0 (take 1 (v ∷ b ∷ []))) ≡ load_text v
+pub load_line : (v : ℕ) → line_text (shows 0xa0 (v ∷ [])) ≡ load_text v
 unfolding line_text hexes hex2 hex4 load_text
-load_line v b = refl
+load_line v = refl
 
 pub printed-length : (x : Entry) (cells : List ℕ) → length (printed_of x cells) ≡ 7 * loads_of x
 unfolding load_text hex2 hex4
@@ -46,8 +46,8 @@ pub quiet : {x : Entry} (y : Entry) (cells out : List ℕ) (w : ℕ) → x ≡ y
 quiet y cells out w e l p cells' s = after cells out w w cells' out e (omega (arith, l), (s, rw p (over_nothing out w)))
 
 pub loaded : {x : Entry} (a v : ℕ) (cells out : List ℕ) (w w' : ℕ) (out' : List ℕ) → x ≡ Load a → v ≡ cell_at cells a → w' ≡ w + 3 + 4 * 1
-    → out' ≡ over out w (line_text (shows 0xa0 (take 1 (v ∷ 0 ∷ [])))) → After x cells out w w' cells out'
-loaded a v cells out w w' out' e q n h = after cells out w w' cells out' e (omega (arith, n), (refl, h ∙ ap (over out w) (load_line v 0 ∙ ap load_text q)))
+    → out' ≡ over out w (line_text (shows 0xa0 (v ∷ []))) → After x cells out w w' cells out'
+loaded a v cells out w w' out' e q n h = after cells out w w' cells out' e (omega (arith, n), (refl, h ∙ ap (over out w) (load_line v ∙ ap load_text q)))
 
 -- ---- a run of entries: es remain of es₀
 

@@ -13,17 +13,16 @@ use Rattle.rules.proofs.Tells.{decided, clash}
 use Rattle.text.specs.Lines.{unpacked}
 use Rattle.text.specs.Table.{readings, Rows}
 use Rattle.text.specs.Whole.{listing}
-use Rattle.text.specs.declared.lines.Reading.{Reading}
-use Rattle.text.specs.declared.lines.Reading.TheVariants.{Malformed, One}
+use Rattle.std.specs.declared.option.Option.TheVariants.{Some, None}
+use Rattle.text.specs.Shapes.{Reading}
+use Rattle.text.specs.Refused.{Checked, good, bad}
 use Rattle.text.specs.declared.whole.Listing.{Listing}
-use Rattle.text.specs.declared.whole.Listing.TheVariants.{Read, Unread}
 use Rattle.machine.specs.Entries.{entry_of, entries, entry_in, entries_of}
 use Rattle.machine.specs.Survey.{survey_of, lacking_of}
 use Rattle.machine.specs.Work.{filled_from, obey_cells, obey_text, loads_in}
 use Rattle.machine.specs.Recorded.{LeavesAll, refusal, lacks_of, enough_left, whole_left, surveyed_left, survey_left, listed_left, list_left}
 use Rattle.machine.specs.declared.entries.Entry.{Entry}
-use Rattle.machine.specs.declared.survey.Survey.{Survey}
-use Rattle.machine.specs.declared.survey.Survey.TheVariants.{High, Low}
+use Rattle.machine.specs.declared.survey.Asked.{Asked}
 use Rattle.machine.proofs.Placing.{loads-filled}
 
 -- any two results that the promise admits are equal
@@ -93,42 +92,50 @@ module _ (samples cells out left : List ℕ) (size loads takes column recorded :
   whole-enough h l r cells' out' left' k = rw (eq-eqb column 0 h, le-ltb recorded takes l, whole_left) k
 
 module _ (samples cells out left : List ℕ) (size column recorded : ℕ) (es : List Entry) (r : ℕ) where
-  pub survey-high : (s : Survey) (i : ℕ) → s ≡ survey_of size 0 0 0 es → s ≡ High i → r ≡ refusal_answer 20 i
-      → LeavesAll (survey_left samples size column recorded es cells out left) r cells out left
-  survey-high s i e q h = leaves-as (ap (λ (x : Survey). surveyed_left samples size column recorded es x cells out left) (sym e ∙ q)) (stops cells out left 20 i r h)
+  pub survey-high : (n i : ℕ) → bad n i ≡ survey_of size 0 0 0 es → r ≡ refusal_answer n i → LeavesAll (survey_left samples size column recorded es cells out left) r cells out left
+  survey-high n i e h = leaves-as (ap (λ (x : Checked Asked). surveyed_left samples size column recorded es x cells out left) (sym e)) (stops cells out left n i r h)
 
-  pub survey-low : (s : Survey) (loads takes : ℕ) → s ≡ survey_of size 0 0 0 es → s ≡ Low loads takes → (cells' out' left' : List ℕ)
-      → LeavesAll (whole_left samples size loads takes column recorded es cells out left) r cells' out' left'
+  pub survey-low : (a : Asked) → good a ≡ survey_of size 0 0 0 es → (cells' out' left' : List ℕ)
+      → LeavesAll (whole_left samples size a.loads a.takes column recorded es cells out left) r cells' out' left'
       → LeavesAll (survey_left samples size column recorded es cells out left) r cells' out' left'
-  survey-low s loads takes e q cells' out' left' h = leaves-as (ap (λ (x : Survey). surveyed_left samples size column recorded es x cells out left) (sym e ∙ q)) h
+  survey-low a e cells' out' left' h = leaves-as (ap (λ (x : Checked Asked). surveyed_left samples size column recorded es x cells out left) (sym e)) h
 
 -- ---- the table has the entries of the list
 
-table-rows : (t : List ℕ) (rs : List Reading) (i n : ℕ) → ((j : ℕ) → j < n → One (unpacked (get_or t (i + j) 0)) ≡ get_or rs j Malformed) → entries_of t i n ≡ take n (map entry_of rs)
+table-rows : (t : List ℕ) (rs : List Reading) (i n : ℕ) → ((j : ℕ) → j < n → Some (unpacked (get_or t (i + j) 0)) ≡ get_or rs j None) → entries_of t i n ≡ take n (map entry_of rs)
 unfolding entries_of
 table-rows t rs i zero h = refl
-table-rows t [] i (suc n) h = absurd (let q = h 0 (omega arith) in let z : ◌≡◌ {A = ℕ} 0 1 = cc in omega arith)
+table-rows t [] i (suc n) h = let q = h 0 (omega arith) in cc
 table-rows t (x ∷ rs) i (suc n) h =
     let e : i + 0 ≡ i = omega arith in
-    let q : One (unpacked (get_or t i 0)) ≡ x = ap (λ (m : ℕ). One (unpacked (get_or t m 0))) (sym e) ∙ h 0 (omega arith) in
+    let q : Some (unpacked (get_or t i 0)) ≡ x = ap (λ (m : ℕ). Some (unpacked (get_or t m 0))) (sym e) ∙ h 0 (omega arith) in
     let r : entry_in t i ≡ entry_of x = ap entry_of q in
-    let more = table-rows t rs (i + 1) n (λ j l. let f : i + 1 + j ≡ i + suc j = omega arith in ap (λ (m : ℕ). One (unpacked (get_or t m 0))) f ∙ h (suc j) (omega arith)) in
+    let more = table-rows t rs (i + 1) n (λ j l. let f : i + 1 + j ≡ i + suc j = omega arith in ap (λ (m : ℕ). Some (unpacked (get_or t m 0))) f ∙ h (suc j) (omega arith)) in
     rw (r, more)
 
 table-entries : (s t : List ℕ) (n : ℕ) → Rows s t n → entries_of t 0 n ≡ take n (entries s)
 unfolding entries
-table-entries s t n h = table-rows t (readings s) 0 n (λ j l. let e : 0 + j ≡ j = omega arith in ap (λ (m : ℕ). One (unpacked (get_or t m 0))) e ∙ h j l)
+table-entries s t n h = table-rows t (readings s) 0 n (λ j l. let e : 0 + j ≡ j = omega arith in ap (λ (m : ℕ). Some (unpacked (get_or t m 0))) e ∙ h j l)
 
-module _ (room : Room) (list samples cells out left : List ℕ) (column recorded : ℕ) (l : Listing) (e : l ≡ listing room list) (r : ℕ) where
-  listed-as : (l' : Listing) → l ≡ l' → list_left room list samples column recorded cells out left ≡ listed_left samples column recorded (entries list) l' cells out left
+module _ (room : Room) (list samples cells out left : List ℕ) (column recorded : ℕ) (r : ℕ) where
+  listed-as : (l : Checked Listing) → l ≡ listing room list → list_left room list samples column recorded cells out left ≡ listed_left samples column recorded (entries list) l cells out left
   unfolding list_left
-  listed-as l' q = ap (λ (x : Listing). listed_left samples column recorded (entries list) x cells out left) (sym e ∙ q)
+  listed-as l e = ap (λ (x : Checked Listing). listed_left samples column recorded (entries list) x cells out left) (sym e)
 
-  pub list-unread : (m i : ℕ) → l ≡ Unread m i → r ≡ refusal_answer m i → LeavesAll (list_left room list samples column recorded cells out left) r cells out left
-  list-unread m i q h = leaves-as (listed-as (Unread m i) q) (stops cells out left m i r h)
+  pub list-unread : (m i : ℕ) → bad m i ≡ listing room list → r ≡ refusal_answer m i → LeavesAll (list_left room list samples column recorded cells out left) r cells out left
+  list-unread m i q h = leaves-as (listed-as (bad m i) q) (stops cells out left m i r h)
 
-  pub list_read : (size n : ℕ) (t : List ℕ) → l ≡ Read size n → Rows list t n → (cells' out' left' : List ℕ)
-      → LeavesAll (survey_left samples size column recorded (entries_of t 0 n) cells out left) r cells' out' left'
+  pub list_read : (l : Listing) (t : List ℕ) → good l ≡ listing room list → Rows list t l.lines → (cells' out' left' : List ℕ)
+      → LeavesAll (survey_left samples l.size column recorded (entries_of t 0 l.lines) cells out left) r cells' out' left'
       → LeavesAll (list_left room list samples column recorded cells out left) r cells' out' left'
-  list_read size n t q rows cells' out' left' h =
-      leaves-as (listed-as (Read size n) q ∙ ap (λ (es : List Entry). survey_left samples size column recorded es cells out left) (sym (table-entries list t n rows))) h
+  list_read l t q rows cells' out' left' h =
+      leaves-as (listed-as (good l) q ∙ ap (λ (es : List Entry). survey_left samples l.size column recorded es cells out left) (sym (table-entries list t l.lines rows))) h
+
+-- the list is read into the table, and its addresses are below its size
+module _ (room : Room) (list samples cells out left : List ℕ) (column recorded : ℕ) (l : Listing) (t : List ℕ) (read : good l ≡ listing room list) (rows : Rows list t l.lines)
+    (a : Asked) (low : good a ≡ survey_of l.size 0 0 0 (entries_of t 0 l.lines)) where
+  pub then-whole : (r : ℕ) (cells' out' left' : List ℕ) → LeavesAll (whole_left samples l.size a.loads a.takes column recorded (entries_of t 0 l.lines) cells out left) r cells' out' left'
+      → LeavesAll (list_left room list samples column recorded cells out left) r cells' out' left'
+  then-whole r cells' out' left' h =
+      list_read room list samples cells out left column recorded r l t read rows cells' out' left'
+      (survey-low samples cells out left l.size column recorded (entries_of t 0 l.lines) r a low cells' out' left' h)

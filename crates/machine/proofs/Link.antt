@@ -15,11 +15,11 @@ use Rattle.rules.specs.Meaning.{Ran, worth, later, obey, high, list_takes, lacki
 use Rattle.rules.specs.Text.{hex2, hex4}
 use Rattle.rules.specs.Entries.{load_text, loads_text, cells_of, bytes_of}
 use Rattle.text.specs.Shapes.{pick}
-use Rattle.machine.specs.Survey.{survey_of, lacking_of}
+use Rattle.machine.specs.Survey.{asked, survey_of, lacking_of}
 use Rattle.machine.specs.Work.{cell_at, obey_cells, obey_text, filled_from}
 use Rattle.machine.specs.declared.entries.Entry.{Entry}
-use Rattle.machine.specs.declared.survey.Survey.{Survey}
-use Rattle.machine.specs.declared.survey.Survey.TheVariants.{High, Low}
+use Rattle.machine.specs.declared.survey.Asked.{Asked}
+use Rattle.text.specs.Refused.{Checked, good, bad}
 use Rattle.machine.proofs.Pairs.{Lined, done, on}
 use Rattle.machine.proofs.Cells.{bytes-set, bytes-at, cells_at}
 
@@ -34,14 +34,14 @@ unfoldable pub lines_loads : List Line → ℕ
 lines_loads [] = 0
 lines_loads (l ∷ ls) = line_loads l + lines_loads ls
 
-abbrev pub of_high : Option ℕ → (loads takes : ℕ) → Survey
-of_high none n m = Low n m
-of_high (some i) n m = High i
+abbrev pub of_high : Option ℕ → (loads takes : ℕ) → Checked Asked
+of_high none n m = good (asked n m)
+of_high (some i) n m = bad 20 i
 
-high_one : (size a i n m n' m' : ℕ) (x : Survey) (y : Option ℕ) → n ≡ n' → m ≡ m' → x ≡ of_high y n m → pick (leb size a) (High i) x ≡ of_high (elim (ltb a size) [ true ↦ y | false ↦ some i ]) n' m'
+high_one : (size a i n m n' m' : ℕ) (x : Checked Asked) (y : Option ℕ) → n ≡ n' → m ≡ m' → x ≡ of_high y n m → pick (leb size a) (bad 20 i) x ≡ of_high (elim (ltb a size) [ true ↦ y | false ↦ some i ]) n' m'
 high_one size a i n m n' m' x y q s e = go (ltb a size) refl
   where
-    go : (b : Bool) → ltb a size ≡ b → pick (leb size a) (High i) x ≡ of_high (elim b [ true ↦ y | false ↦ some i ]) n' m'
+    go : (b : Bool) → ltb a size ≡ b → pick (leb size a) (bad 20 i) x ≡ of_high (elim b [ true ↦ y | false ↦ some i ]) n' m'
     go true p = rw (lt-leb size a (ltb-true a size p)) (e ∙ rw (q, s))
     go false p = rw (le-leb size a (ltb-false a size p))
 

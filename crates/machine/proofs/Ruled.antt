@@ -24,7 +24,8 @@ use Rattle.machine.specs.Machine.{LeavesFrame, Bytes}
 use Rattle.machine.specs.Entries.{entries}
 use Rattle.machine.specs.Recorded.{LeavesAll, enough_left, whole_left, surveyed_left, listed_left, list_left}
 use Rattle.machine.specs.declared.entries.Entry.{Entry}
-use Rattle.machine.specs.declared.survey.Survey.{Survey}
+use Rattle.machine.specs.declared.survey.Asked.{Asked}
+use Rattle.text.specs.Refused.{Checked}
 use Rattle.machine.proofs.Pairs.{Lined, pairs-read, lines-only}
 use Rattle.machine.proofs.Cells.{cells-length, zero-bytes}
 use Rattle.machine.proofs.Lefts.{stops}
@@ -124,7 +125,7 @@ module _ (m cells out left : List ℕ) (ok : Bytes cells) where
           let es : List Entry = take (length ls) (entries list) in
           let p : Lined es ls = lines-only (pairs-read room list size ls e) in
           rw zero-add
-          (ap (λ (v : Survey). surveyed_left m size column rec es v cells out left) (surveys p size 0 0 0) ∙ surveyed es ls size column rec p (high size 0 ls) refl)
+          (ap (λ (v : Checked Asked). surveyed_left m size column rec es v cells out left) (surveys p size 0 0 0) ∙ surveyed es ls size column rec p (high size 0 ls) refl)
 
 -- ---- 29, and all of it
 

@@ -1,11 +1,9 @@
 -- What a line of a list asks of the machine. Assumes nothing.
-use Rattle.std.specs.Prelude.{Bool, false, List, [], ◌∷◌, map, ℕ, zero, suc, ◌+◌, get_or, eqb, leb}
-use Rattle.text.specs.Shapes.{pick}
+use Rattle.std.specs.Prelude.{Bool, false, List, [], ◌∷◌, map, ℕ, zero, suc, ◌+◌, get_or, eqb, leb, Some, None}
+use Rattle.text.specs.Shapes.{pick, Reading}
 use Rattle.text.specs.Lines.{unpacked}
 use Rattle.text.specs.Table.{readings}
 use Rattle.text.specs.declared.lines.Frame.{Frame}
-use Rattle.text.specs.declared.lines.Reading.{Reading}
-use Rattle.text.specs.declared.lines.Reading.TheVariants.{Malformed, One}
 use Rattle.machine.specs.declared.entries.Entry.{Entry}
 use Rattle.machine.specs.declared.entries.Entry.TheVariants.{Skip, Store, Sample, Load}
 
@@ -15,8 +13,8 @@ entry_for f =
     (pick (eqb f.opcode 0x11) (Load f.a) (pick (eqb f.opcode 0x12) (Load f.a) (pick (eqb f.opcode 0x14) (Sample f.a) Skip)))
 
 abbrev pub entry_of : Reading → Entry
-entry_of Malformed = Skip
-entry_of (One f) = entry_for f
+entry_of None = Skip
+entry_of (Some f) = entry_for f
 
 -- the entries of a list; its title is the first, if it has one, and the size line is the last
 unfoldable pub entries : List ℕ → List Entry

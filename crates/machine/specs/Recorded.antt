@@ -1,20 +1,20 @@
 -- What a run with a recording answers and leaves, over the entries of a list: a refusal after the other, and then the work. The promise of
 -- `run_recorded` is over the rules' own `recorded_entry`. Assumes nothing.
-use Rattle.std.specs.Prelude.{◌≡◌, Bool, true, List, ◌++◌, ℕ, ◌*◌, ◌/◌, ◌-◌, length, take, drop, eqb, ltb}
+use Rattle.std.specs.Prelude.{◌≡◌, Bool, true, List, ◌++◌, ℕ, ◌*◌, ◌/◌, ◌-◌, length, take, drop, eqb, ltb, Result, Ok, Err}
 use Rattle.std.specs.Borrow.{MutBor}
 use denote.Triple.Both.{Both}
 use Rattle.rules.specs.Sizes.{Room}
 use Rattle.rules.specs.Entries.{refusal_answer, bytes4, over_front, RecordedRunning}
 use Rattle.text.specs.Shapes.{pick}
 use Rattle.text.specs.Whole.{listing}
+use Rattle.text.specs.Refused.{Checked, good, bad, answer_of}
+use Rattle.text.specs.declared.refusal.RefusedAt.{RefusedAt}
 use Rattle.text.specs.declared.whole.Listing.{Listing}
-use Rattle.text.specs.declared.whole.Listing.TheVariants.{Read, Unread}
 use Rattle.machine.specs.Entries.{entries}
 use Rattle.machine.specs.Survey.{survey_of, lacking_of}
 use Rattle.machine.specs.Work.{filled_from, obey_cells, obey_text, zeroed}
 use Rattle.machine.specs.declared.entries.Entry.{Entry}
-use Rattle.machine.specs.declared.survey.Survey.{Survey}
-use Rattle.machine.specs.declared.survey.Survey.TheVariants.{High, Low}
+use Rattle.machine.specs.declared.survey.Asked.{Asked}
 
 -- ---- the form of the promise
 
@@ -23,6 +23,11 @@ pub record LeavesAll (l : RecordedRunning) (answer : ℕ) (cells out left : List
   pub cells_left : cells ≡ l.cells
   pub out-left : out ≡ l.out
   pub left-left : left ≡ l.left
+
+-- how many bytes were written, or a refusal, as one number
+abbrev pub answered : Result ℕ RefusedAt → ℕ
+answered (Ok n) = n
+answered (Err e) = answer_of e
 
 abbrev LentBytes : Type 0
 LentBytes = Both (MutBor (List ℕ)) (MutBor (List ℕ))
@@ -59,17 +64,17 @@ whole_left samples size loads takes column recorded es cells out left =
     (refusal 24 recorded cells out left)
 
 -- 20
-abbrev pub surveyed_left : List ℕ → (size column recorded : ℕ) → List Entry → Survey → (cells out left : List ℕ) → RecordedRunning
-surveyed_left samples size column recorded es (High i) cells out left = refusal 20 i cells out left
-surveyed_left samples size column recorded es (Low loads takes) cells out left = whole_left samples size loads takes column recorded es cells out left
+abbrev pub surveyed_left : List ℕ → (size column recorded : ℕ) → List Entry → Checked Asked → (cells out left : List ℕ) → RecordedRunning
+surveyed_left samples size column recorded es (bad n i) cells out left = refusal n i cells out left
+surveyed_left samples size column recorded es (good a) cells out left = whole_left samples size a.loads a.takes column recorded es cells out left
 
 abbrev pub survey_left : List ℕ → (size column recorded : ℕ) → List Entry → (cells out left : List ℕ) → RecordedRunning
 survey_left samples size column recorded es = surveyed_left samples size column recorded es (survey_of size 0 0 0 es)
 
 -- 1, 2; n lines stand before the size line
-abbrev pub listed_left : List ℕ → (column recorded : ℕ) → List Entry → Listing → (cells out left : List ℕ) → RecordedRunning
-listed_left samples column recorded es (Unread m i) cells out left = refusal m i cells out left
-listed_left samples column recorded es (Read size n) cells out left = survey_left samples size column recorded (take n es) cells out left
+abbrev pub listed_left : List ℕ → (column recorded : ℕ) → List Entry → Checked Listing → (cells out left : List ℕ) → RecordedRunning
+listed_left samples column recorded es (bad m i) cells out left = refusal m i cells out left
+listed_left samples column recorded es (good l) cells out left = survey_left samples l.size column recorded (take l.lines es) cells out left
 
 unfoldable pub list_left : Room → List ℕ → List ℕ → (column recorded : ℕ) → (cells out left : List ℕ) → RecordedRunning
 list_left room list samples column recorded = listed_left samples column recorded (entries list) (listing room list)

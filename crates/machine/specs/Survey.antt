@@ -3,13 +3,16 @@ use Rattle.std.specs.Prelude.{List, [], ◌∷◌, ℕ, ◌+◌, ◌-◌, ltb}
 use Rattle.text.specs.Shapes.{pick}
 use Rattle.machine.specs.Entries.{loads_of, takes_of, over_of}
 use Rattle.machine.specs.declared.entries.Entry.{Entry}
-use Rattle.machine.specs.declared.survey.Survey.{Survey}
-use Rattle.machine.specs.declared.survey.Survey.TheVariants.{High, Low}
+use Rattle.machine.specs.declared.survey.Asked.{Asked}
+use Rattle.text.specs.Refused.{Checked, good, bad}
 
--- line i on, with so many loads and samples before it
-unfoldable pub survey_of : (size i loads takes : ℕ) → List Entry → Survey
-survey_of size i loads takes [] = Low loads takes
-survey_of size i loads takes (x ∷ es) = pick (over_of size x) (High i) (survey_of size (i + 1) (loads + loads_of x) (takes + takes_of x) es)
+abbrev pub asked : ℕ → ℕ → Asked
+asked loads takes = record { loads = loads; takes = takes }
+
+-- line i on, with so many loads and samples before it: what is asked for, or 20 at the first line whose address is not below the size
+unfoldable pub survey_of : (size i loads takes : ℕ) → List Entry → Checked Asked
+survey_of size i loads takes [] = good (asked loads takes)
+survey_of size i loads takes (x ∷ es) = pick (over_of size x) (bad 20 i) (survey_of size (i + 1) (loads + loads_of x) (takes + takes_of x) es)
 
 -- line i on, with n samples left: the first line that takes one and has none
 unfoldable pub lacking_of : (i n : ℕ) → List Entry → ℕ

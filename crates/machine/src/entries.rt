@@ -16,19 +16,12 @@ pub enum Entry {
 pub fn entry_for(f: Frame) -> Entry
     ensures { result ≡ entry_for f }
 {
-    if f.opcode == 0x10 {
-        return Entry::Store(f.a, f.b);
+    match f.opcode {
+        0x10 => Entry::Store(f.a, f.b),
+        0x11 | 0x12 => Entry::Load(f.a),
+        0x14 => Entry::Sample(f.a),
+        _ => Entry::Skip,
     }
-    if f.opcode == 0x11 {
-        return Entry::Load(f.a);
-    }
-    if f.opcode == 0x12 {
-        return Entry::Load(f.a);
-    }
-    if f.opcode == 0x14 {
-        return Entry::Sample(f.a);
-    }
-    Entry::Skip
 }
 
 // The entry of line i of the table.
@@ -42,24 +35,14 @@ pub fn entry_at(table: &[u64], i: usize) -> Entry
 pub fn loads_of(x: Entry) -> usize
     ensures { result ≡ loads_of x }
 {
-    match x {
-        Entry::Skip => 0,
-        Entry::Store(_, _) => 0,
-        Entry::Sample(_) => 0,
-        Entry::Load(_) => 1,
-    }
+    usize::from(matches!(x, Entry::Load(_)))
 }
 
 // How many samples it takes.
 pub fn takes_of(x: Entry) -> usize
     ensures { result ≡ takes_of x }
 {
-    match x {
-        Entry::Skip => 0,
-        Entry::Store(_, _) => 0,
-        Entry::Sample(_) => 1,
-        Entry::Load(_) => 0,
-    }
+    usize::from(matches!(x, Entry::Sample(_)))
 }
 
 // Whether its address is not below the size.
@@ -68,8 +51,6 @@ pub fn over(x: Entry, size: usize) -> bool
 {
     match x {
         Entry::Skip => false,
-        Entry::Store(a, _) => size <= (a as usize),
-        Entry::Sample(a) => size <= (a as usize),
-        Entry::Load(a) => size <= (a as usize),
+        Entry::Store(a, _) | Entry::Sample(a) | Entry::Load(a) => size <= usize::from(a),
     }
 }

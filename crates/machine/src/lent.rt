@@ -6,10 +6,8 @@ pub fn zero(cells: &mut [u8], n: usize)
     requires { n ≤ length cells.old }
     ensures { cells.new ≡ replicate n 0 ++ drop n cells.old }
 {
-    let mut i: usize = 0;
-    while i < n {
+    for i in 0..n {
         cells[i] = 0;
-        i += 1;
     }
 }
 
@@ -17,17 +15,14 @@ pub fn load(cells: &[u8], a: usize) -> u16
     requires { 2 * a + 1 < length cells.now }
     ensures { result ≡ cell_at cells.now a }
 {
-    let high = 2 * a;
-    let low = high + 1;
-    (cells[high] as u16) * 256 + (cells[low] as u16)
+    u16::from_be_bytes([cells[2 * a], cells[2 * a + 1]])
 }
 
 pub fn store(cells: &mut [u8], a: usize, v: u16)
     requires { 2 * a + 1 < length cells.old }
     ensures { cells.new ≡ set (set cells.old (2 * a) (v / 256)) (2 * a + 1) (v % 256) }
 {
-    let high = 2 * a;
-    let low = high + 1;
-    cells[high] = (v / 256) as u8;
-    cells[low] = (v % 256) as u8;
+    let [high, low] = v.to_be_bytes();
+    cells[2 * a] = high;
+    cells[2 * a + 1] = low;
 }

@@ -1,4 +1,5 @@
 // The frame machine: it runs a list over lent cells, and writes what its loads show.
+// Where `as` takes a number to another type, it fits, and the proof says so: `From` has no such step, and `try_from` would bring an error that can't be.
 #![tactic(auto)]
 
 ghost use Rattle.rules.specs.Sizes.{base};

@@ -18,12 +18,15 @@ fn filled(code: u64, samples: &[u8], j: usize) -> u64
     ensures { entry_for (unpacked result) ≡ fill_of (entry_for (unpacked code)) (cell_at samples.now j) }
 {
     let f = unpack(code);
-    let a = f.a;
-    if f.opcode == 0x14 {
-        let b = load(samples, j);
-        return pack(Frame { opcode: 0x10, a, b });
+    if f.opcode != 0x14 {
+        return code;
     }
-    code
+    let b = load(samples, j);
+    pack(Frame {
+        opcode: 0x10,
+        a: f.a,
+        b,
+    })
 }
 
 // The samples into the lines that take them, in order, each used once.
@@ -33,14 +36,14 @@ pub fn fill(table: &mut [u64], lines: usize, takes: usize, samples: &[u8])
     requires takes_in_bounds { 2 * takes ≤ length samples.now }
     ensures { entries_of table.new 0 lines ≡ filled_from samples.now 0 (entries_of table.old 0 lines) }
 {
-    let mut i: usize = 0;
     let mut j: usize = 0;
-    while j < takes {
-        let code = table[i];
+    for i in 0..lines {
+        if j == takes {
+            return;
+        }
         let n = takes_of(entry_at(table, i));
-        table[i] = filled(code, samples, j);
+        table[i] = filled(table[i], samples, j);
         j += n;
-        i += 1;
     }
 }
 
@@ -55,13 +58,13 @@ fn obey_one(x: Entry, cells: &mut [u8], out: &mut [u8], w: usize) -> usize
     match x {
         Entry::Skip => w,
         Entry::Store(a, v) => {
-            store(cells, a as usize, v);
+            store(cells, usize::from(a), v);
             w
         }
         Entry::Sample(_) => w,
         Entry::Load(a) => {
-            let v = load(cells, a as usize);
-            put_line(out, w, 0xa0, 1, v, 0)
+            let v = load(cells, usize::from(a));
+            put_line(out, w, 0xa0, &[v])
         }
     }
 }
@@ -75,11 +78,9 @@ pub fn obey(table: &[u64], lines: usize, cells: &mut [u8], out: &mut [u8]) -> us
     ensures stored { cells.new ≡ obey_cells cells.old (entries_of table.now 0 lines) }
     ensures printed { out.new ≡ printed_over cells.old (entries_of table.now 0 lines) out.old }
 {
-    let mut i: usize = 0;
     let mut w: usize = 0;
-    while i < lines {
+    for i in 0..lines {
         w = obey_one(entry_at(table, i), cells, out, w);
-        i += 1;
     }
     w
 }

@@ -8,56 +8,24 @@ use lib.ListN.{length, get_or}
 use lib.Seq.{slice}
 use lib.Dec.{ltb, eqb}
 use borrow.Author.Tests.{eq-eqb, ne_eqb, lt-ltb, le-ltb, ltb-false}
-use Rattle.records.specs.Records.{marked, all_hex, head_at, number_at, broken_if, record_by, record_at, Bounded}
-use Rattle.records.specs.declared.Found.{Found}
-use Rattle.records.specs.declared.Found.TheVariants.{Broken, Record}
-
-pub not_so : (r : Bool) → not r ≡ true → r ≡ false
-not_so true e = sym e
-not_so false e = refl
-
-pub so : (r : Bool) → not r ≡ false → r ≡ true
-so true e = refl
-so false e = sym e
-
--- ---- the head of a record
-
-pub mark-is : (b m : ℕ) → b ≡ m → true ≡ marked m → true ≡ marked b
-mark-is b m e h = h ∙ ap marked (sym e)
-
-pub mark-last : (b : ℕ) → (b ≡ 0x6f → ⊥) → (b ≡ 0x72 → ⊥) → eqb b 0x6d ≡ marked b
-unfolding marked
-mark-last b h k = sym (rw (ne_eqb b 0x6f h, ne_eqb b 0x72 k))
-
-module _ (s : List ℕ) (p : ℕ) (r : Bool) (m : r ≡ marked (get_or s p 0)) where
-  pub no-mark : r ≡ false → false ≡ head_at s p
-  unfolding head_at
-  no-mark e = sym (rw (sym m ∙ e))
-
-  module _ (e : r ≡ true) where
-    pub no_end : (get_or s (p + 17) 0 ≡ 10 → ⊥) → false ≡ head_at s p
-    unfolding head_at
-    no_end h = sym (rw (sym m ∙ e, ne_eqb _ _ h))
-
-    pub digits-tell : get_or s (p + 17) 0 ≡ 10 → (d : Bool) → d ≡ all_hex (slice (p + 1) (p + 17) s) → d ≡ head_at s p
-    unfolding head_at
-    digits-tell h d q = q ∙ sym (rw (sym m ∙ e, eq-eqb _ _ h))
+use Rattle.records.specs.Records.{marked, all_hex, head_at, number_at, Found, found, broken_if, record_by, record_at, Bounded}
+use Rattle.std.specs.declared.option.Option.TheVariants.{Some, None}
 
 -- ---- its lengths
 
-no-head-by : (p left a b : ℕ) → left < 18 → record_by p left a b ≡ Broken
+no-head-by : (p left a b : ℕ) → left < 18 → record_by p left a b ≡ None
 unfolding broken_if
 no-head-by p left a b h = rw (lt-ltb left 18 h) refl
 
-no-script-by : (p left a b : ℕ) → 18 ≤ left → left - 18 < a → record_by p left a b ≡ Broken
+no-script-by : (p left a b : ℕ) → 18 ≤ left → left - 18 < a → record_by p left a b ≡ None
 unfolding broken_if
 no-script-by p left a b h k = rw (le-ltb left 18 h, lt-ltb (left - 18) a k) refl
 
-no-answer-by : (p left a b : ℕ) → 18 ≤ left → a ≤ left - 18 → left - 18 - a < b → record_by p left a b ≡ Broken
+no-answer-by : (p left a b : ℕ) → 18 ≤ left → a ≤ left - 18 → left - 18 - a < b → record_by p left a b ≡ None
 unfolding broken_if
 no-answer-by p left a b h k m = rw (le-ltb left 18 h, le-ltb (left - 18) a k, lt-ltb (left - 18 - a) b m) refl
 
-whole_by : (p left a b : ℕ) → 18 ≤ left → a ≤ left - 18 → b ≤ left - 18 - a → record_by p left a b ≡ Record (p + 18) (p + 18 + a) (p + 18 + a + b)
+whole_by : (p left a b : ℕ) → 18 ≤ left → a ≤ left - 18 → b ≤ left - 18 - a → record_by p left a b ≡ Some (found (p + 18) (p + 18 + a) (p + 18 + a + b))
 unfolding broken_if
 whole_by p left a b h k m = rw (le-ltb left 18 h, le-ltb (left - 18) a k, le-ltb (left - 18 - a) b m) refl
 
@@ -65,7 +33,7 @@ module _ (s : List ℕ) (p : ℕ) where
   abbrev lengths : Found
   lengths = record_by p (length s - p) (number_at s (p + 1)) (number_at s (p + 9))
 
-  pub headless : head_at s p ≡ false → Broken ≡ record_at s p
+  pub headless : head_at s p ≡ false → None ≡ record_at s p
   unfolding record_at broken_if
   headless h = ap (λ (x : Bool). broken_if (not x) lengths) (sym h)
 
@@ -73,15 +41,15 @@ module _ (s : List ℕ) (p : ℕ) where
   unfolding record_at broken_if
   headed h = ap (λ (x : Bool). broken_if (not x) lengths) h
 
-  pub no-head : length s - p < 18 → Broken ≡ record_at s p
+  pub no-head : length s - p < 18 → None ≡ record_at s p
   no-head h = go (head_at s p) refl
     where
-      go : (x : Bool) → head_at s p ≡ x → Broken ≡ record_at s p
+      go : (x : Bool) → head_at s p ≡ x → None ≡ record_at s p
       go true e = sym (headed e ∙ no-head-by p (length s - p) (number_at s (p + 1)) (number_at s (p + 9)) h)
       go false e = headless e
 
   module _ (hd : head_at s p ≡ true) (h : 18 ≤ length s - p) (a : ℕ) (e : a ≡ number_at s (p + 1)) where
-    pub no-script : length s - p - 18 < a → Broken ≡ record_at s p
+    pub no-script : length s - p - 18 < a → None ≡ record_at s p
     no-script k = sym (headed hd ∙ ap (λ (x : ℕ). record_by p (length s - p) x (number_at s (p + 9))) (sym e) ∙ no-script-by p (length s - p) a (number_at s (p + 9)) h k)
 
     module _ (k : a ≤ length s - p - 18) (b : ℕ) (f : b ≡ number_at s (p + 9)) where
@@ -89,10 +57,10 @@ module _ (s : List ℕ) (p : ℕ) where
       numbers =
           headed hd ∙ ap (λ (x : ℕ). record_by p (length s - p) x (number_at s (p + 9))) (sym e) ∙ ap (λ (y : ℕ). record_by p (length s - p) a y) (sym f)
 
-      pub no_answer : length s - p - 18 - a < b → Broken ≡ record_at s p
+      pub no_answer : length s - p - 18 - a < b → None ≡ record_at s p
       no_answer m = sym (numbers ∙ no-answer-by p (length s - p) a b h k m)
 
-      pub whole : b ≤ length s - p - 18 - a → Record (p + 18) (p + 18 + a) (p + 18 + a + b) ≡ record_at s p
+      pub whole : b ≤ length s - p - 18 - a → Some (found (p + 18) (p + 18 + a) (p + 18 + a + b)) ≡ record_at s p
       whole m = sym (numbers ∙ whole_by p (length s - p) a b h k m)
 
 bounded-by : (p n a b : ℕ) → p ≤ n → Bounded p n (record_by p (n - p) a b)
@@ -101,7 +69,7 @@ bounded-by p n a b h = go (ltb (n - p) 18) refl (ltb (n - p - 18) a) refl (ltb (
   where
     go :
         (x : Bool) → ltb (n - p) 18 ≡ x → (y : Bool) → ltb (n - p - 18) a ≡ y → (z : Bool) → ltb (n - p - 18 - a) b ≡ z
-        → Bounded p n (broken_if x (broken_if y (broken_if z (Record (p + 18) (p + 18 + a) (p + 18 + a + b)))))
+        → Bounded p n (broken_if x (broken_if y (broken_if z (Some (found (p + 18) (p + 18 + a) (p + 18 + a + b))))))
     go true e y f z g = tt
     go false e true f z g = tt
     go false e false f true g = tt

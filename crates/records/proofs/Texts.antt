@@ -9,6 +9,7 @@ use lib.Seq.{ext_get_or}
 use lib.Dec.{eqb}
 use borrow.Author.Tests.{eq-eqb, eqb-true}
 use Rattle.rules.proofs.Tables.{by_eqb}
+use Rattle.std.specs.Bool.{Decides}
 use Rattle.records.specs.Records.{same_text}
 
 -- `same_text` tells whether two texts are equal
@@ -38,12 +39,6 @@ differ a b h = go (same_text a b) refl
     go true e = absurd (h (one-text a b e))
     go false e = sym e
 
-pub other_byte : (a b : List ℕ) (i : ℕ) → (get_or a i 0 ≡ get_or b i 0 → ⊥) → false ≡ same_text a b
-other_byte a b i h = differ a b (λ e. h (ap (λ (l : List ℕ). get_or l i 0) e))
-
-pub one_more_lem :
-    (a b : List ℕ) (i : ℕ) → ((j : ℕ) → j < i → get_or a j 0 ≡ get_or b j 0) → get_or a i 0 ≡ get_or b i 0 → (j : ℕ) → j < i + 1 → get_or a j 0 ≡ get_or b j 0
-one_more_lem a b i h e j k = by_eqb j i (λ q. ap (λ (x : ℕ). get_or a x 0) q ∙ e ∙ ap (λ (x : ℕ). get_or b x 0) (sym q)) (λ n. h j (omega arith))
-
-pub all-bytes : (a b : List ℕ) → length a ≡ length b → ((j : ℕ) → j < length a → get_or a j 0 ≡ get_or b j 0) → true ≡ same_text a b
-all-bytes a b l h = sym (subst (λ (m : List ℕ). same_text a m ≡ true) (ext_get_or 0 a b l h) (text-one a))
+pub same-told : (a b : List ℕ) (r : Bool) → Decides r (a ≡ b) → r ≡ same_text a b
+same-told a b true d = sym (ap (λ (t : List ℕ). same_text t b) (d.0 refl) ∙ text-one b)
+same-told a b false d = differ a b (λ e. true≢false (sym (d.1 e)))

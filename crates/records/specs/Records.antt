@@ -1,10 +1,9 @@
 -- Stored answers as bytes (oracle/README.md): what a record is, and when two texts are one. Assumes nothing.
-use Rattle.std.specs.Prelude.{Bool, true, false, ◌&&◌, ◌||◌, not, List, [], ◌∷◌, ℕ, ◌+◌, ◌*◌, ◌-◌, ◌≤◌, length, get_or, ltb, eqb}
+use Rattle.std.specs.Prelude.{Bool, true, false, ◌&&◌, ◌||◌, not, List, [], ◌∷◌, ℕ, ◌+◌, ◌*◌, ◌-◌, ◌≤◌, length, get_or, ltb, eqb, Option, Some, None}
 use Rattle.std.proofs.Math.Seq.{slice}
 use Rattle.rules.specs.Text.{value}
 use Rattle.text.specs.Lines.{word_at}
-use Rattle.records.specs.declared.Found.{Found}
-use Rattle.records.specs.declared.Found.TheVariants.{Broken, Record}
+use Rattle.records.specs.declared.Record.{Record}
 
 -- whether two texts are one, byte for byte
 unfoldable pub same_text : List ℕ → List ℕ → Bool
@@ -29,19 +28,26 @@ head_at s p = marked (get_or s p 0) && (eqb (get_or s (p + 17) 0) 10 && all_hex 
 abbrev pub number_at : List ℕ → ℕ → ℕ
 number_at s p = word_at s p * 65536 + word_at s (p + 4)
 
+-- where a record's script and answer begin, and where the answer ends; none where it is broken
+abbrev pub Found : Type 0
+Found = Option Record
+
+abbrev pub found : (script answer end : ℕ) → Record
+found a b e = record { script = a; answer = b; end = e }
+
 unfoldable pub broken_if : Bool → Found → Found
-broken_if true f = Broken
+broken_if true f = None
 broken_if false f = f
 
 -- a record at p, by what is left from there and by its two lengths
 abbrev pub record_by : ℕ → ℕ → ℕ → ℕ → Found
 record_by p left a b =
-    broken_if (ltb left 18) (broken_if (ltb (left - 18) a) (broken_if (ltb (left - 18 - a) b) (Record (p + 18) (p + 18 + a) (p + 18 + a + b))))
+    broken_if (ltb left 18) (broken_if (ltb (left - 18) a) (broken_if (ltb (left - 18 - a) b) (Some (found (p + 18) (p + 18 + a) (p + 18 + a + b)))))
 
 unfoldable pub record_at : List ℕ → ℕ → Found
 record_at s p = broken_if (not (head_at s p)) (record_by p (length s - p) (number_at s (p + 1)) (number_at s (p + 9)))
 
 -- the parts of a record lie in a row behind its head, below n
 abbrev pub Bounded : ℕ → ℕ → Found → Type 0
-Bounded p n Broken = Unit {0}
-Bounded p n (Record a b e) = (p + 18 ≤ a) × (a ≤ b) × (b ≤ e) × (e ≤ n)
+Bounded p n None = Unit {0}
+Bounded p n (Some r) = (p + 18 ≤ r.script) × (r.script ≤ r.answer) × (r.answer ≤ r.end) × (r.end ≤ n)

@@ -1,8 +1,8 @@
 -- The records of a text, replayed and counted. Assumes nothing.
-use Rattle.std.specs.Prelude.{Bool, true, false, List, ℕ, zero, suc, ◌+◌, ◌-◌, length, take, drop, ltb, eqb}
+use Rattle.std.specs.Prelude.{Bool, true, false, List, ℕ, zero, suc, ◌+◌, ◌-◌, length, take, drop, ltb, eqb, Some, None}
 use Rattle.rules.specs.Sizes.{base}
 use Rattle.rules.specs.Entries.{translator_prints}
-use Rattle.records.specs.declared.Found.TheVariants.{Broken, Record}
+use Rattle.records.specs.declared.Record.{Record}
 use Rattle.records.specs.declared.tally.Tally.{Tally}
 use Rattle.records.specs.Records.{same_text, record_at}
 
@@ -32,7 +32,7 @@ tallied (suc k) s p t =
     elim (ltb p (length s)) [
       | false ↦ t
       | true ↦ elim (record_at s p) [
-        | Broken ↦ tally t.records t.differ t.first true
-        | Record a b e ↦ tallied k s e (one_more t (agrees s a b e))
+        | None ↦ tally t.records t.differ t.first true
+        | Some r ↦ tallied k s r.end (one_more t (agrees s r.script r.answer r.end))
       ]
     ]

@@ -2,7 +2,8 @@
 // what is printed for it.
 #![tactic(auto)]
 
-ghost use Rattle.std.specs.Prelude.{◌≡◌, ℕ, ◌+◌, ◌≤◌, length};
+ghost use Rattle.std.specs.Prelude.{◌≡◌, ◌+◌, ◌≤◌, length};
+ghost use Rattle.rules.specs.Text.{value};
 ghost use Rattle.std.proofs.Math.Seq.{slice};
 ghost use Rattle.text.specs.Lines.{word_at};
 ghost use Rattle.records.specs.Records.{same_text, marked, all_hex, head_at, number_at, record_at};
@@ -13,30 +14,27 @@ pub mod tally; // the records of a text, replayed and counted
 
 // Where a record's script and answer begin, and where the answer ends.
 #[derive(Clone, Copy)]
-enum Found {
-    Broken,
-    Record {
-        script: usize,
-        answer: usize,
-        end: usize,
-    },
+struct Record {
+    script: usize,
+    answer: usize,
+    end: usize,
 }
 
 // Whether two texts are one, byte for byte.
 fn same(a: &[u8], b: &[u8]) -> bool
     ensures { result ≡ same_text a.now b.now }
 {
-    if a.len() != b.len() {
-        return false;
+    a == b
+}
+
+// What a byte counts as a digit: 16 where it is none, as the rules' `value` has it. A record's lengths are read once their digits are checked.
+fn weight_of(c: u8) -> usize
+    ensures { (result ≡ value c) × (result ≤ 16) }
+{
+    match digit_value(c) {
+        Some(v) => usize::from(v),
+        None => 16,
     }
-    let mut i: usize = 0;
-    while i < a.len() {
-        if a[i] != b[i] {
-            return false;
-        }
-        i += 1;
-    }
-    true
 }
 
 // The number that four digits show.
@@ -44,10 +42,10 @@ fn four_at(s: &[u8], p: usize) -> usize
     requires { p + 4 ≤ length s.now }
     ensures { (result ≡ word_at s.now p) × (result ≤ 1114095) }
 {
-    let a = digit_value(s[p]) as usize;
-    let b = digit_value(s[p + 1]) as usize;
-    let c = digit_value(s[p + 2]) as usize;
-    let d = digit_value(s[p + 3]) as usize;
+    let a = weight_of(s[p]);
+    let b = weight_of(s[p + 1]);
+    let c = weight_of(s[p + 2]);
+    let d = weight_of(s[p + 3]);
     a * 4096 + b * 256 + c * 16 + d
 }
 
@@ -62,16 +60,11 @@ fn number_at(s: &[u8], p: usize) -> usize
 }
 
 // Whether a byte says whose answer a record has.
+#[tactic(auto, unfolding(crate::specs::Records::marked))]
 fn is_mark(b: u8) -> bool
     ensures { result ≡ marked b }
 {
-    if b == b'o' {
-        return true;
-    }
-    if b == b'r' {
-        return true;
-    }
-    b == b'm'
+    matches!(b, b'o' | b'r' | b'm')
 }
 
 // Whether the bytes from p on, below e, are digits.
@@ -79,54 +72,47 @@ fn all_hex(s: &[u8], p: usize, e: usize) -> bool
     requires { (p ≤ e) × (e ≤ length s.now) }
     ensures { result ≡ all_hex (slice p e s.now) }
 {
-    let mut i = p;
-    while i < e {
-        if digit_value(s[i]) >= 16 {
+    for i in p..e {
+        if digit_value(s[i]).is_none() {
             return false;
         }
-        i += 1;
     }
     true
 }
 
 // Whether a record's head stands at p.
+#[tactic(auto, unfolding(crate::specs::Records::head_at))]
 fn head_at(s: &[u8], p: usize) -> bool
     requires { p + 18 ≤ length s.now }
     ensures { result ≡ head_at s.now p }
 {
-    if !is_mark(s[p]) {
-        return false;
-    }
-    if s[p + 17] != 10 {
-        return false;
-    }
-    all_hex(s, p + 1, p + 17)
+    is_mark(s[p]) && s[p + 17] == b'\n' && all_hex(s, p + 1, p + 17)
 }
 
-// The record at p.
-fn record_at(s: &[u8], p: usize) -> Found
+// The record at p, if it is none that is broken.
+fn record_at(s: &[u8], p: usize) -> Option<Record>
     requires { p ≤ length s.now }
     ensures { result ≡ record_at s.now p }
 {
     let left = s.len() - p;
     if left < 18 {
-        return Found::Broken;
+        return None;
     }
     if !head_at(s, p) {
-        return Found::Broken;
+        return None;
     }
     let most = left - 18;
     let script = number_at(s, p + 1);
     if most < script {
-        return Found::Broken;
+        return None;
     }
     let answer = number_at(s, p + 9);
     if most - script < answer {
-        return Found::Broken;
+        return None;
     }
-    Found::Record {
+    Some(Record {
         script: p + 18,
         answer: p + 18 + script,
         end: p + 18 + script + answer,
-    }
+    })
 }

@@ -1,11 +1,11 @@
 // The records of a text, one after another: how many there are, and how many hold another answer than is printed for their script.
-ghost use Rattle.std.specs.Prelude.{◌≡◌, ◌+◌, ◌≤◌, ◌<◌, ◌^◌, length};
+ghost use Rattle.std.specs.Prelude.{◌≡◌, ◌+◌, ◌≤◌, ◌<◌, ◌^◌, false, length};
 ghost use Rattle.rules.specs.Sizes.{base};
 ghost use Rattle.rules.specs.Entries.{translator_prints};
 ghost use Rattle.records.specs.Records.{same_text};
 ghost use Rattle.records.specs.Tally.{no_records, one_more, tallied};
 
-use crate::{Found, record_at, same};
+use crate::{Record, record_at, same};
 use answers::translated;
 use rules::TEXT;
 
@@ -29,31 +29,25 @@ fn agrees(script: &[u8], answer: &[u8]) -> bool
 
 // With one more record, which agrees or not.
 fn counted(t: Tally, agrees: bool) -> Tally
-    requires { (t.differ ≤ t.records) × (t.records + 1 < 2 ^ 64) }
+    requires { (t.differ ≤ t.records) × (t.records + 1 < 2 ^ 64) × (t.broken ≡ false) }
     ensures { result ≡ one_more t agrees }
 {
     let records = t.records + 1;
     if agrees {
-        return Tally {
-            records: records,
-            differ: t.differ,
-            first: t.first,
-            broken: false,
-        };
+        return Tally { records, ..t };
     }
     if t.differ == 0 {
         return Tally {
-            records: records,
+            records,
             differ: 1,
             first: records,
             broken: false,
         };
     }
     Tally {
-        records: records,
+        records,
         differ: t.differ + 1,
-        first: t.first,
-        broken: false,
+        ..t
     }
 }
 
@@ -68,26 +62,21 @@ pub fn replayed(text: &[u8]) -> Tally
         broken: false,
     };
     let mut p: usize = 0;
+    // records of any length, so no `for`
     while p < text.len() {
-        match record_at(text, p) {
-            Found::Broken => {
-                return Tally {
-                    records: t.records,
-                    differ: t.differ,
-                    first: t.first,
-                    broken: true,
-                };
-            }
-            Found::Record {
+        let Some(
+            Record {
                 script,
                 answer,
                 end,
-            } => {
-                let equal = agrees(&text[script..answer], &text[answer..end]);
-                t = counted(t, equal);
-                p = end;
-            }
-        }
+            },
+        ) = record_at(text, p)
+        else {
+            return Tally { broken: true, ..t };
+        };
+        let equal = agrees(&text[script..answer], &text[answer..end]);
+        t = counted(t, equal);
+        p = end;
     }
     t
 }

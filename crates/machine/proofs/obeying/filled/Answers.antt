@@ -5,10 +5,10 @@ use Rattle.machine.proofs.Placing.{sample-fits, sample-filled, other-filled}
 use Rattle.machine.proofs.obeying.filled.Goals as goal
 
 pub load-b-requires : goal.load-b-requires
-load-b-requires c = sample-fits _ _ _ (ap (λ (f : Frame). f.opcode) (sym c.unpack-f.ensures) ∙ c.if-f-eq20.true) c.requires
-
-pub returns-then-f-eq20 : goal.returns-then-f-eq20
-returns-then-f-eq20 c = sample-filled _ _ _ _ _ c.unpack-f.ensures c.load-b.ensures c.if-f-eq20.true c.pack.ensures
+load-b-requires c = sample-fits _ _ _ (ap (λ (f : Frame). f.opcode) (sym c.unpack-f.ensures) ∙ c.if-f-ne20.false) c.requires
 
 pub returns : goal.returns
-returns c = other-filled _ _ (λ e. c.if-f-eq20.false (ap (λ (f : Frame). f.opcode) c.unpack-f.ensures ∙ e))
+returns c = sample-filled _ _ _ _ _ c.unpack-f.ensures c.load-b.ensures c.if-f-ne20.false c.pack.ensures
+
+pub returns-then-f-ne20 : goal.returns-then-f-ne20
+returns-then-f-ne20 c = other-filled _ _ (λ e. c.if-f-ne20.true (ap (λ (f : Frame). f.opcode) c.unpack-f.ensures ∙ e))

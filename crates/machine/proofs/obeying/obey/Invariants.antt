@@ -1,9 +1,5 @@
-use Prim.Native.Nat.{◌≤◌, ◌-◌}
 use Rattle.machine.proofs.Doing.{Obeying}
 use Rattle.machine.proofs.obeying.obey.Given as goal
 
 abbrev pub invariant-loop-i : goal.invariant-loop-i
-invariant-loop-i l = (l.i ≤ l.lines) × Obeying l.table l.lines l.initial.cells l.initial.out l.i l.w l.cells l.out
-
-abbrev pub decreases-loop-i : goal.decreases-loop-i
-decreases-loop-i l = l.lines - l.i
+invariant-loop-i l = Obeying l.table l.lines l.initial.cells l.initial.out l.i l.w l.cells l.out
