@@ -19,15 +19,13 @@ use Rattle.rules.specs.Suppliers.{shown_first, as_shown, shown_steps}
 use Rattle.rules.proofs.ReadExact.{not_listed}
 use Rattle.rules.proofs.OneLine.{one_line_lem}
 use Rattle.rules.proofs.Tells.{decided}
-use Rattle.text.specs.Shapes.{pick, frame}
+use Rattle.text.specs.Shapes.{pick, frame, Reading}
 use Rattle.text.specs.Lines.{lined, sized_or, line_reading, unpacked}
 use Rattle.text.specs.Table.{readings}
 use Rattle.text.specs.Titles.{place_by, Titles}
 use Rattle.text.specs.declared.lines.Frame as code
-use Rattle.text.specs.declared.lines.Reading.{Reading}
-use Rattle.text.specs.declared.lines.Reading.TheVariants.{Malformed, One}
-use Rattle.translate.specs.Whole.{guide_at, steps_at, walk_from, walked}
-use Rattle.translate.specs.declared.whole.Guide.TheVariants.{Shown}
+use Rattle.std.specs.declared.option.Option.TheVariants.{Some, None}
+use Rattle.translate.specs.Whole.{shown_at, steps_at, walk_from, walked}
 use Rattle.translate.proofs.Titled.{titles-length}
 use Rattle.supplier.specs.Judged.{Read, frames_of, TheList, over_lines}
 
@@ -38,7 +36,7 @@ linings ls = map (λ l. lined (some l)) ls
 
 -- the size line stands behind the lines
 abbrev read_as : List Line → ℕ → List Reading
-read_as ls size = linings ls ++ (One (frame 0x90 size 0) ∷ [])
+read_as ls size = linings ls ++ (Some (frame 0x90 size 0) ∷ [])
 
 module _ (room : Room) where
   lines-read : (ks : List Split) (i : ℕ) (ls : List Line) (size : ℕ) → list_from room i ks ≡ listed ls size → map line_reading ks ≡ read_as ls size
@@ -46,7 +44,7 @@ module _ (room : Room) where
   lines-read [] i ls size e = not_listed e
   lines-read (k ∷ ks) i ls size e = go (line_of size_table k) (line_of line_table k) (eqb i room.lines) e (lines-read ks (suc i))
     where
-      last : (n : ℕ) (rest : List Split) → size_at room i n rest ≡ listed ls size → One (frame 0x90 n 0) ∷ map line_reading rest ≡ read_as ls size
+      last : (n : ℕ) (rest : List Split) → size_at room i n rest ≡ listed ls size → Some (frame 0x90 n 0) ∷ map line_reading rest ≡ read_as ls size
       last n [] x = decided (leb n room.size)
           (λ q.
           let y : listed [] n ≡ listed ls size = rw (q, size_at) at x in
@@ -79,8 +77,8 @@ module _ (room : Room) where
       let a : above ++ ms ≡ ls = cc in
       let b : n ≡ size = cc in
       ap (λ (t : List Reading). linings above ++ t) (h ms n refl)
-      ∙ sym (append_assoc (linings above) (linings ms) (One (frame 0x90 n 0) ∷ []))
-      ∙ ap (λ (t : List Reading). t ++ (One (frame 0x90 n 0) ∷ [])) (sym (map-append (λ l. lined (some l)) above ms))
+      ∙ sym (append_assoc (linings above) (linings ms) (Some (frame 0x90 n 0) ∷ []))
+      ∙ ap (λ (t : List Reading). t ++ (Some (frame 0x90 n 0) ∷ [])) (sym (map-append (λ l. lined (some l)) above ms))
       ∙ (λ u. read_as (a u) (b u))
 
   list-readings : (list : List ℕ) (ls : List Line) (size : ℕ) → read_list room list ≡ listed ls size → readings list ≡ read_as ls size
@@ -96,7 +94,7 @@ none_left : {P : Type 0} (i : ℕ) (l : Line) (more : List Line) → drop i [] �
 none_left zero l more e = absurd (let z : ◌≡◌ {A = ℕ} 0 1 = cc in omega arith)
 none_left (suc i) l more e = absurd (let z : ◌≡◌ {A = ℕ} 0 1 = cc in omega arith)
 
-nth-reading : (ls : List Line) (rs : List Reading) (i : ℕ) (l : Line) (more : List Line) → drop i ls ≡ l ∷ more → get_or (linings ls ++ rs) i Malformed ≡ lined (some l)
+nth-reading : (ls : List Line) (rs : List Reading) (i : ℕ) (l : Line) (more : List Line) → drop i ls ≡ l ∷ more → get_or (linings ls ++ rs) i None ≡ lined (some l)
 nth-reading [] rs i l more e = none_left i l more e
 nth-reading (m ∷ ms) rs zero l more e = let z : m ≡ l = cc in ap (λ (x : Line). lined (some x)) z
 nth-reading (m ∷ ms) rs (suc i) l more e = nth-reading ms rs i l more e
@@ -111,29 +109,29 @@ drop-some [] i l more e = none_left i l more e
 drop-some (m ∷ ms) zero l more e = omega arith
 drop-some (m ∷ ms) (suc i) l more e = omega (arith, drop-some ms i l more e)
 
-first-number : (row : ℕ) (l : Line) → One (unpacked row) ≡ lined (some l) → row / 0x10000 % 0x10000 ≡ get_or (operands_of l) 0 0
+first-number : (row : ℕ) (l : Line) → Some (unpacked row) ≡ lined (some l) → row / 0x10000 % 0x10000 ≡ get_or (operands_of l) 0 0
 first-number row l e =
     let f : unpacked row ≡ frame (opcode_of l) (get_or (operands_of l) 0 0) (get_or (operands_of l) 1 0) = cc in
     ap (λ (x : code.Frame). x.a) f
 
-module _ (list shown : List ℕ) (lines size : ℕ) (t : TheList list shown lines size) where
-  row_first : (i : ℕ) → pick (ltb i lines) (get_or shown i 0 / 0x10000 % 0x10000) 0xffff ≡ shown_first (drop i t.all)
+module _ (list rows : List ℕ) (size : ℕ) (t : TheList list rows size) where
+  row_first : (i : ℕ) → pick (ltb i (length rows)) (get_or rows i 0 / 0x10000 % 0x10000) 0xffff ≡ shown_first (drop i t.all)
   row_first i = go (drop i t.all) refl
     where
-      go : (rest : List Line) → drop i t.all ≡ rest → pick (ltb i lines) (get_or shown i 0 / 0x10000 % 0x10000) 0xffff ≡ shown_first rest
-      go [] e = rw (le-ltb i lines (omega (arith, t.many, drop-none t.all i e)))
+      go : (rest : List Line) → drop i t.all ≡ rest → pick (ltb i (length rows)) (get_or rows i 0 / 0x10000 % 0x10000) 0xffff ≡ shown_first rest
+      go [] e = rw (le-ltb i (length rows) (omega (arith, t.many, drop-none t.all i e)))
       go (l ∷ more) e =
-          let h : i < lines = omega (arith, t.many, drop-some t.all i l more e) in
-          rw (lt-ltb i lines h)
-          (first-number (get_or shown i 0) l (t.rows i h ∙ ap (λ (x : List Reading). get_or x i Malformed) (list-readings base list t.all size t.reads) ∙ nth-reading t.all _ i l more e))
+          let h : i < length rows = omega (arith, t.many, drop-some t.all i l more e) in
+          rw (lt-ltb i (length rows) h)
+          (first-number (get_or rows i 0) l (t.rows_are i h ∙ ap (λ (x : List Reading). get_or x i None) (list-readings base list t.all size t.reads) ∙ nth-reading t.all _ i l more e))
 
   -- ---- the loop
 
-  pub shown-at : (i : ℕ) → guide_at (Shown lines) shown i ≡ exactly_at (shown_first (drop i t.all))
+  pub shown-at : (i : ℕ) → shown_at rows i ≡ exactly_at (shown_first (drop i t.all))
   shown-at i = ap exactly_at (row_first i)
 
   abbrev by : ℕ → Place
-  by = guide_at (Shown lines) shown
+  by = shown_at rows
 
   steps-shown : (fs : List Frame) (i : ℕ) (s : State) → steps_at by i s fs ≡ shown_steps base i s fs (drop i t.all)
   unfolding steps_at shown_steps as_shown onward

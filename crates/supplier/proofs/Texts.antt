@@ -1,40 +1,17 @@
 -- Equal bytes are equal lines: of two lists, one on a page and one that was read, of equal length, the bytes before the size line are the same
 -- exactly if the lines are. Assumes nothing.
-use mathlib.Core.Path.{◌≡◌, refl, sym, ap, subst, ◌∙◌}
+use mathlib.Core.Path.{◌≡◌, sym, ap, ◌∙◌}
 use mathlib.Core.List.{List, [], ◌∷◌, ◌++◌, append-nil}
-use Prim.Native.Nat.{ℕ, zero, suc, ◌+◌, ◌-◌, ◌≤◌, ◌<◌}
+use Prim.Native.Nat.{ℕ, ◌+◌, ◌-◌, ◌≤◌}
 use native.Mathlib.Omega.{arith}
-use native.Mathlib.Numerals.{add-one}
-use lib.ListN.{length, get_or, take, length-append}
-use lib.Seq.{take_at, take-take, take-suc}
+use lib.ListN.{length, take, length-append}
+use lib.Seq.{take_at, take-take}
 use Rattle.rules.specs.Sizes.{base}
 use Rattle.rules.specs.Frames.{Line, shows}
 use Rattle.rules.specs.Text.{line_text, list_text, listed, read_list}
 use Rattle.rules.proofs.Lengths.{line-length}
 use Rattle.translate.specs.Whole.{lines_text}
 use Rattle.translate.proofs.Written.{list_on}
-
--- ---- bytes, one by one
-
-pub front-on : (s t : List ℕ) (i : ℕ) → i < length s → i < length t → take i s ≡ take i t → get_or s i 0 ≡ get_or t i 0 → take (i + 1) s ≡ take (i + 1) t
-front-on s t i h k e q =
-    ap (λ (n : ℕ). take n s) (add-one i) ∙ take-suc s i 0 h ∙ (λ u. e u ++ (q u ∷ [])) ∙ sym (take-suc t i 0 k) ∙ sym (ap (λ (n : ℕ). take n t) (add-one i))
-
-pub front-all : (s t : List ℕ) (i n : ℕ) → i ≤ n → n ≤ i → take i s ≡ take i t → take n s ≡ take n t
-front-all s t i n a b e = let q : i ≡ n = omega arith in subst (λ (k : ℕ). take k s ≡ take k t) q e
-
-get_d_take : (s : List ℕ) (i n : ℕ) → i < n → get_or (take n s) i 0 ≡ get_or s i 0
-get_d_take [] i n h = go i n
-  where
-    go : (i n : ℕ) → get_or {A = ℕ} (take n []) i 0 ≡ get_or {A = ℕ} [] i 0
-    go i zero = refl
-    go i (suc n) = refl
-get_d_take (a ∷ s) zero (suc n) h = refl
-get_d_take (a ∷ s) (suc i) (suc n) h = get_d_take s i n (omega arith)
-get_d_take (a ∷ s) i zero h = absurd (omega arith)
-
-pub front-off : (s t : List ℕ) (i n : ℕ) → i < n → (get_or s i 0 ≡ get_or t i 0 → ⊥) → take n s ≡ take n t → ⊥
-front-off s t i n h ne e = ne (sym (get_d_take s i n h) ∙ ap (λ (l : List ℕ). get_or l i 0) e ∙ get_d_take t i n h)
 
 -- ---- a list's lines, and its size line of seven bytes
 

@@ -2,92 +2,71 @@
 // shows it.
 #![tactic(auto)]
 
-ghost use Rattle.std.specs.Prelude.{◌≡◌, ◌≤◌, length, take};
+ghost use Rattle.std.specs.Prelude.{◌≡◌};
 ghost use Rattle.rules.specs.Sizes.{base};
 ghost use Rattle.rules.specs.Suppliers.{verdict, verdict_answer};
-ghost use Rattle.rules.specs.Tells.{Tells};
-ghost use Rattle.supplier.specs.Judged.{Read, TheList, SaysShown, SaysBoth};
+ghost use Rattle.supplier.specs.Judged.{Read, TheList, SaysShown, SaysBoth, answered};
 
 use rules::{LINES, PAGE};
-use text::refusal::refuse;
-use text::whole::{CheckedScript, Listing, check_list, check_script};
-use translate::whole::{Ended, steps, steps_shown};
+use text::refusal::RefusedAt;
+use text::whole::{check_list, check_script};
+use translate::whole::{steps, steps_shown};
 
 // The size line has so many bytes.
 const SIZE_LINE: usize = 7;
 
-// The first n bytes of a text are those of a page.
-fn same_front(text: &[u8], page: &[u8], n: usize) -> bool
-    requires { (n ≤ length text.now) × (n ≤ length page.now) }
-    ensures { Tells result (take n text.now ≡ take n page.now) }
-{
-    let mut i: usize = 0;
-    while i < n {
-        if text[i] != page[i] {
-            return false;
-        }
-        i += 1;
-    }
-    true
-}
-
-// The steps over the list's own addresses give its lines, and need no larger size than its own. The table has its lines.
-fn agrees_shown(script: &[u8], list: &[u8], shown: &[u64], lines: usize, size: usize) -> bool
-    requires { Read script.now × TheList list.now shown.now lines size }
-    ensures { SaysShown script.now list.now shown.now lines size result }
+// The steps over the list's own addresses give its lines, and need no larger size than its own. The rows are those of its lines.
+fn agrees_shown(script: &[u8], list: &[u8], rows: &[u64], size: usize) -> bool
+    requires { Read script.now × TheList list.now rows.now size }
+    ensures { SaysShown script.now list.now rows.now size result }
 {
     let mut page = [0u8; PAGE];
-    match steps_shown(script, shown, lines, &mut page) {
-        Ended::Refused(_, _) => false,
-        Ended::Listed(n, needs) => {
-            if list.len() != n {
+    match steps_shown(script, rows, &mut page) {
+        Err(_) => false,
+        Ok(l) => {
+            if list.len() != l.bytes || size < l.size {
                 return false;
             }
-            if size < needs {
-                return false;
-            }
-            same_front(list, &page, n - SIZE_LINE)
+            let front = l.bytes - SIZE_LINE;
+            list[..front] == page[..front]
         }
     }
 }
 
-// Both texts are read. The script's own steps come first: a script that they refuse gets a no.
-fn agrees_both(script: &[u8], list: &[u8], shown: &[u64], lines: usize, size: usize) -> bool
-    requires { Read script.now × TheList list.now shown.now lines size }
-    ensures { SaysBoth script.now list.now shown.now lines size result }
+// Both texts are read. The script's own steps come first: a script that they refuse gets a no, whatever the number, 7 too.
+fn agrees_both(script: &[u8], list: &[u8], rows: &[u64], size: usize) -> bool
+    requires { Read script.now × TheList list.now rows.now size }
+    ensures { SaysBoth script.now list.now rows.now size result }
 {
     let mut page = [0u8; PAGE];
-    match steps(script, &mut page) {
-        Ended::Refused(_, _) => false, // whatever the number, 7 too
-        Ended::Listed(_, _) => agrees_shown(script, list, shown, lines, size),
-    }
+    steps(script, &mut page).is_ok() && agrees_shown(script, list, rows, size)
 }
 
 // The script is read: 1 and 2 of the list, then yes or no.
-fn agrees_read(script: &[u8], list: &[u8]) -> u64
+fn agrees_read(script: &[u8], list: &[u8]) -> Result<bool, RefusedAt>
     requires { Read script.now }
-    ensures { result ≡ verdict_answer (verdict base script.now list.now) }
+    ensures { answered result ≡ verdict_answer (verdict base script.now list.now) }
 {
-    let mut shown = [0u64; LINES];
-    match check_list(list, &mut shown) {
-        Listing::Unread(m, i) => refuse(m, i),
-        Listing::Read(size, lines) => {
-            if agrees_both(script, list, &shown, lines, size) {
-                return 1;
-            }
-            0
-        }
-    }
+    let mut table = [0u64; LINES];
+    let read = check_list(list, &mut table)?;
+    Ok(agrees_both(script, list, &table[..read.lines], read.size))
 }
 
-// Says whether the list agrees with the script: 1 for yes, 0 for no; or, where one of them can't be read, the number and the line of its
-// refusal, the script's before the list's.
+// Whether the list agrees with the script; or, where one of them can't be read, the refusal, the script's before the list's.
+pub fn judged(script: &[u8], list: &[u8]) -> Result<bool, RefusedAt>
+    ensures { answered result ≡ verdict_answer (verdict base script.now list.now) }
+{
+    check_script(script)?;
+    agrees_read(script, list)
+}
+
+// The same as a number: 1 for yes, 0 for no; or the number and the line of the refusal.
 #[unsafe(no_mangle)]
 pub extern "C" fn agrees(script: &[u8], list: &[u8]) -> u64
     ensures { result ≡ verdict_answer (verdict base script.now list.now) }
 {
-    match check_script(script) {
-        CheckedScript::Refused(m, i) => refuse(m, i),
-        CheckedScript::Good(_) => agrees_read(script, list),
+    match judged(script, list) {
+        Ok(yes) => u64::from(yes),
+        Err(e) => u64::from(e),
     }
 }

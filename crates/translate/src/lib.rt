@@ -1,50 +1,37 @@
 // Scripts into lists: the steps of all frames, the page, and translate.
+// Where `as` takes a number to another type, it fits, and the proof says so: `From` has no such step, and `try_from` would bring an error that can't be.
 #![tactic(auto)]
 
-ghost use Rattle.std.specs.Prelude.{◌≡◌, ◌++◌, ◌≤◌, length, take, drop};
+ghost use Rattle.std.specs.Prelude.{◌≡◌, ◌≤◌, true, length};
+ghost use Rattle.std.specs.Result.{is_err};
 ghost use Rattle.rules.specs.Sizes.{base, PAGE};
-ghost use Rattle.rules.specs.Entries.{refusal_answer, translate_entry};
-ghost use Rattle.translate.specs.Whole.{longest_of, LeavesList, LeavesOn};
+ghost use Rattle.rules.specs.Entries.{translate_entry};
+ghost use Rattle.translate.specs.Whole.{longest_of, told, LeavesList, LeavesOn};
 
-use rules::PAGE;
-use text::refusal::refuse;
-use whole::{Ended, steps_on};
+use rules::{PAGE, Refusal};
+use text::refusal::RefusedAt;
+use whole::steps_on;
 
 pub mod whole; // all steps of a script, and the page
 
-// The first n bytes of the page go to the start of the list.
-fn copy(page: &[u8], list: &mut [u8], n: usize)
-    requires { (n ≤ length page.now) × (n ≤ length list.old) }
-    ensures { list.new ≡ take n page.now ++ drop n list.old }
-{
-    let mut i: usize = 0;
-    while i < n {
-        list[i] = page[i];
-        i += 1;
-    }
-}
-
-// Translates the script on this page: its lines and their steps, and 17 last; or 17 where the page may be too short for the list.
-fn translate_on(script: &[u8], page: &mut [u8], list: &mut [u8]) -> u64
+// Translates the script on this page: its lines and their steps, and 17 last; or 17 where the page may be too short for the list. It answers
+// how many bytes the list takes.
+fn translate_on(script: &[u8], page: &mut [u8], list: &mut [u8]) -> Result<usize, RefusedAt>
     requires { (longest_of 1 0 ≤ length page.old) × (length page.old ≤ PAGE) }
     ensures leaves_on { LeavesOn (length page.old) (translate_entry base script.now list.old) result list.new }
-    ensures list_unchanged { result ≡ refusal_answer 17 0 → list.new ≡ list.old }
+    ensures list_unchanged { is_err result ≡ true → list.new ≡ list.old }
 {
-    match steps_on(script, page) {
-        Ended::Refused(m, i) => refuse(m, i),
-        Ended::Listed(n, _) => {
-            if list.len() < n {
-                return refuse(17, 0);
-            }
-            copy(page, list, n);
-            n as u64
-        }
+    let n = steps_on(script, page)?.bytes;
+    if list.len() < n {
+        return Err(RefusedAt::new(Refusal::MemoryTooShort, 0));
     }
+    list[..n].copy_from_slice(&page[..n]);
+    Ok(n)
 }
 
 // The same on a page that no list outgrows.
-fn translate_whole(script: &[u8], list: &mut [u8]) -> u64
-    ensures { LeavesList (translate_entry base script.now list.old) result list.new }
+fn translate_whole(script: &[u8], list: &mut [u8]) -> Result<usize, RefusedAt>
+    ensures { LeavesList (translate_entry base script.now list.old) (told result) list.new }
 {
     let mut page = [0u8; PAGE];
     translate_on(script, &mut page, list)
@@ -56,19 +43,29 @@ const SHORT_SCRIPT: usize = 2048;
 
 const SHORT_PAGE: usize = 8192;
 
+fn translate_short(script: &[u8], list: &mut [u8]) -> Result<usize, RefusedAt>
+    ensures { LeavesList (translate_entry base script.now list.old) (told result) list.new }
+{
+    let mut page = [0u8; SHORT_PAGE];
+    match translate_on(script, &mut page, list) {
+        Err(e) if e.refusal == Refusal::MemoryTooShort => translate_whole(script, list),
+        r => r,
+    }
+}
+
 // Translates the script: its lines and their steps, and 17 last. The answer is how many bytes the list takes; or, on a refusal, its number and
 // its line, and then the lent memory is as it was.
 #[unsafe(no_mangle)]
 pub extern "C" fn translate(script: &[u8], list: &mut [u8]) -> u64
     ensures { LeavesList (translate_entry base script.now list.old) result list.new }
 {
-    if SHORT_SCRIPT < script.len() {
-        return translate_whole(script, list);
+    let r = if script.len() <= SHORT_SCRIPT {
+        translate_short(script, list)
+    } else {
+        translate_whole(script, list)
+    };
+    match r {
+        Ok(n) => n as u64,
+        Err(e) => u64::from(e),
     }
-    let mut page = [0u8; SHORT_PAGE];
-    let r = translate_on(script, &mut page, list);
-    if r != refuse(17, 0) {
-        return r;
-    }
-    translate_whole(script, list)
 }

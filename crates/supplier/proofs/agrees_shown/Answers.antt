@@ -1,24 +1,21 @@
 -- The steps over the list's own addresses, compared with the list. Assumes nothing.
-use native.Mathlib.Omega.{arith}
-use Rattle.supplier.proofs.Verdicts.{shown-refused, page-within, size-line, other_length, too_small, by_bytes}
+use borrow.Author.Rules.{rules}
+use Rattle.supplier.proofs.Verdicts.{shown-refused, size-line, other_length, too_small, by_bytes}
 use Rattle.supplier.proofs.agrees_shown.Goals as goal
+use Rattle.supplier.proofs.agrees_shown.Goals.{then-list-l-via-then-list-l, then-list-l-via-else-list-l+then-size-l}
 
-pub returns-then-list-n : goal.returns-then-list-n
-returns-then-list-n c = other_length c.args.script.now c.args.list.now c.args.shown.now _ c.args.lines c.args.size c.requires.0 c.steps_shown.result c.steps_shown.ensures _ _ c.in-Listed.is c.if-list-n.true
+pub returns-then-list-l : goal.returns-then-list-l
+returns-then-list-l c =
+    elim c.then-list-l.branch [
+      | then-list-l-via-then-list-l w ↦ other_length _ _ _ _ _ c.requires.0 c.in-Ok.l c.in-Ok.ensures w.if-list-l.true
+      | then-list-l-via-else-list-l+then-size-l w ↦ too_small _ _ _ _ _ c.requires.0 c.in-Ok.l c.in-Ok.ensures w.if-size-l.true
+    ]
 
-pub returns-then-size-needs : goal.returns-then-size-needs
-returns-then-size-needs c = too_small c.args.script.now c.args.list.now c.args.shown.now _ c.args.lines c.args.size c.requires.0 c.steps_shown.result c.steps_shown.ensures _ _ c.in-Listed.is c.if-size-needs.true
+pub overflow_sub-front : goal.overflow_sub-front
+overflow_sub-front c = size-line _ _ _ _ _ c.requires.0 c.in-Ok.l c.in-Ok.ensures c.requires.1
 
-pub overflow_sub-n : goal.overflow_sub-n
-overflow_sub-n c = size-line c.args.script.now c.args.list.now c.args.shown.now _ c.args.lines c.args.size c.requires.0 c.steps_shown.result c.steps_shown.ensures _ _ c.in-Listed.is c.requires.1
+pub returns-in-Err : goal.returns-in-Err
+returns-in-Err c = shown-refused _ _ _ c.steps_shown.new.page _ c.requires.0 c.in-Err.field-0 c.in-Err.ensures
 
-pub same_front-requires : goal.same_front-requires
-same_front-requires c =
-    let w = page-within c.args.script.now c.args.list.now c.args.shown.now _ c.args.lines c.args.size c.requires.0 c.steps_shown.result c.steps_shown.ensures _ _ c.in-Listed.is c.requires.1 in
-    (omega (arith, c.if-list-n.false), omega (arith, w))
-
-pub returns-in-Refused : goal.returns-in-Refused
-returns-in-Refused c = shown-refused c.args.script.now c.args.list.now c.args.shown.now _ c.args.lines c.args.size c.requires.0 c.steps_shown.result c.steps_shown.ensures _ _ c.in-Refused.is
-
-pub returns-else-size-needs : goal.returns-else-size-needs
-returns-else-size-needs c = by_bytes c.args.script.now c.args.list.now c.args.shown.now _ c.args.lines c.args.size c.requires.0 c.steps_shown.result c.steps_shown.ensures _ _ c.in-Listed.is c.if-size-needs.false c.if-list-n.false _ c.same_front.ensures
+pub returns-else-size-l : goal.returns-else-size-l
+returns-else-size-l c = by_bytes _ _ _ _ _ c.requires.0 c.in-Ok.l c.in-Ok.ensures c.if-size-l.false c.if-list-l.false c.eq.result (search rules)

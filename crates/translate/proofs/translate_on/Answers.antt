@@ -1,30 +1,18 @@
--- `translate_on` meets its contract, over the rules' own `translate_entry`. Assumes nothing.
-use mathlib.Core.Path.{refl}
-use native.Mathlib.Omega.{arith}
-use Rattle.translate.proofs.Left.{late-line, left-refused, left-short, page-room, left-list, page-same}
+-- The list goes from the page to lent memory, or a refusal leaves that. Assumes nothing.
+use borrow.Author.Rules.{rules}
+use Rattle.std.proofs.lemmas.Result.{err_from_is_err_and}
+use Rattle.translate.proofs.Left.{left-refused, left-short, left-list, page-same}
 use Rattle.translate.proofs.translate_on.Goals as goal
 
-pub refuse-requires : goal.refuse-requires
-refuse-requires c = omega (arith, late-line c.args.script.now c.args.list.now c.steps_on.new.page c.steps_on.result c.steps_on.ensures _ _ c.in-Refused.is)
+pub returns-in_err-n-clause-leaves_on : goal.returns-in_err-n-clause-leaves_on
+returns-in_err-n-clause-leaves_on c =
+    let p = err_from_is_err_and c.from_residual.result c.from_residual.ensures.1 in
+    rw (p.1, p.2) (page-same c.steps_on.auto.page (left-refused c.args.script.now c.args.list.now c.steps_on.new.page _ c.in_err-n.ensures))
 
-pub returns-then-list-n : goal.returns-then-list-n
-returns-then-list-n c = record {
-  leaves_on = page-same c.steps_on.auto.page (left-short c.args.script.now c.args.list.now c.steps_on.new.page c.steps_on.result c.steps_on.ensures _ _ _ c.in-Listed.is c.if-list-n.true c.refuse-then-list-n.ensures);
-  list_unchanged = λ e. refl;
-}
+pub returns-then-list-n-clause-leaves_on : goal.returns-then-list-n-clause-leaves_on
+returns-then-list-n-clause-leaves_on c = rw c.new.ensures (page-same c.steps_on.auto.page (left-short c.args.script.now c.args.list.now c.steps_on.new.page c.in_ok-n.field-0 c.in_ok-n.ensures c.if-list-n.true))
 
-pub copy-requires : goal.copy-requires
-copy-requires c = (page-room c.args.script.now c.args.list.now c.steps_on.new.page c.steps_on.result c.steps_on.ensures _ _ c.in-Listed.is, c.if-list-n.false)
-
-pub returns-in-Refused : goal.returns-in-Refused
-returns-in-Refused c = record {
-  leaves_on = page-same c.steps_on.auto.page (left-refused c.args.script.now c.args.list.now c.steps_on.new.page c.steps_on.result c.steps_on.ensures _ _ _ c.in-Refused.is c.refuse.ensures);
-  list_unchanged = λ e. refl;
-}
-
-pub returns-else-list-n : goal.returns-else-list-n
-returns-else-list-n c =
-    let room = page-room c.args.script.now c.args.list.now c.steps_on.new.page c.steps_on.result c.steps_on.ensures _ _ c.in-Listed.is in record {
-      leaves_on = page-same c.steps_on.auto.page (left-list c.args.script.now c.args.list.now c.steps_on.new.page c.steps_on.result c.steps_on.ensures _ _ _ c.in-Listed.is c.if-list-n.false c.copy.ensures);
-      list_unchanged = λ e. absurd (omega (arith, e, room, c.steps_on.auto.page, c.requires.1));
-    }
+pub returns-clause-leaves_on : goal.returns-clause-leaves_on
+returns-clause-leaves_on c =
+    page-same c.steps_on.auto.page
+    (left-list c.args.script.now c.args.list.now c.steps_on.new.page c.in_ok-n.field-0 c.in_ok-n.ensures _ c.if-list-n.false (search rules))
