@@ -1,7 +1,8 @@
 // What a program reads: standard input, or a file that an argument names.
 #![tactic(auto)]
 
-ghost use Rattle.std.specs.Prelude.{◌≡◌, ℕ, ◌≤◌, length, IfOk};
+ghost use Rattle.std.specs.Prelude.{◌≡◌, ℕ, ◌≤◌, length, IfOk, IfSome};
+ghost use Rattle.std.specs.Result.{result_ok};
 ghost use Rattle.input.specs.Within.{Within};
 
 use std::env::{Env, FillError};
@@ -10,12 +11,11 @@ use std::io;
 use std::io::{ErrorKind, Read, Write};
 use std::str::from_utf8;
 
-// All of it, in so many bytes at the start of the buffer, where room is left; or the buffer is full, and more may follow; or a read failed.
+// All of it, in so many bytes at the start of the buffer, where room is left; or the buffer is full, and more may follow.
 #[derive(Clone, Copy)]
 pub enum Input {
     Whole(usize),
     Full,
-    Failed,
 }
 
 // An argument that names a file is no longer than this.
@@ -37,7 +37,7 @@ fn words_end(text: &[u8; WORDS]) -> usize
 }
 
 // Writes a line to standard error: what failed, a colon and the error's words.
-pub fn fail(rt: &HostRuntime, what: &[u8], error: io::Error) {
+fn fail(rt: &HostRuntime, what: &[u8], error: io::Error) {
     let mut text = [0u8; WORDS];
     let mut room = &mut text[..];
     let _ = write!(room, "{error}");
@@ -54,6 +54,7 @@ fn fill<R: Read>(from: &mut R, buf: &mut [u8]) -> io::Result<Input>
     ensures { IfOk result (λ r. Within r (length buf.old)) }
 {
     let mut n: usize = 0;
+    // a read takes as many bytes as come, so no `for`
     while n < buf.len() {
         let more = from.read(&mut buf[n..])?;
         if more == 0 {
@@ -64,15 +65,15 @@ fn fill<R: Read>(from: &mut R, buf: &mut [u8]) -> io::Result<Input>
     Ok(Input::Full)
 }
 
-// The same, and a word on standard error where a read failed.
-fn fill_or_say<R: Read>(rt: &HostRuntime, from: &mut R, buf: &mut [u8], name: &[u8]) -> Input
-    ensures { Within result (length buf.old) }
+// What was answered; of an error a word on standard error instead.
+pub fn or_say<T>(rt: &HostRuntime, what: &[u8], answer: io::Result<T>) -> Option<T>
+    ensures { result ≡ result_ok answer }
 {
-    match fill(from, buf) {
-        Ok(r) => r,
+    match answer {
+        Ok(v) => Some(v),
         Err(e) => {
-            fail(rt, name, e);
-            Input::Failed
+            fail(rt, what, e);
+            None
         }
     }
 }
@@ -85,24 +86,13 @@ fn open_read(rt: &HostRuntime, path: &[u8]) -> io::Result<File> {
     }
 }
 
-fn read_file(rt: &HostRuntime, path: &[u8], buf: &mut [u8]) -> Input
-    ensures { Within result (length buf.old) }
-{
-    match open_read(rt, path) {
-        Ok(mut file) => fill_or_say(rt, &mut file, buf, path),
-        Err(e) => {
-            fail(rt, path, e);
-            Input::Failed
-        }
-    }
+fn open(rt: &HostRuntime, path: &[u8]) -> Option<File> {
+    or_say(rt, path, open_read(rt, path))
 }
 
 // Is there an argument k? The program's own name is argument 0.
 pub fn has_argument(rt: &HostRuntime, k: usize) -> bool {
-    match rt.arg(k, &mut []) {
-        Err(FillError::NotPresent) => false,
-        _ => true,
-    }
+    !matches!(rt.arg(k, &mut []), Err(FillError::NotPresent))
 }
 
 // The system's EINVAL and ENAMETOOLONG.
@@ -118,47 +108,36 @@ fn no_argument(e: FillError) -> io::Error {
     }
 }
 
-// The file that argument k names.
-pub fn read_argument(rt: &HostRuntime, k: usize, buf: &mut [u8]) -> Input
-    ensures { Within result (length buf.old) }
+// The path that argument k is: so many bytes at the start of the buffer.
+fn argument(rt: &HostRuntime, k: usize, path: &mut [u8]) -> Option<usize>
+    ensures fits { IfSome result (λ n. n ≤ length path.old) }
+    ensures length_kept { length path.new ≡ length path.old }
+{
+    or_say(rt, b"argument", rt.arg(k, path).map_err(no_argument))
+}
+
+// What was read of the file that argument k names; or none, and a word on standard error.
+pub fn read_argument(rt: &HostRuntime, k: usize, buf: &mut [u8]) -> Option<Input>
+    ensures { IfSome result (λ r. Within r (length buf.old)) }
 {
     let mut path = [0u8; PATH];
-    match rt.arg(k, &mut path) {
-        Ok(n) => read_file(rt, &path[..n], buf),
-        Err(e) => {
-            fail(rt, b"argument", no_argument(e));
-            Input::Failed
-        }
-    }
+    let n = argument(rt, k, &mut path)?;
+    let mut file = open(rt, &path[..n])?;
+    or_say(rt, &path[..n], fill(&mut file, buf))
 }
 
 // Opens the file that argument k names; or there is none, and a word on standard error.
 pub fn open_argument(rt: &HostRuntime, k: usize) -> Option<File> {
     let mut path = [0u8; PATH];
-    match rt.arg(k, &mut path) {
-        Ok(n) => open_or_say(rt, &path[..n]),
-        Err(e) => {
-            fail(rt, b"argument", no_argument(e));
-            None
-        }
-    }
+    let n = argument(rt, k, &mut path)?;
+    open(rt, &path[..n])
 }
 
-fn open_or_say(rt: &HostRuntime, path: &[u8]) -> Option<File> {
-    match open_read(rt, path) {
-        Ok(file) => Some(file),
-        Err(e) => {
-            fail(rt, path, e);
-            None
-        }
-    }
-}
-
-pub fn read_input(rt: &HostRuntime, buf: &mut [u8]) -> Input
-    ensures { Within result (length buf.old) }
+pub fn read_input(rt: &HostRuntime, buf: &mut [u8]) -> Option<Input>
+    ensures { IfSome result (λ r. Within r (length buf.old)) }
 {
     if !has_argument(rt, 1) {
-        return fill_or_say(rt, &mut rt.stdin(), buf, b"standard input");
+        return or_say(rt, b"standard input", fill(&mut rt.stdin(), buf));
     }
     read_argument(rt, 1, buf)
 }

@@ -9,14 +9,13 @@ use Rattle.rules.specs.Sizes.{base, LINES}
 use Rattle.rules.specs.Entries.{read_entry, recorded_prints}
 use Rattle.recordings.specs.Reading.{LeavesSamples}
 use Rattle.recordings.proofs.ReadOn.{read_none, read-on}
-use Rattle.input.specs.declared.Input as input
-use Rattle.input.specs.declared.Input.TheVariants as input-read
+use Rattle.input.specs.declared.Input.{Input}
 use Rattle.answers.specs.Prints.{Prints, beside_prints}
 use Rattle.answers.proofs.Printed.{prints-one, prints-as}
 use Rattle.answers.proofs.Told.{told-prints}
 use Rattle.answers.proofs.Beside.{beside-longer}
-use Rattle.programs.specs.declared.beside.Recorded.{Recorded}
-use Rattle.programs.specs.declared.beside.Recorded.TheVariants.{State, Failed}
+use Rattle.std.specs.declared.option.Option.{Option}
+use Rattle.std.specs.declared.option.Option.TheVariants.{Some, None}
 use Rattle.programs.specs.Printed.{Answers}
 use Rattle.programs.specs.Recorded.{OfBytes, ReadBy, with_samples, AnswersBeside}
 use Rattle.programs.proofs.HandedOn.{RefusesLonger, answers_one}
@@ -41,27 +40,27 @@ printed-beside list state memory samples h o =
 pub list-longer-beside : (state : ℕ) (samples : List ℕ) → RefusesLonger (with_samples state samples)
 list-longer-beside state samples list h = beside-longer list state samples h
 
-module _ (read : input.Input) (list : List ℕ) (recording : Recorded) (samples out : List ℕ) (r : ℕ) (out' : List ℕ) where
-  pub answers-beside : (n : ℕ) → recording ≡ State n → Answers (with_samples n samples) read list out r out' → AnswersBeside read list recording samples out r out'
+module _ (read : Option Input) (list : List ℕ) (recording : Option ℕ) (samples out : List ℕ) (r : ℕ) (out' : List ℕ) where
+  pub answers-beside : (n : ℕ) → recording ≡ Some n → Answers (with_samples n samples) read list out r out' → AnswersBeside read list recording samples out r out'
   answers-beside n e p = record {
     prints = λ l o state q room h b. let s : n ≡ state = cc in prints-as (ap (λ (m : ℕ). with_samples m samples l) s ∙ printed-beside l state room samples (omega arith) b) (p.prints l o);
     fails = go;
   }
     where
-      go : (read ≡ input-read.Failed) ⊎ (recording ≡ Failed) → Prints [] out r out'
+      go : (read ≡ None) ⊎ (recording ≡ None) → Prints [] out r out'
       go (inl q) = p.fails q
-      go (inr q) = absurd (let z : ◌≡◌ {A = ℕ} 0 1 = cc in omega arith)
+      go (inr q) = cc
 
-  pub beside_none : recording ≡ Failed → Prints [] out r out' → AnswersBeside read list recording samples out r out'
-  beside_none e p = record { prints = λ l o state q. absurd (let z : ◌≡◌ {A = ℕ} 0 1 = cc in omega arith); fails = λ q. p }
+  pub beside_none : recording ≡ None → Prints [] out r out' → AnswersBeside read list recording samples out r out'
+  beside_none e p = record { prints = λ l o state q. cc; fails = λ q. p }
 
 -- any two results that the promise admits are equal, for a recording that left this state and these samples, or one that could not be read
 module _ (list samples out : List ℕ) (r : ℕ) (out' : List ℕ) (m : ℕ) (out'' : List ℕ) where
-  beside : (read : input.Input) (state : ℕ) (room : List ℕ) → length room ≡ 2 * LINES → (o : OfBytes state room samples) → {n : ℕ} {out''' : List ℕ} → AnswersBeside read list (State state) samples out n out'''
+  beside : (read : Option Input) (state : ℕ) (room : List ℕ) → length room ≡ 2 * LINES → (o : OfBytes state room samples) → {n : ℕ} {out''' : List ℕ} → AnswersBeside read list (Some state) samples out n out'''
       → Answers (λ l. beside_prints base l o.bytes) read list out n out'''
   beside read state room h o a = record { prints = λ l q. a.prints l q state refl room h o; fails = λ e. a.fails (inl e) }
 
-  pub beside-one : (read : input.Input) (recording : Recorded) (room : List ℕ) → length room ≡ 2 * LINES → ReadBy recording room samples
+  pub beside-one : (read : Option Input) (recording : Option ℕ) (room : List ℕ) → length room ≡ 2 * LINES → ReadBy recording room samples
       → AnswersBeside read list recording samples out r out' → AnswersBeside read list recording samples out m out'' → (r ≡ m) × (out' ≡ out'')
-  beside-one read (State n) room h o a b = answers_one _ list out r out' m out'' read (beside read n room h o a) (beside read n room h o b)
-  beside-one read Failed room h o a b = prints-one (a.fails (inr refl)) (b.fails (inr refl))
+  beside-one read (Some n) room h o a b = answers_one _ list out r out' m out'' read (beside read n room h o a) (beside read n room h o b)
+  beside-one read None room h o a b = prints-one (a.fails (inr refl)) (b.fails (inr refl))

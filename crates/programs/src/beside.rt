@@ -2,10 +2,11 @@
 ghost use Rattle.std.specs.Prelude.{IfOk};
 ghost use Rattle.input.specs.Counts.{IsPrefixLen};
 ghost use Rattle.programs.specs.Printed.{ReadInto, Answers};
-ghost use Rattle.programs.specs.Recorded.{ReadBy, with_samples, AnswersBeside};
+ghost use Rattle.programs.specs.Recorded.{OfBytes, ReadBy, with_samples, AnswersBeside};
 
+use crate::handed_on;
 use answers::recorded;
-use input::{Input, fail, open_argument, read_argument};
+use input::{Input, open_argument, or_say, read_argument};
 use recordings::read_recording;
 use rules::{LINES, LONGER, TEXT};
 use std::fs::File;
@@ -21,65 +22,50 @@ const BYTES: u64 = 30064771066;
 // From here on a state says that a line is malformed, and nothing that follows changes that.
 const MALFORMED: u64 = 0x7_0000_0000_0000;
 
-// The state that the bytes of a recording leave; or a read failed.
-#[derive(Clone, Copy)]
-pub enum Recorded {
-    State(u64),
-    Failed,
-}
-
-// Reads part after part, whatever the recording's size.
-fn read_parts(file: &mut File, samples: &mut [u8]) -> io::Result<Recorded>
-    ensures { IfOk result (λ r. ReadBy r samples.old samples.new) }
+// Reads part after part, whatever the recording's size, to the state that its bytes leave.
+fn read_parts(file: &mut File, samples: &mut [u8]) -> io::Result<u64>
+    ensures { IfOk result (λ state. OfBytes state samples.old samples.new) }
 {
     let mut part = [0u8; 65536];
     let mut state: u64 = 0;
     let mut bytes: u64 = 0;
+    // a read takes as many bytes as come, so no `for`
     while bytes < BYTES {
         let n = file.read(&mut part)?;
         if n == 0 {
-            return Ok(Recorded::State(state));
+            return Ok(state);
         }
         state = read_recording(state, samples, &part[..n]);
         if MALFORMED <= state {
-            return Ok(Recorded::State(state));
+            return Ok(state);
         }
         bytes += n as u64;
     }
-    Ok(Recorded::State(state))
+    Ok(state)
 }
 
 // The recording that the second argument names, and a word on standard error where it can't be read.
-fn read_file(rt: &HostRuntime, samples: &mut [u8]) -> Recorded
+fn read_file(rt: &HostRuntime, samples: &mut [u8]) -> Option<u64>
     ensures { ReadBy result samples.old samples.new }
 {
-    let Some(mut file) = open_argument(rt, 2) else {
-        return Recorded::Failed;
-    };
-    match read_parts(&mut file, samples) {
-        Ok(r) => r,
-        Err(e) => {
-            fail(rt, b"recording", e);
-            Recorded::Failed
-        }
-    }
+    let mut file = open_argument(rt, 2)?;
+    or_say(rt, b"recording", read_parts(&mut file, samples))
 }
 
 // The recording, but where the list could not be read: it may be long, and nothing is printed.
-fn read_beside(rt: &HostRuntime, list: Input, samples: &mut [u8]) -> Recorded
+fn read_beside(rt: &HostRuntime, list: Option<Input>, samples: &mut [u8]) -> Option<u64>
     ensures { ReadBy result samples.old samples.new }
 {
-    match list {
-        Input::Failed => Recorded::Failed,
-        Input::Full => read_file(rt, samples),
-        Input::Whole(_) => read_file(rt, samples),
+    if list.is_none() {
+        return None;
     }
+    read_file(rt, samples)
 }
 
 // What is printed beside a recording that left this state and these samples, by what was read of the list.
 fn beside_samples(
     list: &[u8; LONGER],
-    read: Input,
+    read: Option<Input>,
     state: u64,
     samples: &[u8],
     out: &mut [u8; TEXT],
@@ -89,20 +75,16 @@ fn beside_samples(
     ensures prefix_len { IsPrefixLen result out.new }
 {
     match read {
-        Input::Failed => 0,
-        Input::Full => recorded(list, state, samples, out),
-        Input::Whole(n) => {
-            let bytes: &[u8] = list;
-            recorded(&bytes[..n], state, samples, out)
-        }
+        None => 0,
+        Some(read) => recorded(handed_on(read, list), state, samples, out),
     }
 }
 
 // What the running program prints beside a recording, by what was read of the list and of the recording: of a full buffer that is 17, whatever follows.
 fn answered(
     list: &[u8; LONGER],
-    read: Input,
-    recording: Recorded,
+    read: Option<Input>,
+    recording: Option<u64>,
     samples: &[u8; ROOM],
     out: &mut [u8; TEXT],
 ) -> usize
@@ -111,8 +93,8 @@ fn answered(
     ensures prefix_len { IsPrefixLen result out.new }
 {
     match recording {
-        Recorded::Failed => 0,
-        Recorded::State(state) => beside_samples(list, read, state, samples, out),
+        None => 0,
+        Some(state) => beside_samples(list, read, state, samples, out),
     }
 }
 

@@ -4,33 +4,36 @@ ghost use Rattle.rules.specs.Suppliers.{checker_prints};
 ghost use Rattle.input.specs.Counts.{IsPrefixLen};
 ghost use Rattle.programs.specs.Printed.{ReadInto, Answers, AnswersBoth};
 
+use crate::handed_on;
 use answers::verdict::checked;
 use input::{Input, read_argument};
 use rules::{LONGER, TEXT};
 use std::io;
 
-// What is printed beside a script that was read, by what was read of the list.
-fn beside_script(script: &[u8], list: &[u8; LONGER], read: Input, out: &mut [u8; TEXT]) -> usize
+// What is printed beside a script that was read, by what was read of the list. As in the other programs nothing is printed where nothing was read;
+// what is asked then is another function of `answers` in each, with parameters of its own.
+fn beside_script(
+    script: &[u8],
+    list: &[u8; LONGER],
+    read: Option<Input>,
+    out: &mut [u8; TEXT],
+) -> usize
     requires { ReadInto read list.now }
     ensures answers { Answers (checker_prints base script.now) read list.now out.old result out.new }
     ensures prefix_len { IsPrefixLen result out.new }
 {
     match read {
-        Input::Failed => 0,
-        Input::Full => checked(script, list, out),
-        Input::Whole(n) => {
-            let bytes: &[u8] = list;
-            checked(script, &bytes[..n], out)
-        }
+        None => 0,
+        Some(read) => checked(script, handed_on(read, list), out),
     }
 }
 
 // What the checking program prints, by what was read of the script and of the list: of a full buffer that is 17, whatever follows.
 fn answered(
     script: &[u8; LONGER],
-    first: Input,
+    first: Option<Input>,
     list: &[u8; LONGER],
-    second: Input,
+    second: Option<Input>,
     out: &mut [u8; TEXT],
 ) -> usize
     requires read_into { ReadInto first script.now }
@@ -39,12 +42,8 @@ fn answered(
     ensures prefix_len { IsPrefixLen result out.new }
 {
     match first {
-        Input::Failed => 0,
-        Input::Full => beside_script(script, list, second, out),
-        Input::Whole(n) => {
-            let bytes: &[u8] = script;
-            beside_script(&bytes[..n], list, second, out)
-        }
+        None => 0,
+        Some(first) => beside_script(handed_on(first, script), list, second, out),
     }
 }
 

@@ -1,9 +1,11 @@
 // The programs, but for their `main`: each reads a text, or two, asks `answers` what to print, and writes it.
+// Where `as` takes a number to another type, it fits, and the proof says so: `From` has no such step, and `try_from` would bring an error that can't be.
 #![tactic(auto)]
 
+ghost use Rattle.std.specs.Prelude.{Some};
 ghost use Rattle.answers.specs.Prints.{Prints};
 ghost use Rattle.input.specs.Counts.{IsPrefixLen};
-ghost use Rattle.programs.specs.Printed.{printed_by, ReadInto, Answers};
+ghost use Rattle.programs.specs.Printed.{printed_by, ReadInto, HandedOn, Answers};
 
 use answers::{ran, translated};
 use input::{Input, read_input};
@@ -28,19 +30,31 @@ fn printed(program: Program, text: &[u8], out: &mut [u8; TEXT]) -> usize
     }
 }
 
-// What the program prints, by what was read: of a full buffer that is 17, whatever follows.
-fn answered(program: Program, text: &[u8; LONGER], read: Input, out: &mut [u8; TEXT]) -> usize
+// The bytes that are handed on: so many at the start of the buffer, or all of a full one. How long the buffer is, its callers' types say.
+fn handed_on(read: Input, buffer: &[u8]) -> &[u8]
+    requires { ReadInto (Some read) buffer.now }
+    ensures { HandedOn read buffer.now result.now }
+{
+    match read {
+        Input::Full => buffer,
+        Input::Whole(n) => &buffer[..n],
+    }
+}
+
+// What the program prints, by what was read, and nothing where a read failed: of a full buffer that is 17, whatever follows.
+fn answered(
+    program: Program,
+    text: &[u8; LONGER],
+    read: Option<Input>,
+    out: &mut [u8; TEXT],
+) -> usize
     requires { ReadInto read text.now }
     ensures answers { Answers (printed_by program) read text.now out.old result out.new }
     ensures prefix_len { IsPrefixLen result out.new }
 {
     match read {
-        Input::Failed => 0,
-        Input::Full => printed(program, text, out),
-        Input::Whole(n) => {
-            let bytes: &[u8] = text;
-            printed(program, &bytes[..n], out)
-        }
+        None => 0,
+        Some(read) => printed(program, handed_on(read, text), out),
     }
 }
 

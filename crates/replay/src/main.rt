@@ -25,9 +25,9 @@ fn say(rt: &HostRuntime, t: Tally) -> io::Result<()> {
 fn replay(rt: &HostRuntime, k: usize) -> io::Result<()> {
     let mut text = [0u8; 262144];
     match read_argument(rt, k, &mut text) {
-        Input::Failed => Ok(()),
-        Input::Full => rt.write_all(b"no room for the file\n"),
-        Input::Whole(n) => say(rt, replayed(&text[..n])),
+        None => Ok(()),
+        Some(Input::Full) => rt.write_all(b"no room for the file\n"),
+        Some(Input::Whole(n)) => say(rt, replayed(&text[..n])),
     }
 }
 

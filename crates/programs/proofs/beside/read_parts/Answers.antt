@@ -1,6 +1,5 @@
 -- `read_parts` meets its contract: the state and the samples are those of the bytes that were read. It ends: a turn reads a byte at least,
 -- and no more are wanted than the longest recording has, and one. Assumes nothing.
-use Prim.Native.Nat.{◌-◌}
 use borrow.Author.Rules.{rules}
 use Rattle.programs.proofs.Parts.{of_none, of-more}
 use Rattle.programs.proofs.beside.read_parts.Goals as goal
