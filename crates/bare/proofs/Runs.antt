@@ -1,15 +1,16 @@
 -- Runs of calls, turn by turn: soundness is kept, and what is left to do gives the same answer. Assumes nothing.
 use Rattle.std.proofs.Common.{◌≡◌, ℕ, suc, ◌+◌, ◌-◌, ◌*◌, ◌/◌, ◌%◌, ◌^◌, ◌<◌, ◌≤◌, max, Bool, true, List, get_or, sym, refl, ap, ◌∙◌, subst, arith, eq-eqb, ne_eqb}
 use mathlib.Core.Option.{Option, none, some}
-use Rattle.rules.specs.Notation.{Answer, put}
+use Rattle.rules.specs.Notation.{Answer, given, refused, put}
 use Rattle.rules.specs.Sizes.{base, SEGMENTS, SLOTS}
 use Rattle.rules.specs.Sound.{sound_slots}
 use Rattle.rules.specs.Slots as rule
 use Rattle.rules.proofs.Kept.{base-fair}
-use Rattle.slots.specs.Halves.{occ, slots_of, first_clear}
+use Rattle.slots.specs.Halves.{occ, slots_of, clear_from}
+use Rattle.slots.specs.Spots.{taking}
 use Rattle.slots.specs.Promises.{SeenSlots, placed_or7, removal, checked}
-use Rattle.slots.proofs.Steps.{checked-yes, insert-within, insert-none, insert-some}
-use Rattle.bare.specs.Bare.{HALF, Called, numbered, place_number, remove_number, inserting, inserting_lowest, pushing, called, call_row, rows, address_given, inserts, half_full, summed, segments_after, head_after, address_at, Inserted}
+use Rattle.slots.proofs.Steps.{checked-yes, insert-from}
+use Rattle.bare.specs.Bare.{HALF, Called, numbered, place_number, remove_number, inserting, inserting_lowest, pushing, called, call_row, rows, address_given, inserts, half_full, summed}
 
 -- ---- soundness
 
@@ -32,7 +33,7 @@ inserted-sound s y = go (rule.insert SEGMENTS s) refl
 
 -- what an entry shows of sound slots
 pub unchecked : {A : Type 0} (s : rule.Slots) (x y : SeenSlots A) → Sound s → x ≡ checked base.segments s y → x ≡ y
-unchecked s x y h e = e ∙ sym (checked-yes base.segments s y h)
+unchecked s x y h e = e ∙ sym (checked-yes base.segments s y (sym h))
 
 -- ---- half full
 
@@ -49,11 +50,11 @@ inserts-end i s l h = let k : HALF - i ≡ 0 = omega arith in rw k at h
 -- ---- pairs
 
 module _ (stride n : ℕ) where
-  pub summed_turn : {r : ℕ} (i a : ℕ) (s t : rule.Slots) (sum b g : ℕ) → i < n → t ≡ (inserting (rule.remove a s)).next
+  pub summed-turn : {r : ℕ} (i a : ℕ) (s t : rule.Slots) (sum b g : ℕ) → i < n → t ≡ (inserting (rule.remove a s)).next
       → b ≡ (a + stride) % HALF → g ≡ (sum + address_given (inserting (rule.remove a s)).says) % 2 ^ 64
       → summed stride (n - i) a s sum ≡ r → summed stride (n - (i + 1)) b t g ≡ r
   unfolding summed
-  summed_turn i a s t sum b g l e p q h =
+  summed-turn i a s t sum b g l e p q h =
       let k : n - i ≡ suc (n - (i + 1)) = omega arith in
       (λ u. summed stride (n - (i + 1)) (p u) (e u) (q u)) ∙ rw k at h
 
@@ -88,61 +89,30 @@ module _ (calls : List ℕ) (n : ℕ) where
   unfolding rows
   rows_end i s shown l h = let k : n - i ≡ 0 = omega arith in rw k at h
 
--- ---- an insert at a, or nowhere
+-- ---- an insert on lent halves: o is what is found from segment m = min(H, L) on
 
-module _ (a : ℕ) (e : a ≡ SLOTS) where
-  pub segments-none : (l : ℕ) → l ≡ segments_after l a
-  segments-none l = rw (eq-eqb a SLOTS e, segments_after)
-
-  pub head-none : (h : ℕ) → h ≡ head_after h a
-  head-none h = rw (eq-eqb a SLOTS e, head_after)
-
-  pub address-none : 0 ≡ address_at a
-  address-none = rw (eq-eqb a SLOTS e, address_at)
-
-module _ (a : ℕ) (e : a ≡ SLOTS → ⊥) where
-  pub segments-some : (l : ℕ) → max l (a / 128 + 1) ≡ segments_after l a
-  segments-some l = rw (ne_eqb a SLOTS e, segments_after)
-
-  pub head-some : (h : ℕ) → a / 128 ≡ head_after h a
-  head-some h = rw (ne_eqb a SLOTS e, head_after)
-
-  pub address-some : a ≡ address_at a
-  address-some = rw (ne_eqb a SLOTS e, address_at)
-
--- on lent halves: m is min(H, L), and a the least clear slot from segment m on, or SLOTS
-module _ (hs : List ℕ) (l h : ℕ) (y : Sound (slots_of hs l h)) (m a : ℕ) (start : m ≡ rule.start_of (slots_of hs l h)) (e : a ≡ first_clear (occ hs) (128 * m) (SLOTS - 128 * m)) where
-  pub put-within : a < SLOTS + 1
+module _ (hs : List ℕ) (l h : ℕ) (y : Sound (slots_of hs l h)) (m : ℕ) (start : m ≡ rule.start_of (slots_of hs l h)) where
+  pub put-none : none ≡ clear_from (occ hs) (128 * m) (SLOTS - 128 * m) → record { next = slots_of hs l h; says = refused 7 } ≡ inserting (slots_of hs l h)
   unfolding base
-  put-within = omega (arith, insert-within SEGMENTS (slots_of hs l h) y m a start e)
+  put-none e =
+      ap (λ (o : Option ℕ). placed_or7 (slots_of hs l h) (taking o (slots_of hs l h))) e
+      ∙ ap (placed_or7 (slots_of hs l h)) (sym (insert-from SEGMENTS (slots_of hs l h) y m start))
 
-  pub put-none : a ≡ SLOTS → Inserted (slots_of hs l h) hs a
-  unfolding base
-  put-none z =
-      let q : placed_or7 (slots_of hs l h) none ≡ inserting (slots_of hs l h) = ap (placed_or7 (slots_of hs l h)) (sym (insert-none SEGMENTS (slots_of hs l h) y m a start e z)) in
-      record {
-        within = put-within;
-        next = (λ u. record { occupied = occ hs; segments = sym (segments-none a z l) u; head = sym (head-none a z h) u }) ∙ ap (λ (x : SeenSlots ℕ). x.next) q;
-        gives = sym (address-none a z) ∙ ap (λ (x : SeenSlots ℕ). address_given x.says) q;
-      }
+  pub put-some : (a : ℕ) (new : List ℕ) → some a ≡ clear_from (occ hs) (128 * m) (SLOTS - 128 * m) → occ new ≡ put (occ hs) a true
+      → record { next = slots_of new (max l (a / 128 + 1)) (a / 128); says = given a } ≡ inserting (slots_of hs l h)
+  unfolding base rule.take_at
+  put-some a new e p =
+      (λ u. record { next = record { occupied = p u; segments = max l (a / 128 + 1); head = a / 128 }; says = given a })
+      ∙ ap (λ (o : Option ℕ). placed_or7 (slots_of hs l h) (taking o (slots_of hs l h))) e
+      ∙ ap (placed_or7 (slots_of hs l h)) (sym (insert-from SEGMENTS (slots_of hs l h) y m start))
 
-  pub put_some : (new : List ℕ) → (a ≡ SLOTS → ⊥) → occ new ≡ put (occ hs) a true → Inserted (slots_of hs l h) new a
-  unfolding base
-  put_some new z p =
-      let q = ap (placed_or7 (slots_of hs l h)) (sym (insert-some SEGMENTS (slots_of hs l h) y m a start e z)) in
-      record {
-        within = put-within;
-        next = (λ u. record { occupied = p u; segments = sym (segments-some a z l) u; head = sym (head-some a z h) u }) ∙ ap (λ (x : SeenSlots ℕ). x.next) q;
-        gives = sym (address-some a z) ∙ ap (λ (x : SeenSlots ℕ). address_given x.says) q;
-      }
+-- a pair on the state lent: t between
+pub inserted-of : (a : ℕ) (s t : rule.Slots) → t ≡ rule.remove a s → inserting t ≡ inserting (rule.remove a s)
+inserted-of a s t e = ap inserting e
 
--- a pair on lent halves: s before, t between, `hs` after
-module _ (a : ℕ) (s t : rule.Slots) (hs : List ℕ) (b : ℕ) (e : t ≡ rule.remove a s) (i : Inserted t hs b) where
-  pub pair-next : (l h : ℕ) → l ≡ segments_after t.segments b → h ≡ head_after t.head b → record { occupied = occ hs; segments = l; head = h } ≡ (inserting (rule.remove a s)).next
-  pair-next l h p q = (λ u. record { occupied = occ hs; segments = p u; head = q u }) ∙ i.next ∙ ap (λ (x : rule.Slots). (inserting x).next) e
-
-  pub pair-gives : (x : ℕ) → x ≡ address_at b → x ≡ address_given (inserting (rule.remove a s)).says
-  pair-gives x p = p ∙ i.gives ∙ ap (λ (y : rule.Slots). address_given (inserting y).says) e
+-- what a pair adds to the sum
+pub pair-summed : (sum x : ℕ) (y z : SeenSlots ℕ) → x ≡ address_given y.says → y ≡ z → (sum + x) % 2 ^ 64 ≡ (sum + address_given z.says) % 2 ^ 64
+pair-summed sum x y z h e = ap (λ (w : ℕ). (sum + w) % 2 ^ 64) (h ∙ ap (λ (w : SeenSlots ℕ). address_given w.says) e)
 
 -- ---- one call, by number
 
@@ -151,14 +121,16 @@ module _ (c : ℕ) (s : rule.Slots) (r : Called) where
   unfolding called
   call-insert e p q = rw (eq-eqb c 65535 e, called) (p ∙ ap (numbered place_number) q)
 
-  pub call-push : {x : SeenSlots ℕ} → (c ≡ 65535 → ⊥) → c ≡ 65534 → r ≡ numbered place_number x → x ≡ checked base.segments s (pushing s) → r ≡ called c s
+  pub call-push : {x : SeenSlots ℕ} → c ≡ 65534 → r ≡ numbered place_number x → x ≡ checked base.segments s (pushing s) → r ≡ called c s
   unfolding called
-  call-push n e p q = rw (ne_eqb c 65535 n, eq-eqb c 65534 e, called) (p ∙ ap (numbered place_number) q)
+  call-push e p q = let n : c ≡ 65535 → ⊥ = omega arith in rw (ne_eqb c 65535 n, eq-eqb c 65534 e, called) (p ∙ ap (numbered place_number) q)
 
-  pub call-lowest : {x : SeenSlots ℕ} → (c ≡ 65535 → ⊥) → (c ≡ 65534 → ⊥) → c ≡ 65533 → r ≡ numbered place_number x → x ≡ checked base.segments s (inserting_lowest s)
-      → r ≡ called c s
+  pub call-lowest : {x : SeenSlots ℕ} → c ≡ 65533 → r ≡ numbered place_number x → x ≡ checked base.segments s (inserting_lowest s) → r ≡ called c s
   unfolding called
-  call-lowest n m e p q = rw (ne_eqb c 65535 n, ne_eqb c 65534 m, eq-eqb c 65533 e, called) (p ∙ ap (numbered place_number) q)
+  call-lowest e p q =
+      let n : c ≡ 65535 → ⊥ = omega arith in
+      let m : c ≡ 65534 → ⊥ = omega arith in
+      rw (ne_eqb c 65535 n, ne_eqb c 65534 m, eq-eqb c 65533 e, called) (p ∙ ap (numbered place_number) q)
 
   pub call-remove : {x : SeenSlots Bool} → (c ≡ 65535 → ⊥) → (c ≡ 65534 → ⊥) → (c ≡ 65533 → ⊥) → r ≡ numbered remove_number x → x ≡ checked base.segments s (removal c s) → r ≡ called c s
   unfolding called

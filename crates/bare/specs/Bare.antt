@@ -1,9 +1,8 @@
 -- Runs of calls on bare slots, over the rules of document 01, "Slots", and what the entries of `slots` show. Assumes nothing.
-use Rattle.std.specs.Prelude.{◌≡◌, ℕ, zero, suc, ◌+◌, ◌*◌, ◌/◌, ◌%◌, ◌^◌, ◌<◌, max, Bool, true, false, List, ◌==◌, slice_index, slice_set}
+use Rattle.std.specs.Prelude.{ℕ, zero, suc, ◌+◌, ◌*◌, ◌/◌, ◌%◌, ◌^◌, Bool, true, false, List, ◌==◌, slice_index, slice_set}
 use Rattle.rules.specs.Notation.{Answer, given, refused}
 use Rattle.rules.specs.Sizes.{base, SLOTS}
 use Rattle.rules.specs.Slots as rule
-use Rattle.slots.specs.Halves.{occ}
 use Rattle.slots.specs.Promises.{view, SeenSlots, placed_or7, removal, checked}
 use Rattle.bare.specs.declared.calls.Shown.{Shown}
 
@@ -96,19 +95,3 @@ summed stride (suc k) a s sum =
 
 unfoldable pub pairs_sum : ℕ → ℕ → ℕ
 pairs_sum stride n = summed stride n 0 half_full 0
-
--- ---- an insert on lent halves: at address a, or nowhere, which is SLOTS
-
-abbrev pub segments_after : ℕ → ℕ → ℕ
-segments_after l a = elim (a == SLOTS) [ true ↦ l | false ↦ max l (a / 128 + 1) ]
-
-abbrev pub head_after : ℕ → ℕ → ℕ
-head_after h a = elim (a == SLOTS) [ true ↦ h | false ↦ a / 128 ]
-
-abbrev pub address_at : ℕ → ℕ
-address_at a = elim (a == SLOTS) [ true ↦ 0 | false ↦ a ]
-
-pub record Inserted (s : rule.Slots) (halves : List ℕ) (a : ℕ) : Type 0 where
-  pub within : a < SLOTS + 1
-  pub next : record { occupied = occ halves; segments = segments_after s.segments a; head = head_after s.head a } ≡ (inserting s).next
-  pub gives : address_at a ≡ address_given (inserting s).says

@@ -1,13 +1,13 @@
 // A call on the slots as a number: 65,535 inserts, 65,534 pushes, 65,533 inserts by edition 2, every other number removes the slot of
 // that address.
 ghost use Rattle.std.specs.Prelude.{◌≡◌};
-ghost use Rattle.slots.specs.Promises.{view, seen_placing, seen_removing, place_says, remove_says};
+ghost use Rattle.rules.specs.Notation.{refused};
+ghost use Rattle.rules.specs.Refusals.{number_of};
+ghost use Rattle.slots.specs.Promises.{view, seen_placing, seen_removing};
 ghost use Rattle.bare.specs.Bare.{shown_call, numbered, place_number, remove_number, called};
 
-use slots::{
-    PlaceAnswer, Placing, RemoveAnswer, Removing, SlotAddress, Slots, insert, insert_lowest, push,
-    remove,
-};
+use rules::Refusal;
+use slots::{Placing, Removing, SlotAddress, Slots, insert, insert_lowest, push, remove};
 
 // The state, and what the call answered as a number.
 #[derive(Clone, Copy)]
@@ -16,54 +16,42 @@ pub struct Shown {
     pub says: u64,
 }
 
-fn place_number(x: PlaceAnswer) -> u64
-    ensures { result ≡ place_number (place_says x) }
+fn refused(why: Refusal) -> u64
+    ensures { result ≡ place_number (refused (number_of why)) }
 {
-    match x {
-        PlaceAnswer::At(a) => a.0 as u64,
-        PlaceAnswer::Refused(n) => 65536 + (n as u64),
-    }
-}
-
-fn remove_number(x: RemoveAnswer) -> u64
-    ensures { result ≡ remove_number (remove_says x) }
-{
-    match x {
-        RemoveAnswer::Yes => 1,
-        RemoveAnswer::No => 0,
-        RemoveAnswer::Refused(n) => 65536 + (n as u64),
-    }
+    65536 + u64::from(why.number())
 }
 
 fn placed(p: Placing) -> Shown
     ensures { shown_call result ≡ numbered place_number (seen_placing p) }
 {
+    let says = match p.answer {
+        Ok(a) => u64::from(a.0),
+        Err(why) => refused(why),
+    };
     let state = p.state;
-    let answer = p.answer;
-    let says = place_number(answer);
     Shown { state, says }
 }
 
+// Beside `placed`: another type, and another value in one arm. A `From` for each would be no shorter.
 fn removed(p: Removing) -> Shown
     ensures { shown_call result ≡ numbered remove_number (seen_removing p) }
 {
+    let says = match p.answer {
+        Ok(was) => u64::from(was),
+        Err(why) => refused(why),
+    };
     let state = p.state;
-    let answer = p.answer;
-    let says = remove_number(answer);
     Shown { state, says }
 }
 
 pub fn call(s: Slots, c: u16) -> Shown
     ensures { shown_call result ≡ called c (view s) }
 {
-    if c == 65535 {
-        return placed(insert(s));
+    match c {
+        65535 => placed(insert(s)),
+        65534 => placed(push(s)),
+        65533 => placed(insert_lowest(s)),
+        _ => removed(remove(s, SlotAddress(c))),
     }
-    if c == 65534 {
-        return placed(push(s));
-    }
-    if c == 65533 {
-        return placed(insert_lowest(s));
-    }
-    removed(remove(s, SlotAddress(c)))
 }

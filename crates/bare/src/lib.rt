@@ -1,4 +1,5 @@
 // Bare slots for the comparison with the original and for its figures: runs of calls on `Slots` alone. No product links this crate.
+// Where `as` takes a number to another type, it fits, and the proof says so: `From` has no such step, and `try_from` would bring an error that can't be.
 #![tactic(auto)]
 
 pub mod calls; // one call, by number

@@ -1,18 +1,18 @@
-// Pairs of a remove and an insert over a half-full frame, for the figures: each operation a call by value, or the halves lent.
+// Pairs of a remove and an insert over a half-full frame, for the figures: each operation a call by value, or the state lent.
 ghost use Rattle.std.specs.Prelude.{◌≡◌, ◌+◌, ◌%◌, ◌<◌, true, length};
 ghost use Rattle.rules.specs.Sizes.{base, HALVES, SLOTS};
 ghost use Rattle.rules.specs.Sound.{sound_slots};
 ghost use Rattle.rules.specs.Slots as rule;
-ghost use Rattle.slots.specs.Halves.{slots_of};
 ghost use Rattle.slots.specs.Promises.{view, place_says};
-ghost use Rattle.bare.specs.Bare.{HALF, address_given, address_at, half_full, pairs_sum, summed, Inserted, segments_after, head_after};
+ghost use Rattle.bare.specs.Bare.{HALF, address_given, half_full, inserting, pairs_sum, summed};
 
-use rules::{HALVES, SLOTS};
-use slots::{PlaceAnswer, SlotAddress, Slots, fresh, halves, insert, remove};
+use rules::{Refusal, SLOTS};
+use slots::{SlotAddress, Slots, fresh, halves, insert, remove};
 
 // Half of the slots.
 const HALF: usize = SLOTS / 2;
 
+// Cast, since a const calls no function.
 const WIDE_HALF: u32 = HALF as u32;
 
 // As many inserts from fresh slots.
@@ -21,28 +21,27 @@ fn half_full() -> Slots
     ensures sound { sound_slots base.segments (view result) ≡ true }
 {
     let mut s = fresh();
-    let mut i: usize = 0;
-    while i < HALF {
+    for _i in 0..HALF {
         let p = insert(s);
         s = p.state;
-        i += 1;
     }
     s
 }
 
-// The slot that the next pair removes.
+// The slot that the next pair removes. It fits 16 bits, as an address does: try_from would answer for what the proof rules out.
 fn next(a: u16, stride: u16) -> u16
     ensures { result ≡ (a + stride) % HALF }
 {
-    (((a as u32) + (stride as u32)) % WIDE_HALF) as u16
+    ((u32::from(a) + u32::from(stride)) % WIDE_HALF) as u16
 }
 
-fn address_of(x: PlaceAnswer) -> u64
+// What a pair adds to the sum.
+fn address_of(x: Result<SlotAddress, Refusal>) -> u64
     ensures { result ≡ address_given (place_says x) }
 {
     match x {
-        PlaceAnswer::At(a) => a.0 as u64,
-        PlaceAnswer::Refused(_) => 0,
+        Ok(a) => u64::from(a.0),
+        Err(_) => 0,
     }
 }
 
@@ -54,73 +53,45 @@ pub extern "C" fn bare_pairs_by_value(n: usize, stride: u16) -> u64
     let mut s = half_full();
     let mut a: u16 = 0;
     let mut sum: u64 = 0;
-    let mut i: usize = 0;
-    while i < n {
+    for _i in 0..n {
         let q = remove(s, SlotAddress(a));
-        s = q.state;
-        let p = insert(s);
+        let p = insert(q.state);
         s = p.state;
-        let answer = p.answer;
-        sum = std::num::wrapping_add_u64(sum, address_of(answer));
+        sum = sum.wrapping_add(address_of(p.answer));
         a = next(a, stride);
-        i += 1;
     }
     sum
 }
 
-// ---- the halves lent, with no check of soundness for each step
+// ---- the state lent, with no check of soundness for each step
 
-// Slot a is removed. It answers the head afterwards.
-fn take_out(halves: &mut [u64; HALVES], segments: usize, head: usize, a: usize) -> usize
-    requires head_value { sound_slots base.segments (slots_of halves.old segments head) ≡ true }
-    requires a_bound { (a < SLOTS) × (length halves.old ≡ HALVES) }
-    ensures result_after { slots_of halves.new segments result ≡ rule.remove a (slots_of halves.old segments head) }
-    ensures halves_len { length halves.new ≡ HALVES }
+// Slot a is removed.
+fn take_out(t: &mut Slots, a: usize)
+    requires sound { sound_slots base.segments (view t.old) ≡ true }
+    requires bounds { (a < SLOTS) × (length t.old.halves ≡ HALVES) }
+    ensures removed { view t.new ≡ rule.remove a (view t.old) }
+    ensures long { length t.new.halves ≡ HALVES }
 {
-    if a / 128 < segments {
-        halves::vacate(halves, a);
-        return a / 128;
-    }
-    head
-}
-
-// One slot is inserted. It answers its address, or SLOTS where there is none.
-fn put_in(halves: &mut [u64; HALVES], segments: usize, head: usize) -> usize
-    requires head_value { sound_slots base.segments (slots_of halves.old segments head) ≡ true }
-    requires halves_len { length halves.old ≡ HALVES }
-    ensures inserted { Inserted (slots_of halves.old segments head) halves.new result }
-    ensures halves_len_2 { length halves.new ≡ HALVES }
-{
-    let a = halves::first_clear(halves, halves::least(head, segments));
-    if a == SLOTS {
-        return a;
-    }
-    halves::occupy(halves, a);
-    a
-}
-
-// L, H and the address that is summed, after an insert at a.
-fn segments_after(segments: usize, a: usize) -> usize
-    requires { a < SLOTS + 1 }
-    ensures { result ≡ segments_after segments a }
-{
-    if a == SLOTS {
-        segments
-    } else {
-        halves::most(segments, a / 128 + 1)
+    if a / 128 < t.segments {
+        halves::vacate(&mut t.halves, a);
+        t.head = a / 128;
     }
 }
 
-fn head_after(head: usize, a: usize) -> usize
-    ensures { result ≡ head_after head a }
+// One slot is inserted. 7.
+fn put_in(t: &mut Slots) -> Result<SlotAddress, Refusal>
+    requires sound { sound_slots base.segments (view t.old) ≡ true }
+    requires long { length t.old.halves ≡ HALVES }
+    ensures inserted { record { next = view t.new; says = place_says result } ≡ inserting (view t.old) }
+    ensures long { length t.new.halves ≡ HALVES }
 {
-    if a == SLOTS { head } else { a / 128 }
-}
-
-fn address_at(a: usize) -> u64
-    ensures { result ≡ address_at a }
-{
-    if a == SLOTS { 0 } else { a as u64 }
+    let Some(a) = halves::first_clear(&t.halves, t.head.min(t.segments)) else {
+        return Err(Refusal::NoSlot);
+    };
+    halves::occupy(&mut t.halves, a);
+    t.segments = t.segments.max(a / 128 + 1);
+    t.head = a / 128;
+    Ok(SlotAddress(a as u16))
 }
 
 fn run_lent(s: Slots, n: usize, stride: u16) -> u64
@@ -130,22 +101,16 @@ fn run_lent(s: Slots, n: usize, stride: u16) -> u64
     let mut t = s;
     let mut a: u16 = 0;
     let mut sum: u64 = 0;
-    let mut i: usize = 0;
-    while i < n {
-        let l = t.segments;
-        let h = t.head;
-        let k = take_out(&mut t.halves, l, h, a as usize);
-        let b = put_in(&mut t.halves, l, k);
-        t.segments = segments_after(l, b);
-        t.head = head_after(k, b);
-        sum = std::num::wrapping_add_u64(sum, address_at(b));
+    for _i in 0..n {
+        take_out(&mut t, usize::from(a));
+        let given = put_in(&mut t);
+        sum = sum.wrapping_add(address_of(given));
         a = next(a, stride);
-        i += 1;
     }
     sum
 }
 
-// The same sum: the state goes in by value once, and each pair works on its halves where they stand.
+// The same sum: the state goes in by value once, and each pair works on it where it stands.
 #[unsafe(no_mangle)]
 pub extern "C" fn bare_pairs_lent(n: usize, stride: u16) -> u64
     ensures { result ≡ pairs_sum stride n }

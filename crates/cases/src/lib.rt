@@ -1,4 +1,5 @@
 // What test programs share: a long text put together, and an answer shown on a line.
+// Where `as` takes a number to another type, it fits, and the proof says so: `From` has no such step, and `try_from` would bring an error that can't be.
 #![tactic(auto)]
 
 ghost use Rattle.std.specs.Prelude.{◌≡◌, ◌≤◌, length};
@@ -12,17 +13,9 @@ pub fn put(buf: &mut [u8], w: usize, text: &[u8]) -> usize
     requires { w ≤ length buf.old }
     ensures { (result ≤ length buf.new) × (length buf.new ≡ length buf.old) }
 {
-    let mut at = w;
-    let mut i: usize = 0;
-    while i < text.len() {
-        if at >= buf.len() {
-            return at;
-        }
-        buf[at] = text[i];
-        at += 1;
-        i += 1;
-    }
-    at
+    let n = text.len().min(buf.len() - w);
+    buf[w..w + n].copy_from_slice(&text[..n]);
+    w + n
 }
 
 // The line n times.
@@ -31,17 +24,15 @@ pub fn put_lines(buf: &mut [u8], w: usize, line: &[u8], n: usize) -> usize
     ensures { (result ≤ length buf.new) × (length buf.new ≡ length buf.old) }
 {
     let mut at = w;
-    let mut i: usize = 0;
-    while i < n {
+    for _ in 0..n {
         at = put(buf, at, line);
-        i += 1;
     }
     at
 }
 
 // LF is shown as /.
 fn show_char(rt: &HostRuntime, b: u8) -> io::Result<()> {
-    if b == 10 {
+    if b == b'\n' {
         rt.write_all(b"/")
     } else {
         rt.write_all(&[b])
@@ -52,20 +43,10 @@ fn show_char(rt: &HostRuntime, b: u8) -> io::Result<()> {
 pub fn show(rt: &HostRuntime, text: &[u8], from: usize, to: usize) -> io::Result<()>
     requires { to ≤ length text.now }
 {
-    let mut i = from;
-    while i < to {
+    for i in from..to {
         show_char(rt, text[i])?;
-        i += 1;
     }
     Ok(())
-}
-
-// Where the last bytes of n begin.
-fn back(n: usize, last: usize) -> usize {
-    if n > last {
-        return n - last;
-    }
-    0
 }
 
 // The `ee` line; that of 24 has eight digits for the recording's line.
@@ -87,7 +68,7 @@ pub fn say(rt: &HostRuntime, r: u64, text: &[u8], last: usize) -> io::Result<()>
         if n == 0 {
             rt.write_all(b"-")?;
         }
-        return show(rt, text, back(n, last), n);
+        return show(rt, text, n.saturating_sub(last), n);
     }
     say_refusal(rt, (r / REFUSAL % 256) as u8, (r % REFUSAL) as u32)
 }

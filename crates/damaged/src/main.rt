@@ -1,5 +1,6 @@
 // Damages a sound state, in one place or in few, and prints for each damage whether a state handed in so is sound or refused by 29.
 // The file `stdout` is what document 01 asks for, case by case.
+// Where `as` takes a number to another type, it fits, and the proof says so: `From` has no such step, and `try_from` would bring an error that can't be.
 #![tactic(auto)]
 
 use rules::{BINDINGS, CELLS, DANGLING, HALVES, SCOPES, SLOTS};
@@ -108,113 +109,12 @@ fn listed(s: Scopes) -> Scopes {
     t
 }
 
-// ---- one place each
-
-fn half(rt: &HostRuntime, case: &[u8], at: usize, to: u64) -> io::Result<()> {
+// The whole state, changed so.
+fn changed<F: FnOnce(&mut Scopes)>(rt: &HostRuntime, case: &[u8], change: F) -> io::Result<()>
+    requires { F.IsAlwaysCallable change }
+{
     let mut s = whole();
-    if at < HALVES {
-        s.halves[at] = to;
-    }
-    say(rt, case, s)
-}
-
-fn next(rt: &HostRuntime, case: &[u8], at: usize, to: u16) -> io::Result<()> {
-    let mut s = whole();
-    if at < CELLS {
-        s.links[at] = to;
-    }
-    say(rt, case, s)
-}
-
-fn prev(rt: &HostRuntime, case: &[u8], at: usize, to: u16) -> io::Result<()> {
-    let mut s = whole();
-    if at < CELLS {
-        s.links[CELLS + at] = to;
-    }
-    say(rt, case, s)
-}
-
-fn owner(rt: &HostRuntime, case: &[u8], at: usize, to: u8) -> io::Result<()> {
-    let mut s = whole();
-    if at < SLOTS {
-        s.owner[at] = to;
-    }
-    say(rt, case, s)
-}
-
-fn live(rt: &HostRuntime, case: &[u8], at: usize, to: bool) -> io::Result<()> {
-    let mut s = whole();
-    if at < SCOPES {
-        s.live[at] = to;
-    }
-    say(rt, case, s)
-}
-
-fn marked(rt: &HostRuntime, case: &[u8], at: usize, to: bool) -> io::Result<()> {
-    let mut s = whole();
-    if at < SCOPES {
-        s.dangled[at] = to;
-    }
-    say(rt, case, s)
-}
-
-fn parent(rt: &HostRuntime, case: &[u8], at: usize, to: u8) -> io::Result<()> {
-    let mut s = whole();
-    if at < SCOPES {
-        s.parent[at] = to;
-    }
-    say(rt, case, s)
-}
-
-fn number(rt: &HostRuntime, case: &[u8], at: usize, to: u32) -> io::Result<()> {
-    let mut s = whole();
-    if at < SCOPES {
-        s.number[at] = to;
-    }
-    say(rt, case, s)
-}
-
-fn binding(rt: &HostRuntime, case: &[u8], at: usize, to: u64) -> io::Result<()> {
-    let mut s = whole();
-    if at < BINDINGS {
-        s.bindings[at] = to;
-    }
-    say(rt, case, s)
-}
-
-fn count(rt: &HostRuntime, case: &[u8], to: usize) -> io::Result<()> {
-    let mut s = whole();
-    s.count = to;
-    say(rt, case, s)
-}
-
-fn segments(rt: &HostRuntime, case: &[u8], to: usize) -> io::Result<()> {
-    let mut s = whole();
-    s.segments = to;
-    say(rt, case, s)
-}
-
-fn head(rt: &HostRuntime, case: &[u8], to: usize) -> io::Result<()> {
-    let mut s = whole();
-    s.head = to;
-    say(rt, case, s)
-}
-
-fn top(rt: &HostRuntime, case: &[u8], to: usize) -> io::Result<()> {
-    let mut s = whole();
-    s.top = to;
-    say(rt, case, s)
-}
-
-fn size(rt: &HostRuntime, case: &[u8], to: usize) -> io::Result<()> {
-    let mut s = whole();
-    s.size = to;
-    say(rt, case, s)
-}
-
-fn counter(rt: &HostRuntime, case: &[u8], to: u32) -> io::Result<()> {
-    let mut s = whole();
-    s.counter = to;
+    change(&mut s);
     say(rt, case, s)
 }
 
@@ -325,14 +225,11 @@ fn closed_top(rt: &HostRuntime, case: &[u8], to: usize) -> io::Result<()> {
 // 64 scopes, each the child of the one before; the first has this parent.
 fn chain(rt: &HostRuntime, case: &[u8], first: u8) -> io::Result<()> {
     let mut s = closed();
-    let mut i: usize = 1;
-    while i < SCOPES {
-        s.live[i] = true;
-        s.parent[i] = (i - 1) as u8;
-        i += 1;
-    }
-    s.live[0] = true;
+    s.live = [true; SCOPES];
     s.parent[0] = first;
+    for i in 1..SCOPES {
+        s.parent[i] = (i - 1) as u8;
+    }
     s.top = 63;
     say(rt, case, s)
 }
@@ -340,50 +237,82 @@ fn chain(rt: &HostRuntime, case: &[u8], first: u8) -> io::Result<()> {
 // ---- 01's sentence, part by part
 
 fn slots(rt: &HostRuntime) -> io::Result<()> {
-    segments(rt, b"L 32", 32)?;
-    segments(rt, b"L 33", 33)?;
-    segments(rt, b"L 0, slot 0 is occupied", 0)?;
-    segments(rt, b"L 18446744073709551615", 18446744073709551615)?;
-    head(rt, b"H 31", 31)?;
-    head(rt, b"H 32", 32)?;
+    changed(rt, b"L 32", |s| s.segments = 32)?;
+    changed(rt, b"L 33", |s| s.segments = 33)?;
+    changed(rt, b"L 0, slot 0 is occupied", |s| s.segments = 0)?;
+    changed(rt, b"L 18446744073709551615", |s| s.segments = usize::MAX)?;
+    changed(rt, b"H 31", |s| s.head = 31)?;
+    changed(rt, b"H 32", |s| s.head = 32)?;
     past_segment(rt, b"slot 128 is occupied, L 2", 2, 129)?;
     past_segment(rt, b"slot 128 is occupied, L 1", 1, 129)?;
     past_segment(rt, b"slot 128 is occupied, size 128", 2, 128)?;
-    half(rt, b"slot 4 is occupied and on no list", 0, 23)?;
-    half(
+    changed(
+        rt,
+        b"slot 4 is occupied and on no list",
+        |s| s.halves[0] = 23,
+    )?;
+    changed(
         rt,
         b"slot 4095 is occupied and on no list",
-        63,
-        9223372036854775808,
+        |s| s.halves[63] = 9223372036854775808,
     )?;
-    half(rt, b"slot 2 is on a list and clear", 0, 3)?;
-    half(rt, b"slot 3 is dangling and occupied", 0, 15)
+    changed(rt, b"slot 2 is on a list and clear", |s| s.halves[0] = 3)?;
+    changed(rt, b"slot 3 is dangling and occupied", |s| s.halves[0] = 15)
 }
 
 fn lists(rt: &HostRuntime) -> io::Result<()> {
-    next(rt, b"next of 0 is no cell", 0, TO_NO_CELL)?;
-    next(rt, b"next of 0 is 65535", 0, 65535)?;
-    next(rt, b"next of 0 is an end of another list", 0, TO_SECOND)?;
-    next(rt, b"next of 0 is on another list", 0, 1)?;
-    next(rt, b"next of 1 passes over 2", 1, TO_SECOND)?;
-    next(rt, b"next of 2 is 1 again", 2, 1)?;
-    next(rt, b"next of 2 is itself", 2, 2)?;
-    prev(rt, b"prev of 2 is no cell", 2, TO_NO_CELL)?;
-    prev(rt, b"prev of 2 is itself", 2, 2)?;
-    prev(rt, b"prev of 0 is an end of another list", 0, TO_SECOND)?;
-    prev(rt, b"last of scope 2 is 1", SECOND, 1)?;
-    next(rt, b"first of scope 2 is 2", SECOND, 2)?;
-    next(rt, b"first of scope 1 is 0", FIRST, 0)?;
-    next(
+    changed(rt, b"next of 0 is no cell", |s| s.links[0] = TO_NO_CELL)?;
+    changed(rt, b"next of 0 is 65535", |s| s.links[0] = 65535)?;
+    changed(
+        rt,
+        b"next of 0 is an end of another list",
+        |s| s.links[0] = TO_SECOND,
+    )?;
+    changed(rt, b"next of 0 is on another list", |s| s.links[0] = 1)?;
+    changed(rt, b"next of 1 passes over 2", |s| s.links[1] = TO_SECOND)?;
+    changed(rt, b"next of 2 is 1 again", |s| s.links[2] = 1)?;
+    changed(rt, b"next of 2 is itself", |s| s.links[2] = 2)?;
+    changed(
+        rt,
+        b"prev of 2 is no cell",
+        |s| s.links[CELLS + 2] = TO_NO_CELL,
+    )?;
+    changed(rt, b"prev of 2 is itself", |s| s.links[CELLS + 2] = 2)?;
+    changed(
+        rt,
+        b"prev of 0 is an end of another list",
+        |s| s.links[CELLS] = TO_SECOND,
+    )
+}
+
+fn ends(rt: &HostRuntime) -> io::Result<()> {
+    changed(rt, b"last of scope 2 is 1", |s| s.links[CELLS + SECOND] = 1)?;
+    changed(rt, b"first of scope 2 is 2", |s| s.links[SECOND] = 2)?;
+    changed(rt, b"first of scope 1 is 0", |s| s.links[FIRST] = 0)?;
+    changed(
         rt,
         b"first of scope 1 is the end of scope 9",
-        FIRST,
-        TO_NINTH,
+        |s| s.links[FIRST] = TO_NINTH,
     )?;
-    prev(rt, b"last of scope 9 is 9", NINTH, 9)?;
-    next(rt, b"first of the dangling list is 0", LOOSE, 0)?;
-    next(rt, b"slot 9 is on no list and has a next", 9, 10)?;
-    prev(rt, b"slot 9 is on no list and has a prev", 9, 0)?;
+    changed(rt, b"last of scope 9 is 9", |s| s.links[CELLS + NINTH] = 9)?;
+    changed(
+        rt,
+        b"first of the dangling list is 0",
+        |s| s.links[LOOSE] = 0,
+    )?;
+    changed(
+        rt,
+        b"slot 9 is on no list and has a next",
+        |s| s.links[9] = 10,
+    )?;
+    changed(
+        rt,
+        b"slot 9 is on no list and has a prev",
+        |s| s.links[CELLS + 9] = 0,
+    )
+}
+
+fn crossings(rt: &HostRuntime) -> io::Result<()> {
     apart(rt, b"slots 8 and 9 lead to each other alone")?;
     crosses(rt, b"slot 0 is on scope 2's list", 2)?;
     crosses(
@@ -396,85 +325,138 @@ fn lists(rt: &HostRuntime) -> io::Result<()> {
 }
 
 fn owners(rt: &HostRuntime) -> io::Result<()> {
-    owner(rt, b"owner of 0 is another scope", 0, 1)?;
-    owner(rt, b"owner of 0 is a closed scope", 0, 9)?;
-    owner(rt, b"owner of 0 is the dangling list", 0, 64)?;
-    owner(rt, b"owner of 0 is none", 0, 65)?;
-    owner(rt, b"owner of 0 is 255", 0, 255)?;
-    owner(rt, b"owner of 3 is none", 3, 65)?;
-    owner(rt, b"owner of 9 is root", 9, 0)?;
-    owner(rt, b"owner of 9 is the dangling list", 9, 64)?;
-    owner(rt, b"owner of 9 is 66", 9, 66)?;
+    changed(rt, b"owner of 0 is another scope", |s| s.owner[0] = 1)?;
+    changed(rt, b"owner of 0 is a closed scope", |s| s.owner[0] = 9)?;
+    changed(rt, b"owner of 0 is the dangling list", |s| s.owner[0] = 64)?;
+    changed(rt, b"owner of 0 is none", |s| s.owner[0] = 65)?;
+    changed(rt, b"owner of 0 is 255", |s| s.owner[0] = 255)?;
+    changed(rt, b"owner of 3 is none", |s| s.owner[3] = 65)?;
+    changed(rt, b"owner of 9 is root", |s| s.owner[9] = 0)?;
+    changed(rt, b"owner of 9 is the dangling list", |s| s.owner[9] = 64)?;
+    changed(rt, b"owner of 9 is 66", |s| s.owner[9] = 66)?;
     say(rt, b"scope 2 is closed, owns and binds", half_closed())?;
     owns_closed(rt, b"scope 2 is closed and owns")
 }
 
 fn parents(rt: &HostRuntime) -> io::Result<()> {
-    live(rt, b"scope 1 isn't live, scope 2 is its child", 1, false)?;
-    live(rt, b"root isn't live", 0, false)?;
-    live(rt, b"scope 4 is live and has no parent", 4, true)?;
+    changed(
+        rt,
+        b"scope 1 isn't live, scope 2 is its child",
+        |s| s.live[1] = false,
+    )?;
+    changed(rt, b"root isn't live", |s| s.live[0] = false)?;
+    changed(
+        rt,
+        b"scope 4 is live and has no parent",
+        |s| s.live[4] = true,
+    )?;
     scope_more(rt, b"scope 4 is live under root", 0)?;
     scope_more(rt, b"scope 4 is live under itself", 4)?;
     scope_more(rt, b"scope 4 is live under a closed scope", 9)?;
     scope_more(rt, b"scope 4 is live under 255", 255)?;
     circle(rt, b"scopes 4 and 5 are each other's parent")?;
-    parent(rt, b"parent of 1 is 2, its child", 1, 2)?;
-    parent(rt, b"root has a parent", 0, 1)?;
-    parent(rt, b"root's parent is 65", 0, 65)?;
+    changed(rt, b"parent of 1 is 2, its child", |s| s.parent[1] = 2)?;
+    changed(rt, b"root has a parent", |s| s.parent[0] = 1)?;
+    changed(rt, b"root's parent is 65", |s| s.parent[0] = 65)?;
     chain(rt, b"64 scopes in one line", 64)?;
-    chain(rt, b"64 scopes in a circle", 63)?;
-    number(rt, b"root's number is 1", 0, 1)?;
-    number(rt, b"two live scopes with one number", 1, 5)?;
-    marked(rt, b"root is dangled", 0, true)?;
-    marked(rt, b"scope 9 is closed and dangled", 9, true)?;
-    parent(rt, b"scope 9 is closed and has a parent", 9, 0)?;
-    number(rt, b"scope 9 is closed and has a number", 9, 1)
+    chain(rt, b"64 scopes in a circle", 63)
+}
+
+fn records(rt: &HostRuntime) -> io::Result<()> {
+    changed(rt, b"root's number is 1", |s| s.number[0] = 1)?;
+    changed(rt, b"two live scopes with one number", |s| s.number[1] = 5)?;
+    changed(rt, b"root is dangled", |s| s.dangled[0] = true)?;
+    changed(
+        rt,
+        b"scope 9 is closed and dangled",
+        |s| s.dangled[9] = true,
+    )?;
+    changed(
+        rt,
+        b"scope 9 is closed and has a parent",
+        |s| s.parent[9] = 0,
+    )?;
+    changed(
+        rt,
+        b"scope 9 is closed and has a number",
+        |s| s.number[9] = 1,
+    )
 }
 
 fn tops(rt: &HostRuntime) -> io::Result<()> {
-    top(rt, b"top 1", 1)?;
-    top(rt, b"top is a closed scope", 9)?;
-    top(rt, b"no top, scopes are live", 64)?;
-    top(rt, b"top 65", 65)?;
+    changed(rt, b"top 1", |s| s.top = 1)?;
+    changed(rt, b"top is a closed scope", |s| s.top = 9)?;
+    changed(rt, b"no top, scopes are live", |s| s.top = 64)?;
+    changed(rt, b"top 65", |s| s.top = 65)?;
     closed_top(rt, b"no top, nothing is live", 64)?;
     closed_top(rt, b"top 0, nothing is live", 0)?;
     closed_top(rt, b"top 65, nothing is live", 65)
 }
 
 fn names(rt: &HostRuntime) -> io::Result<()> {
-    binding(rt, b"scope 3 binds 7", 1, 3 * SCOPE_PART + 7 * NAME_PART)?;
-    binding(rt, b"root binds 7 twice", 1, 7 * NAME_PART + ADDRESS_PART)?;
-    binding(
+    changed(
+        rt,
+        b"scope 3 binds 7",
+        |s| s.bindings[1] = 3 * SCOPE_PART + 7 * NAME_PART,
+    )?;
+    changed(
+        rt,
+        b"root binds 7 twice",
+        |s| s.bindings[1] = 7 * NAME_PART + ADDRESS_PART,
+    )?;
+    changed(
         rt,
         b"a closed scope binds",
-        1,
-        9 * SCOPE_PART + 7 * NAME_PART,
+        |s| s.bindings[1] = 9 * SCOPE_PART + 7 * NAME_PART,
     )?;
-    binding(rt, b"scope 64 binds", 1, 64 * SCOPE_PART + 7 * NAME_PART)?;
-    binding(rt, b"place 2 isn't empty, 2 bindings", 2, 1)?;
-    binding(rt, b"place 255 isn't empty, 2 bindings", 255, NAME_PART)?;
-    count(rt, b"1 binding, place 1 isn't empty", 1)?;
-    count(rt, b"3 bindings, root binds 0", 3)?;
-    count(rt, b"4 bindings, root binds 0 twice", 4)?;
-    count(rt, b"257 bindings", 257)?;
-    count(rt, b"18446744073709551615 bindings", 18446744073709551615)
+    changed(
+        rt,
+        b"scope 64 binds",
+        |s| s.bindings[1] = 64 * SCOPE_PART + 7 * NAME_PART,
+    )?;
+    changed(
+        rt,
+        b"place 2 isn't empty, 2 bindings",
+        |s| s.bindings[2] = 1,
+    )?;
+    changed(
+        rt,
+        b"place 255 isn't empty, 2 bindings",
+        |s| s.bindings[255] = NAME_PART,
+    )
+}
+
+fn counts(rt: &HostRuntime) -> io::Result<()> {
+    changed(rt, b"1 binding, place 1 isn't empty", |s| s.count = 1)?;
+    changed(rt, b"3 bindings, root binds 0", |s| s.count = 3)?;
+    changed(rt, b"4 bindings, root binds 0 twice", |s| s.count = 4)?;
+    changed(rt, b"257 bindings", |s| s.count = 257)?;
+    changed(
+        rt,
+        b"18446744073709551615 bindings",
+        |s| s.count = usize::MAX,
+    )
 }
 
 fn sizes(rt: &HostRuntime) -> io::Result<()> {
-    size(rt, b"size 3, below the dangling slot 3", 3)?;
-    size(rt, b"size 2, slot 2 is occupied", 2)?;
-    size(rt, b"size 4096", 4096)?;
-    size(rt, b"size 4097", 4097)?;
-    counter(rt, b"counter 4294967295", 4294967295)
+    changed(rt, b"size 3, below the dangling slot 3", |s| s.size = 3)?;
+    changed(rt, b"size 2, slot 2 is occupied", |s| s.size = 2)?;
+    changed(rt, b"size 4096", |s| s.size = 4096)?;
+    changed(rt, b"size 4097", |s| s.size = 4097)?;
+    changed(rt, b"counter 4294967295", |s| s.counter = u32::MAX)
 }
 
 fn main(rt: HostRuntime) -> io::Result<()> {
     say(&rt, b"the whole state", whole())?;
     slots(&rt)?;
     lists(&rt)?;
+    ends(&rt)?;
+    crossings(&rt)?;
     owners(&rt)?;
     parents(&rt)?;
+    records(&rt)?;
     tops(&rt)?;
     names(&rt)?;
+    counts(&rt)?;
     sizes(&rt)
 }

@@ -1,68 +1,47 @@
 // The entries in which the place is a value: by the head (edition 1), the lowest clear slot of all (edition 2), or exactly at an address.
-use crate::{call, show};
+use crate::call;
 use allocator::{addresses, any, linear};
 use needs::{AddressKind, Need};
 use scopes::{ScopeId, Scopes};
 use slots::{Place, SlotAddress};
 use std::io;
 
-fn called(rt: &HostRuntime, words: &[u8], place: Place) -> io::Result<()> {
-    show::text(rt, words)?;
+// The name of a call, with the place.
+fn called(rt: &HostRuntime, words: &str, place: Place) -> io::Result<()> {
     match place {
-        Place::ByHead => show::text(rt, b", by head:")?,
-        Place::Lowest => show::text(rt, b", lowest:")?,
-        Place::ExactlyAt(_) => show::text(rt, b", exactly:")?,
+        Place::ByHead => print!(rt; "{words}, by head"),
+        Place::Lowest => print!(rt; "{words}, lowest"),
+        Place::ExactlyAt(_) => print!(rt; "{words}, exactly"),
     }
-    Ok(())
 }
 
 fn alloc(rt: &HostRuntime, s: Scopes, place: Place) -> io::Result<Scopes> {
-    let o = addresses::alloc_by(s, place);
-    let r = o.answer;
-    let t = o.state;
-    called(rt, b"alloc", place)?;
-    show::address(rt, r)?;
-    call::state(rt, t)
+    called(rt, "alloc", place)?;
+    call::outcome(rt, "", addresses::alloc_by(s, place))
 }
 
 fn alloc_in(rt: &HostRuntime, s: Scopes, i: ScopeId, place: Place) -> io::Result<Scopes> {
-    let o = addresses::alloc_in_by(s, i, place);
-    let r = o.answer;
-    let t = o.state;
-    called(rt, b"alloc in", place)?;
-    show::address(rt, r)?;
-    call::state(rt, t)
+    called(rt, "alloc in", place)?;
+    call::outcome(rt, "", addresses::alloc_in_by(s, i, place))
 }
 
 fn linear(rt: &HostRuntime, s: Scopes, n: u16, place: Place) -> io::Result<Scopes> {
-    let o = linear::linear_by(s, n, place);
-    let r = o.answer;
-    let t = o.state;
-    called(rt, b"linear", place)?;
-    show::run(rt, r)?;
-    call::state(rt, t)
+    called(rt, "linear", place)?;
+    call::outcome(rt, "", linear::linear_by(s, n, place))
 }
 
 fn allocate(rt: &HostRuntime, s: Scopes, need: Need, place: Place) -> io::Result<Scopes> {
-    let o = any::allocate_by(s, need, place);
-    let r = o.answer;
-    let d = o.need;
-    let t = o.state;
-    called(rt, b"allocate", place)?;
-    show::slot(rt, r)?;
-    show::need(rt, d)?;
-    call::state(rt, t)
+    let mut d = need;
+    let o = any::allocate_by(s, &mut d, place);
+    called(rt, "allocate", place)?;
+    call::with_need(rt, "", o, d)
 }
 
 fn allocate_output(rt: &HostRuntime, s: Scopes, need: Need, place: Place) -> io::Result<Scopes> {
-    let o = any::allocate_output_by(s, need, place);
-    let r = o.answer;
-    let d = o.need;
-    let t = o.state;
-    called(rt, b"allocate output", place)?;
-    show::output(rt, r)?;
-    show::need(rt, d)?;
-    call::state(rt, t)
+    let mut d = need;
+    let o = any::allocate_output_by(s, &mut d, place);
+    called(rt, "allocate output", place)?;
+    call::with_need(rt, "", o, d)
 }
 
 // Of slots 0 to 199 three are clear: 0, 1 and 130, which went back last. So L is 2 and H is 1.

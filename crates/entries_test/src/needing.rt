@@ -1,5 +1,6 @@
 // Needs: the calls over a need alone, and those with a state.
-use crate::{call, show};
+use crate::call;
+use crate::show::Show;
 use allocator::{addresses, any, linear};
 use needs::{Address, AddressKind, Need, Run};
 use scopes::Scopes;
@@ -13,46 +14,47 @@ fn at(a: u16, kind: AddressKind) -> Address {
 
 // What a need answers.
 fn asked(rt: &HostRuntime, need: Need) -> io::Result<()> {
-    show::text(rt, b"output:")?;
-    show::output(rt, any::output(need))?;
-    show::text(rt, b"; addr:")?;
-    show::address(rt, any::addr(need))?;
-    show::text(rt, b"; try as addr:")?;
-    show::tried(rt, any::try_as_addr(need))?;
-    show::text(rt, b"\n")
+    print!(rt; "output:")?;
+    any::output(need).show(rt)?;
+    print!(rt; "; addr:")?;
+    any::addr(need).show(rt)?;
+    print!(rt; "; try as addr:")?;
+    any::try_as_addr(need).show(rt)?;
+    println!(rt)
 }
 
 fn taken(rt: &HostRuntime, need: Need) -> io::Result<()> {
-    let t = any::into_addr(need);
-    let a = t.answer;
-    let d = t.need;
-    show::text(rt, b"into addr:")?;
-    show::address(rt, a)?;
-    show::need(rt, d)?;
-    show::text(rt, b"\n")
+    let mut d = need;
+    let answer = any::into_addr(&mut d);
+    print!(rt; "into addr:")?;
+    answer.show(rt)?;
+    d.show(rt)?;
+    println!(rt)
 }
 
 fn assigned(rt: &HostRuntime, need: Need, x: u16) -> io::Result<()> {
-    let r = any::assign_from(need, SlotAddress(x));
-    let c = r.copy;
-    let d = r.need;
-    show::text(rt, b"assign:")?;
-    show::copying(rt, c)?;
-    show::need(rt, d)?;
-    show::text(rt, b"\n")
+    let mut d = need;
+    let to = any::assign_from(&mut d, SlotAddress(x));
+    print!(rt; "assign:")?;
+    match to {
+        Some(a) => print!(rt; " copy to {}", a.0)?,
+        None => print!(rt; " nothing")?,
+    }
+    d.show(rt)?;
+    println!(rt)
 }
 
 fn records(rt: &HostRuntime) -> io::Result<()> {
     let first = SlotAddress(4);
     let kind = AddressKind::Dangling;
-    show::text(rt, b"allocated:")?;
-    show::record(rt, addresses::allocated(at(4, kind)))?;
-    show::text(rt, b"; forget:")?;
-    show::record(rt, addresses::forget(at(4, kind)))?;
     let count = 3;
-    show::text(rt, b"; forget run:")?;
-    show::run_record(rt, linear::forget_run(Run { first, count, kind }))?;
-    show::text(rt, b"\n")
+    print!(rt; "allocated:")?;
+    addresses::allocated(at(4, kind)).show(rt)?;
+    print!(rt; "; forget:")?;
+    addresses::forget(at(4, kind)).show(rt)?;
+    print!(rt; "; forget run:")?;
+    linear::forget_run(Run { first, count, kind }).show(rt)?;
+    println!(rt)
 }
 
 pub fn alone(rt: &HostRuntime) -> io::Result<()> {

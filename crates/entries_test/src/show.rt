@@ -1,134 +1,108 @@
 // What an entry answered, in words and decimal numbers, after the name of the call.
-use needs::{
-    Address, AddressAnswer, AddressKind, Copying, FreeAnswer, Need, OutputAnswer, Run, RunAnswer,
-    SlotAnswer, TriedAnswer,
-};
-use scopes::{Reply, ScopeId};
+use needs::{Address, AddressKind, Need, Output, Run};
+use rules::Refusal;
+use scopes::{Bound, ScopeId};
+use slots::SlotAddress;
 use std::io;
 
-pub fn text(rt: &HostRuntime, words: &[u8]) -> io::Result<()> {
-    rt.write_all(words)
+pub trait Show {
+    fn show(self, rt: &HostRuntime) -> io::Result<()>;
 }
 
-pub fn number(rt: &HostRuntime, words: &[u8], n: u64) -> io::Result<()> {
-    rt.write_all(words)?;
-    rt.print(n)
+// What was done gives nothing.
+impl Show for () {
+    fn show(self, rt: &HostRuntime) -> io::Result<()> {
+        print!(rt; " done")
+    }
 }
 
-fn id(rt: &HostRuntime, words: &[u8], i: ScopeId) -> io::Result<()> {
-    number(rt, words, i.index as u64)?;
-    number(rt, b".", i.number as u64)
+impl Show for ScopeId {
+    fn show(self, rt: &HostRuntime) -> io::Result<()> {
+        print!(rt; " scope {}.{}", self.index, self.number)
+    }
 }
 
-pub fn reply(rt: &HostRuntime, r: Reply) -> io::Result<()> {
-    match r {
-        Reply::Done => text(rt, b" done")?,
-        Reply::At(a) => number(rt, b" slot ", a.0 as u64)?,
-        Reply::Empty => text(rt, b" empty")?,
-        Reply::Opened(i) => id(rt, b" scope ", i)?,
-        Reply::Found(b) => {
-            let a = b.address;
-            number(rt, b" bound to ", a.0 as u64)?;
+impl Show for Bound {
+    fn show(self, rt: &HostRuntime) -> io::Result<()> {
+        print!(rt; " bound to {}", self.address.0)
+    }
+}
+
+impl Show for AddressKind {
+    fn show(self, rt: &HostRuntime) -> io::Result<()> {
+        match self {
+            AddressKind::Local => print!(rt; " Local"),
+            AddressKind::Dangling => print!(rt; " Dangling"),
+            AddressKind::Assigned => print!(rt; " Assigned"),
+            AddressKind::Freed => print!(rt; " Freed"),
+            AddressKind::Scope(i) => print!(rt; " Scope {}.{}", i.index, i.number),
         }
-        Reply::Refused(n) => number(rt, b" refused ", n as u64)?,
     }
-    Ok(())
 }
 
-fn kind(rt: &HostRuntime, k: AddressKind) -> io::Result<()> {
-    match k {
-        AddressKind::Local => text(rt, b" Local")?,
-        AddressKind::Dangling => text(rt, b" Dangling")?,
-        AddressKind::Assigned => text(rt, b" Assigned")?,
-        AddressKind::Freed => text(rt, b" Freed")?,
-        AddressKind::Scope(i) => id(rt, b" Scope ", i)?,
+impl Show for Address {
+    fn show(self, rt: &HostRuntime) -> io::Result<()> {
+        print!(rt; " address {}", self.slot.0)?;
+        self.kind.show(rt)
     }
-    Ok(())
 }
 
-pub fn record(rt: &HostRuntime, a: Address) -> io::Result<()> {
-    let slot = a.slot;
-    let k = a.kind;
-    number(rt, b" address ", slot.0 as u64)?;
-    kind(rt, k)
-}
-
-pub fn address(rt: &HostRuntime, r: AddressAnswer) -> io::Result<()> {
-    match r {
-        AddressAnswer::Got(a) => record(rt, a)?,
-        AddressAnswer::Refused(n) => number(rt, b" refused ", n as u64)?,
+impl Show for Run {
+    fn show(self, rt: &HostRuntime) -> io::Result<()> {
+        print!(rt; " run of {} from {}", self.count, self.first.0)?;
+        self.kind.show(rt)
     }
-    Ok(())
 }
 
-pub fn run_record(rt: &HostRuntime, r: Run) -> io::Result<()> {
-    let first = r.first;
-    let k = r.kind;
-    number(rt, b" run of ", r.count as u64)?;
-    number(rt, b" from ", first.0 as u64)?;
-    kind(rt, k)
-}
-
-pub fn run(rt: &HostRuntime, r: RunAnswer) -> io::Result<()> {
-    match r {
-        RunAnswer::Got(x) => run_record(rt, x)?,
-        RunAnswer::Refused(n) => number(rt, b" refused ", n as u64)?,
+impl Show for SlotAddress {
+    fn show(self, rt: &HostRuntime) -> io::Result<()> {
+        print!(rt; " slot {}", self.0)
     }
-    Ok(())
 }
 
-pub fn need(rt: &HostRuntime, d: Need) -> io::Result<()> {
-    match d {
-        Need::Defer(i) => id(rt, b", need Defer ", i)?,
-        Need::Address(a) => {
-            text(rt, b", need")?;
-            record(rt, a)?;
+impl Show for Output {
+    fn show(self, rt: &HostRuntime) -> io::Result<()> {
+        match self {
+            Output::Keep(a) => print!(rt; " keep {}", a.0),
+            Output::Discard => print!(rt; " discard"),
         }
-        Need::Ignore => text(rt, b", need Ignore")?,
-        Need::Freed => text(rt, b", need Freed")?,
     }
-    Ok(())
 }
 
-pub fn slot(rt: &HostRuntime, r: SlotAnswer) -> io::Result<()> {
-    match r {
-        SlotAnswer::At(a) => number(rt, b" slot ", a.0 as u64)?,
-        SlotAnswer::Nothing => text(rt, b" nothing")?,
-        SlotAnswer::Refused(n) => number(rt, b" refused ", n as u64)?,
+// How many were drained.
+impl Show for usize {
+    fn show(self, rt: &HostRuntime) -> io::Result<()> {
+        print!(rt; " {self}")
     }
-    Ok(())
 }
 
-pub fn output(rt: &HostRuntime, r: OutputAnswer) -> io::Result<()> {
-    match r {
-        OutputAnswer::Keep(a) => number(rt, b" keep ", a.0 as u64)?,
-        OutputAnswer::Discard => text(rt, b" discard")?,
-        OutputAnswer::Refused(n) => number(rt, b" refused ", n as u64)?,
+impl<T: Show + Copy> Show for Option<T> {
+    fn show(self, rt: &HostRuntime) -> io::Result<()> {
+        match self {
+            Some(x) => x.show(rt),
+            None => print!(rt; " nothing"),
+        }
     }
-    Ok(())
 }
 
-pub fn tried(rt: &HostRuntime, r: TriedAnswer) -> io::Result<()> {
-    match r {
-        TriedAnswer::Got(a) => record(rt, a)?,
-        TriedAnswer::Nothing => text(rt, b" nothing")?,
-        TriedAnswer::Refused(n) => number(rt, b" refused ", n as u64)?,
+impl<T: Show + Copy> Show for Result<T, Refusal> {
+    fn show(self, rt: &HostRuntime) -> io::Result<()> {
+        match self {
+            Ok(x) => x.show(rt),
+            Err(e) => print!(rt; " refused {}", e.number()),
+        }
     }
-    Ok(())
 }
 
-pub fn free(rt: &HostRuntime, r: FreeAnswer) -> io::Result<()> {
-    match r {
-        FreeAnswer::Done => text(rt, b" done")?,
-        FreeAnswer::Refused(n) => number(rt, b" refused ", n as u64)?,
+// The need that a call leaves.
+impl Show for Need {
+    fn show(self, rt: &HostRuntime) -> io::Result<()> {
+        print!(rt; ", need")?;
+        match self {
+            Need::Defer(i) => print!(rt; " Defer {}.{}", i.index, i.number),
+            Need::Address(a) => a.show(rt),
+            Need::Ignore => print!(rt; " Ignore"),
+            Need::Freed => print!(rt; " Freed"),
+        }
     }
-    Ok(())
-}
-
-pub fn copying(rt: &HostRuntime, c: Copying) -> io::Result<()> {
-    match c {
-        Copying::To(a) => number(rt, b" copy to ", a.0 as u64)?,
-        Copying::Nothing => text(rt, b" nothing")?,
-    }
-    Ok(())
 }

@@ -7,19 +7,14 @@ ghost use Rattle.std.specs.Prelude.{◌≤◌, length};
 use cases::{put, put_lines, say, show};
 use rules::SLOTS;
 use std::io;
-use text::writing::put_byte;
 
 fn show_byte(rt: &HostRuntime, b: u8) -> io::Result<()> {
-    let mut two = [0u8; 2];
-    put_byte(&mut two, 0, b);
-    rt.write_all(&two)
+    print!(rt; "{:02x}", u64::from(b))
 }
 
 fn show_cells(rt: &HostRuntime, cells: &[u8]) -> io::Result<()> {
-    let mut i: usize = 0;
-    while i < cells.len() {
-        show_byte(rt, cells[i])?;
-        i += 1;
+    for b in cells {
+        show_byte(rt, *b)?;
     }
     Ok(())
 }
@@ -36,17 +31,15 @@ fn lend(list: &[u8], cells: &mut [u8], c: usize, out: &mut [u8], o: usize) -> u6
 fn case(rt: &HostRuntime, label: &[u8], list: &[u8], c: usize, o: usize) -> io::Result<()> {
     let mut cells = [0x55u8; 9];
     let mut out = [b'.'; 17];
-    if c <= 9 {
-        if o <= 17 {
-            rt.write_all(label)?;
-            let r = lend(list, &mut cells, c, &mut out, o);
-            say(rt, r, &out, 17)?;
-            rt.write_all(b" > ")?;
-            show_cells(rt, &cells)?;
-            rt.write_all(b" ")?;
-            show(rt, &out, 0, 17)?;
-            rt.write_all(b"\n")?;
-        }
+    if c <= 9 && o <= 17 {
+        rt.write_all(label)?;
+        let r = lend(list, &mut cells, c, &mut out, o);
+        say(rt, r, &out, 17)?;
+        rt.write_all(b" > ")?;
+        show_cells(rt, &cells)?;
+        rt.write_all(b" ")?;
+        show(rt, &out, 0, 17)?;
+        rt.write_all(b"\n")?;
     }
     Ok(())
 }

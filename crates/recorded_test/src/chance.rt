@@ -1,11 +1,9 @@
 // 1,000 lines by chance, in parts of 1 to 200 bytes by chance: state and samples have to be those of one part.
 ghost use Rattle.std.specs.Prelude.{◌<◌, ◌≤◌};
 
-use crate::bytes::{draw, mix_bytes, same, show_count, show_state};
-use crate::cuts::read_between;
+use crate::bytes::{draw, mix_bytes, show_count, show_state};
 use recordings::read_recording;
 use std::io;
-use std::num::wrapping_add_u64;
 use text::writing::put_line;
 
 #[derive(Clone, Copy)]
@@ -17,10 +15,9 @@ struct Parts {
 // Lines of samples by chance.
 fn fill(recording: &mut [u8], seed: u64) {
     let mut x = seed;
-    let mut w: usize = 0;
-    while 7 <= recording.len() - w {
+    for line in 0..recording.len() / 7 {
         x = draw(x);
-        w = put_line(recording, w, 0x30, 1, ((x >> 16) % 65536) as u16, 0);
+        put_line(recording, 7 * line, 0x30, &[((x >> 16) % 65536) as u16]);
     }
 }
 
@@ -34,28 +31,20 @@ fn damage(recording: &mut [u8], seed: u64) {
     }
 }
 
-// Where a part of n bytes from p on ends.
-fn part_end(p: usize, n: usize, length: usize) -> usize
-    requires { (p < length) × (0 < n) }
-    ensures { (p < result) × (result ≤ length) }
-{
-    if length - p < n {
-        return length;
-    }
-    p + n
-}
-
+// In parts by chance.
 fn read_parts(samples: &mut [u8], recording: &[u8], seed: u64) -> Parts {
     let mut x = seed;
     let mut state: u64 = 0;
     let mut count: u64 = 0;
-    let mut p: usize = 0;
-    while p < recording.len() {
+    let mut rest = recording;
+    // The parts differ in length, so a `for` would count what it does not use.
+    while !rest.is_empty() {
         x = draw(x);
-        let e = part_end(p, 1 + ((x >> 16) % 200) as usize, recording.len());
-        state = read_between(state, samples, recording, p, e);
-        count = wrapping_add_u64(count, 1);
-        p = e;
+        let n = 1 + ((x >> 16) % 200) as usize;
+        let (part, after) = rest.split_at(n.min(rest.len()));
+        state = read_recording(state, samples, part);
+        count = count.wrapping_add(1);
+        rest = after;
     }
     Parts { state, count }
 }
@@ -69,13 +58,11 @@ fn show_parts(rt: &HostRuntime, label: &[u8], seed: u64, recording: &[u8]) -> io
     show_state(rt, state)?;
     show_state(rt, mix_bytes(1, &whole))?;
     show_count(rt, b" parts ", parts.count)?;
-    if state == parts.state {
-        if same(&whole, &kept) {
-            rt.write_all(b" agree\n")?;
-            return Ok(());
-        }
+    if state == parts.state && whole == kept {
+        rt.write_all(b" agree\n")
+    } else {
+        rt.write_all(b" differ\n")
     }
-    rt.write_all(b" differ\n")
 }
 
 // Whole, and with a byte damaged.
@@ -88,10 +75,8 @@ fn long_recording(rt: &HostRuntime, seed: u64) -> io::Result<()> {
 }
 
 pub fn long_recordings(rt: &HostRuntime) -> io::Result<()> {
-    let mut seed: u64 = 1;
-    while seed < 9 {
+    for seed in 1..9 {
         long_recording(rt, seed)?;
-        seed += 1;
     }
     Ok(())
 }

@@ -3,7 +3,7 @@ ghost use Rattle.std.specs.Prelude.{◌≤◌};
 
 use crate::bytes::show_count;
 use crate::cuts::read_bytes;
-use crate::tally::{Outcome, Tally, counted, none, show_tally};
+use crate::tally::{Outcome, Tally, show_tally};
 use cases::put;
 use machine::recorded::run_recorded;
 use recordings::read_recording;
@@ -31,16 +31,11 @@ fn outcome(recording: &[u8]) -> Outcome {
         &mut out,
         &mut left,
     );
-    if r == MALFORMED {
-        return Outcome::Refused;
+    match r {
+        MALFORMED => Outcome::Refused,
+        0 if left[3] == 3 => Outcome::Accepted,
+        _ => Outcome::Other,
     }
-    if r == 0 {
-        if left[3] == 3 {
-            return Outcome::Accepted;
-        }
-        return Outcome::Other;
-    }
-    Outcome::Other
 }
 
 fn with_byte(column: usize, b: u8) -> Outcome
@@ -55,23 +50,18 @@ fn with_byte(column: usize, b: u8) -> Outcome
 fn all_bytes(column: usize) -> Tally
     requires { column ≤ 6 }
 {
-    let mut t = none();
-    let mut b: usize = 0;
-    while b < 256 {
-        t = counted(t, with_byte(column, b as u8));
-        b += 1;
+    let mut t = Tally::default();
+    for b in 0..=u8::MAX {
+        t.count(with_byte(column, b));
     }
     t
 }
 
 pub fn every_column(rt: &HostRuntime) -> io::Result<()> {
-    let mut column: usize = 0;
-    while column < 7 {
-        let t = all_bytes(column);
+    for column in 0..7 {
         show_count(rt, b"column ", column as u64)?;
-        show_tally(rt, t)?;
+        show_tally(rt, all_bytes(column))?;
         rt.write_all(b"\n")?;
-        column += 1;
     }
     Ok(())
 }

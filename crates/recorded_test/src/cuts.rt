@@ -1,29 +1,23 @@
 // Short recordings, in three parts in every way there is, empty parts among them, and byte by byte: each has to come to what one part does.
 ghost use Rattle.std.specs.Prelude.{◌≤◌, length};
 
-use crate::bytes::{same, show_count, show_hex, show_state};
+use crate::bytes::{show_count, show_hex, show_state};
 use recordings::read_recording;
 use std::io;
-use std::num::wrapping_add_u64;
 
-#[derive(Clone, Copy)]
-pub struct Ways {
-    pub agree: u64,
-    pub differ: u64,
+#[derive(Clone, Copy, Default)]
+struct Ways {
+    agree: u64,
+    differ: u64,
 }
 
-fn counted(t: Ways, agrees: bool) -> Ways {
-    let agree = t.agree;
-    let differ = t.differ;
-    if agrees {
-        return Ways {
-            agree: wrapping_add_u64(agree, 1),
-            differ,
-        };
-    }
-    Ways {
-        agree,
-        differ: wrapping_add_u64(differ, 1),
+impl Ways {
+    fn count(&mut self, agrees: bool) {
+        if agrees {
+            self.agree = self.agree.wrapping_add(1);
+        } else {
+            self.differ = self.differ.wrapping_add(1);
+        }
     }
 }
 
@@ -43,20 +37,14 @@ fn agrees_cut(recording: &[u8], a: usize, b: usize) -> bool
     let first = read_between(0, &mut kept, recording, 0, a);
     let second = read_between(first, &mut kept, recording, a, b);
     let third = read_between(second, &mut kept, recording, b, recording.len());
-    if one == third {
-        return same(&whole, &kept);
-    }
-    false
+    one == third && whole == kept
 }
 
 // The state after the parts of one byte each.
 pub fn read_bytes(samples: &mut [u8], recording: &[u8]) -> u64 {
     let mut state: u64 = 0;
-    let mut i: usize = 0;
-    while i < recording.len() {
-        let one = [recording[i]; 1];
-        state = read_recording(state, samples, &one);
-        i += 1;
+    for b in recording {
+        state = read_recording(state, samples, &[*b]);
     }
     state
 }
@@ -66,39 +54,19 @@ fn agrees_bytes(recording: &[u8]) -> bool {
     let mut kept = [0x55u8; 5];
     let one = read_recording(0, &mut whole, recording);
     let state = read_bytes(&mut kept, recording);
-    if one == state {
-        return same(&whole, &kept);
-    }
-    false
+    one == state && whole == kept
 }
 
-// The first cut before b or there, the second at b.
-fn first_cuts(recording: &[u8], b: usize, tally: Ways) -> Ways
-    requires { b ≤ length recording.now }
-{
-    let mut t = tally;
-    let mut a: usize = 0;
-    while a <= b {
-        t = counted(t, agrees_cut(recording, a, b));
-        a += 1;
-    }
-    t
-}
-
+// The first cut at a, the second at b, which is no earlier.
 fn all_cuts(recording: &[u8]) -> Ways {
-    let mut t = counted(
-        Ways {
-            agree: 0,
-            differ: 0,
-        },
-        agrees_bytes(recording),
-    );
-    let mut b: usize = 0;
-    while b <= recording.len() {
-        t = first_cuts(recording, b, t);
-        b += 1;
+    let mut ways = Ways::default();
+    ways.count(agrees_bytes(recording));
+    for b in 0..=recording.len() {
+        for a in 0..=b {
+            ways.count(agrees_cut(recording, a, b));
+        }
     }
-    t
+    ways
 }
 
 // What one part comes to, and how many ways come to the same.

@@ -1,4 +1,5 @@
 // Reads recordings and runs lists beside them; the oracle's model makes the same lines, and docs/parts/recordings.md says why they are what they are.
+// Where `as` takes a number to another type, it fits, and the proof says so: `From` has no such step, and `try_from` would bring an error that can't be.
 #![tactic(auto)]
 
 use chance::long_recordings;
@@ -9,7 +10,7 @@ use rows::all_runs;
 use states::all_states;
 use std::io;
 
-pub mod bytes; // bytes shown, held against each other, and mixed into one number
+pub mod bytes; // bytes shown, and mixed into one number
 pub mod tally; // how many came to what
 pub mod cuts; // short recordings in every way to cut them
 pub mod runs; // a recording read, a list run beside it, and lent memory afterwards

@@ -1,32 +1,47 @@
 // Lists of 2,048 lines beside as many samples: what came of the run, the state, cells and the number left over.
-ghost use Rattle.std.specs.Prelude.{◌≤◌, length};
+ghost use Rattle.std.specs.Prelude.{◌≡◌, ◌≤◌, length};
 
 use crate::bytes::{show_hex, show_state};
-use crate::cuts::read_between;
 use cases::{put, put_lines, say};
 use machine::recorded::run_recorded;
+use recordings::read_recording;
 use std::io;
 
-// The list's first bytes.
-fn run_front(
-    rt: &HostRuntime,
-    label: &[u8],
-    list: &[u8],
-    end: usize,
-    state: u64,
-    samples: &[u8],
-    m: usize,
-) -> io::Result<()>
-    requires { (end ≤ length list.now) × (m ≤ length samples.now) }
+// A line n times, and a last one.
+#[derive(Clone, Copy)]
+struct Lines<'a> {
+    n: usize,
+    line: &'a [u8],
+    last: &'a [u8],
+}
+
+impl Lines<'_> {
+    // Where they end.
+    fn put(&self, buf: &mut [u8]) -> usize
+        ensures { (result ≤ length buf.new) × (length buf.new ≡ length buf.old) }
+    {
+        let w = put_lines(buf, 0, self.line, self.n);
+        put(buf, w, self.last)
+    }
+}
+
+// The list beside the recording; m bytes of samples are lent.
+fn many(rt: &HostRuntime, label: &[u8], list: Lines, recording: Lines, m: usize) -> io::Result<()>
+    requires { m ≤ 4096 }
 {
+    let mut lines = [0u8; 14400];
+    let mut read = [0u8; 14400];
+    let mut samples = [0x55u8; 4096];
     let mut cells = [0x55u8; 2];
     let mut out = [b'.'; 7];
     let mut left = [0x55u8; 4];
-    let start: usize = 0;
+    let end = list.put(&mut lines);
+    let e = recording.put(&mut read);
+    let state = read_recording(0, &mut samples, &read[..e]);
     let r = run_recorded(
-        &list[start..end],
+        &lines[..end],
         state,
-        &samples[start..m],
+        &samples[..m],
         &mut cells,
         &mut out,
         &mut left,
@@ -40,65 +55,42 @@ fn run_front(
     rt.write_all(b"\n")
 }
 
-// 2,048 lines and a tail, beside n samples 0001 and a last one; m bytes of samples are lent.
-fn many(
-    rt: &HostRuntime,
-    label: &[u8],
-    line: &[u8],
-    tail: &[u8],
-    n: usize,
-    last: &[u8],
-    m: usize,
-) -> io::Result<()>
+// 2,048 lines 14, beside n samples 0001 and beef.
+fn taken(rt: &HostRuntime, label: &[u8], n: usize, m: usize) -> io::Result<()>
     requires { m ≤ 4096 }
 {
-    let mut list = [0u8; 14400];
-    let mut recording = [0u8; 14400];
-    let mut samples = [0x55u8; 4096];
-    let w = put_lines(&mut list, 0, line, 2048);
-    let end = put(&mut list, w, tail);
-    let v = put_lines(&mut recording, 0, b"300001\n", n);
-    let e = put(&mut recording, v, last);
-    let state = read_between(0, &mut samples, &recording, 0, e);
-    run_front(rt, label, &list, end, state, &samples, m)
+    let list = Lines {
+        n: 2048,
+        line: b"140000\n",
+        last: b"900001\n",
+    };
+    let recording = Lines {
+        n,
+        line: b"300001\n",
+        last: b"30beef\n",
+    };
+    many(rt, label, list, recording, m)
+}
+
+// A line too many, and a slot that is not below the size: 2 comes before 20.
+fn too_many(rt: &HostRuntime, label: &[u8]) -> io::Result<()> {
+    let list = Lines {
+        n: 2048,
+        line: b"140001\n",
+        last: b"0f0000\n900001\n",
+    };
+    let recording = Lines {
+        n: 0,
+        line: b"",
+        last: b"x",
+    };
+    many(rt, label, list, recording, 0)
 }
 
 pub fn long_lists(rt: &HostRuntime) -> io::Result<()> {
-    many(
-        rt,
-        b"2048  ",
-        b"140000\n",
-        b"900001\n",
-        2047,
-        b"30beef\n",
-        4096,
-    )?;
-    many(
-        rt,
-        b"2048+ ",
-        b"140000\n",
-        b"900001\n",
-        2048,
-        b"30beef\n",
-        4096,
-    )?;
-    many(
-        rt,
-        b"2048- ",
-        b"140000\n",
-        b"900001\n",
-        2046,
-        b"30beef\n",
-        4096,
-    )?;
-    many(
-        rt,
-        b"2048s ",
-        b"140000\n",
-        b"900001\n",
-        2047,
-        b"30beef\n",
-        4095,
-    )?;
-    many(rt, b"2,20  ", b"140001\n", b"0f0000\n900001\n", 0, b"x", 0)
+    taken(rt, b"2048  ", 2047, 4096)?;
+    taken(rt, b"2048+ ", 2048, 4096)?;
+    taken(rt, b"2048- ", 2046, 4096)?;
+    taken(rt, b"2048s ", 2047, 4095)?;
+    too_many(rt, b"2,20  ")
 }

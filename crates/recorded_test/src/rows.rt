@@ -1,34 +1,45 @@
 // The runs: docs/parts/recordings.md has them row by row.
 ghost use Rattle.std.specs.Prelude.{◌≤◌};
 
-use crate::runs::beside;
+use crate::runs::{Lent, beside};
 use std::io;
+
+fn lent(samples: usize, cells: usize, out: usize, left: usize) -> Lent
+    requires { (samples ≤ 9) × (cells ≤ 9) × (out ≤ 17) × (left ≤ 5) }
+{
+    Lent {
+        samples,
+        cells,
+        out,
+        left,
+    }
+}
 
 // A state that is handed in, and memory in plenty.
 fn from(rt: &HostRuntime, label: &[u8], list: &[u8], state: u64, part: &[u8]) -> io::Result<()> {
-    beside(rt, label, list, state, part, 9, 6, 14, 4)
+    beside(rt, label, list, state, part, lent(9, 6, 14, 4))
 }
 
 fn case(rt: &HostRuntime, label: &[u8], list: &[u8], recording: &[u8]) -> io::Result<()> {
     from(rt, label, list, 0, recording)
 }
 
-// m bytes of samples, c of cells.
+// So many bytes of samples and cells.
 fn short(
     rt: &HostRuntime,
     label: &[u8],
     list: &[u8],
     recording: &[u8],
-    m: usize,
-    c: usize,
+    samples: usize,
+    cells: usize,
 ) -> io::Result<()>
-    requires { (m ≤ 9) × (c ≤ 9) }
+    requires { (samples ≤ 9) × (cells ≤ 9) }
 {
-    beside(rt, label, list, 0, recording, m, c, 14, 4)
+    beside(rt, label, list, 0, recording, lent(samples, cells, 14, 4))
 }
 
 fn unlent(rt: &HostRuntime, label: &[u8], list: &[u8], recording: &[u8]) -> io::Result<()> {
-    beside(rt, label, list, 0, recording, 0, 0, 0, 0)
+    beside(rt, label, list, 0, recording, lent(0, 0, 0, 0))
 }
 
 // The rules' recorded sessions, on as many cells as each says.
@@ -103,38 +114,19 @@ fn order(rt: &HostRuntime) -> io::Result<()> {
 }
 
 // A list that takes a sample and loads it.
-fn shown(
-    rt: &HostRuntime,
-    label: &[u8],
-    recording: &[u8],
-    m: usize,
-    c: usize,
-    o: usize,
-    l: usize,
-) -> io::Result<()>
-    requires { (m ≤ 9) × (c ≤ 9) × (o ≤ 17) × (l ≤ 5) }
-{
-    beside(
-        rt,
-        label,
-        b"140000\n110000\n900001\n",
-        0,
-        recording,
-        m,
-        c,
-        o,
-        l,
-    )
+fn shown(rt: &HostRuntime, label: &[u8], recording: &[u8], lent: Lent) -> io::Result<()> {
+    let list = b"140000\n110000\n900001\n";
+    beside(rt, label, list, 0, recording, lent)
 }
 
 // Exactly enough is lent, a byte less of each, a byte more of all.
 fn enough(rt: &HostRuntime) -> io::Result<()> {
-    shown(rt, b"17    ", b"30beef\n", 2, 2, 7, 4)?;
-    shown(rt, b"17s   ", b"30beef\n", 1, 2, 7, 4)?;
-    shown(rt, b"17c   ", b"30beef\n", 2, 1, 7, 4)?;
-    shown(rt, b"17o   ", b"30beef\n", 2, 2, 6, 4)?;
-    shown(rt, b"17l   ", b"30beef\n", 2, 2, 7, 3)?;
-    shown(rt, b"odd   ", b"30beef\n300002\n", 3, 3, 8, 5)
+    shown(rt, b"17    ", b"30beef\n", lent(2, 2, 7, 4))?;
+    shown(rt, b"17s   ", b"30beef\n", lent(1, 2, 7, 4))?;
+    shown(rt, b"17c   ", b"30beef\n", lent(2, 1, 7, 4))?;
+    shown(rt, b"17o   ", b"30beef\n", lent(2, 2, 6, 4))?;
+    shown(rt, b"17l   ", b"30beef\n", lent(2, 2, 7, 3))?;
+    shown(rt, b"odd   ", b"30beef\n300002\n", lent(3, 3, 8, 5))
 }
 
 // 4,294,967,295 lines, and one more; a malformed line stays malformed.

@@ -1,5 +1,5 @@
 // A recording is read in one part, and a list run beside it: what came of the run, and behind > the state and all lent memory afterwards.
-ghost use Rattle.std.specs.Prelude.{◌≤◌, length};
+ghost use Rattle.std.specs.Prelude.{◌≤◌};
 
 use crate::bytes::{show_hex, show_state};
 use cases::{say, show};
@@ -7,63 +7,37 @@ use machine::recorded::run_recorded;
 use recordings::read_recording;
 use std::io;
 
-// Lends the first m bytes of samples.
-fn read(state: u64, samples: &mut [u8], m: usize, recording: &[u8]) -> u64
-    requires { m ≤ length samples.old }
-{
-    read_recording(state, &mut samples[..m], recording)
+// How many bytes are lent: of 9 of samples, of 9 of cells and of 5 for the number left over, which hold 55, and of 17 of output, which hold dots.
+#[derive(Clone, Copy)]
+pub struct Lent {
+    pub samples: usize,
+    pub cells: usize,
+    pub out: usize,
+    pub left: usize,
+    ghost fits: { (samples ≤ 9) × (cells ≤ 9) × (out ≤ 17) × (left ≤ 5) },
 }
 
-// Lends the first bytes of each.
-fn run(
-    list: &[u8],
-    state: u64,
-    samples: &[u8],
-    m: usize,
-    cells: &mut [u8],
-    c: usize,
-    out: &mut [u8],
-    o: usize,
-    left: &mut [u8],
-    l: usize,
-) -> u64
-    requires m_in_bounds { m ≤ length samples.now }
-    requires c_in_bounds { c ≤ length cells.old }
-    requires o_in_bounds { o ≤ length out.old }
-    requires l_in_bounds { l ≤ length left.old }
-{
-    run_recorded(
-        list,
-        state,
-        &samples[..m],
-        &mut cells[..c],
-        &mut out[..o],
-        &mut left[..l],
-    )
-}
-
-// The state before the recording, and so many bytes lent: m of 9 of samples, c of 9 of cells and l of 5 for the number left over, which hold
-// 55, and o of 17 of output, which hold dots.
+// The state before the recording.
 pub fn beside(
     rt: &HostRuntime,
     label: &[u8],
     list: &[u8],
     state: u64,
     recording: &[u8],
-    m: usize,
-    c: usize,
-    o: usize,
-    l: usize,
-) -> io::Result<()>
-    requires { (m ≤ 9) × (c ≤ 9) × (o ≤ 17) × (l ≤ 5) }
-{
+    lent: Lent,
+) -> io::Result<()> {
     let mut samples = [0x55u8; 9];
     let mut cells = [0x55u8; 9];
     let mut out = [b'.'; 17];
     let mut left = [0x55u8; 5];
-    let next = read(state, &mut samples, m, recording);
-    let r = run(
-        list, next, &samples, m, &mut cells, c, &mut out, o, &mut left, l,
+    let next = read_recording(state, &mut samples[..lent.samples], recording);
+    let r = run_recorded(
+        list,
+        next,
+        &samples[..lent.samples],
+        &mut cells[..lent.cells],
+        &mut out[..lent.out],
+        &mut left[..lent.left],
     );
     rt.write_all(label)?;
     say(rt, r, &out, 17)?;

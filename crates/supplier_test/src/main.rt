@@ -10,15 +10,10 @@ use text::writing::put_line;
 
 fn case(rt: &HostRuntime, label: &[u8], script: &[u8], list: &[u8]) -> io::Result<()> {
     rt.write_all(label)?;
-    let r = supplier::agrees(script, list);
-    if r == 1 {
-        rt.write_all(b"yes")?;
-    }
-    if r == 0 {
-        rt.write_all(b"no")?;
-    }
-    if r > 1 {
-        say(rt, r, b"", 0)?;
+    match supplier::agrees(script, list) {
+        0 => rt.write_all(b"no")?,
+        1 => rt.write_all(b"yes")?,
+        r => say(rt, r, b"", 0)?,
     }
     rt.write_all(b"\n")
 }
@@ -171,14 +166,9 @@ fn put_down(list: &mut [u8], twice: u16) -> usize
     ensures { (result ≤ length list.new) × (length list.new ≡ length list.old) }
 {
     let mut w: usize = 0;
-    let mut a: u16 = 4096;
-    while a > 3072 {
-        a -= 1;
-        let mut shown = a;
-        if a == twice {
-            shown = a + 1;
-        }
-        w = put_line(list, w, 0x06, 1, shown, 0);
+    for a in (3072..4096u16).rev() {
+        let shown = if a == twice { a + 1 } else { a };
+        w = put_line(list, w, 0x06, &[shown]);
     }
     put(list, w, b"901000\n")
 }

@@ -3,7 +3,4 @@ use Rattle.std.proofs.Common.{◌≡◌, ◌+◌, ◌*◌, ◌≤◌, length}
 use Rattle.supplier_test.proofs.put_down.Given as goal
 
 abbrev pub invariant-loop-a : goal.invariant-loop-a
-invariant-loop-a l = (3072 ≤ l.a) × (l.a ≤ 4096) × (l.w + 7 * l.a ≡ 28672) × (length l.list ≡ length l.initial.list)
-
-abbrev pub decreases-loop-a : goal.decreases-loop-a
-decreases-loop-a l = l.a
+invariant-loop-a l = (3072 ≤ l.a) × (l.w + 7 * l.a ≡ 28672) × (length l.list ≡ length l.initial.list)

@@ -5,7 +5,4 @@ use Rattle.bare.proofs.Runs.{Sound}
 use Rattle.bare.proofs.pairs.bare_pairs_by_value.Given as goal
 
 abbrev pub invariant-loop-i : goal.invariant-loop-i
-invariant-loop-i l = Sound (view l.s) × (summed l.stride (l.n - l.i) l.a (view l.s) l.sum ≡ pairs_sum l.stride l.n)
-
-abbrev pub decreases-loop-i : goal.decreases-loop-i
-decreases-loop-i l = l.n - l.i
+invariant-loop-i l = record { sound : Sound (view l.s); left : summed l.stride (l.n - l._i) l.a (view l.s) l.sum ≡ pairs_sum l.stride l.n }

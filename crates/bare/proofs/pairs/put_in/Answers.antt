@@ -1,25 +1,26 @@
-use Rattle.std.proofs.Common.{arith, rules}
-use Rattle.rules.specs.Sizes.{base}
-use Rattle.slots.specs.Halves.{slots_of}
+use Rattle.std.proofs.Common.{◌*◌, ◌-◌, sym, arith}
+use Rattle.rules.specs.Sizes.{base, SLOTS}
+use Rattle.slots.specs.Halves.{occ}
+use Rattle.slots.specs.Promises.{view}
+use Rattle.slots.proofs.Finds.{clear_of}
 use Rattle.slots.proofs.Steps.{sound-segments}
-use Rattle.bare.proofs.Runs.{put-within, put-none, put_some}
+use Rattle.bare.proofs.Runs.{put-none, put-some}
 use Rattle.bare.proofs.pairs.put_in.Goals as goal
 
-pub first_clear-a-requires : goal.first_clear-a-requires
+pub first_clear-requires : goal.first_clear-requires
 unfolding base
-first_clear-a-requires c = omega (arith, sound-segments base.segments (slots_of c.args.halves.now c.args.segments c.args.head) c.requires.head_value)
+first_clear-requires c = omega (arith, sound-segments base.segments (view c.args.t.now) c.requires.sound)
 
-pub returns-then-a-eq-SLOTS : goal.returns-then-a-eq-SLOTS
-returns-then-a-eq-SLOTS c = record {
-  inserted = put-none c.args.halves.now c.args.segments c.args.head c.requires.head_value _ _ c.least.ensures c.first_clear-a.ensures c.if-a-eq-SLOTS.true;
-  halves_len_2 = search rules;
-}
+pub returns-in_default-clause-inserted : goal.returns-in_default-clause-inserted
+returns-in_default-clause-inserted c = put-none _ _ _ c.requires.sound _ c.min.ensures c.in_default.ensures
 
 pub occupy-requires : goal.occupy-requires
-occupy-requires c = (omega (arith, put-within c.args.halves.now c.args.segments c.args.head c.requires.head_value _ _ c.least.ensures c.first_clear-a.ensures), search rules)
+unfolding base
+occupy-requires c = omega (arith, (clear_of (occ c.args.t.now.halves) (128 * c.min.result) (SLOTS - 128 * c.min.result) c.in-Some.a (sym c.in-Some.ensures)).high, sound-segments base.segments (view c.args.t.now) c.requires.sound)
 
-pub returns : goal.returns
-returns c = record {
-  inserted = put_some c.args.halves.now c.args.segments c.args.head c.requires.head_value _ _ c.least.ensures c.first_clear-a.ensures _ c.if-a-eq-SLOTS.false c.occupy.ensures.halves_after;
-  halves_len_2 = c.occupy.ensures.halves_len;
-}
+pub overflow_cast-result : goal.overflow_cast-result
+unfolding base
+overflow_cast-result c = omega (arith, (clear_of (occ c.args.t.now.halves) (128 * c.min.result) (SLOTS - 128 * c.min.result) c.in-Some.a (sym c.in-Some.ensures)).high, sound-segments base.segments (view c.args.t.now) c.requires.sound)
+
+pub returns-clause-inserted : goal.returns-clause-inserted
+returns-clause-inserted c = rw c.max-t.ensures (put-some _ _ _ c.requires.sound _ c.min.ensures c.in-Some.a _ c.in-Some.ensures c.occupy.ensures.halves_after)

@@ -6,7 +6,10 @@ use Rattle.bare.proofs.Runs.{Sound}
 use Rattle.bare.proofs.pairs.run_lent.Given as goal
 
 abbrev pub invariant-loop-i : goal.invariant-loop-i
-invariant-loop-i l = (l.a < HALF) × (length l.t.halves ≡ HALVES) × Sound (view l.t) × (summed l.stride (l.n - l.i) l.a (view l.t) l.sum ≡ summed l.stride l.n 0 (view l.initial.t) 0)
-
-abbrev pub decreases-loop-i : goal.decreases-loop-i
-decreases-loop-i l = l.n - l.i
+invariant-loop-i l =
+    record {
+      below : l.a < HALF;
+      long : length l.t.halves ≡ HALVES;
+      sound : Sound (view l.t);
+      left : summed l.stride (l.n - l._i) l.a (view l.t) l.sum ≡ summed l.stride l.n 0 (view l.initial.t) 0;
+    }
