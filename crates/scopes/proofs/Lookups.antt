@@ -4,17 +4,22 @@ use Rattle.std.specs.Prelude as code
 use Rattle.rules.specs.Notation.{given, refused, ◌>>=◌, refuse◌unless◌, refuse◌when◌}
 use Rattle.rules.specs.Refusals.{number_of}
 use Rattle.rules.specs.declared.refusal.Refusal.{Refusal}
-use Rattle.rules.specs.Sizes.{base, SCOPES}
+use Rattle.rules.specs.Sizes.{base, BINDINGS, SCOPES}
 use Rattle.rules.specs.Scopes as rule
 use Rattle.scopes.specs.View.{view, index, binding, bindings_of, target, Seen, told}
 use Rattle.scopes.specs.Sound.{Sound, Sized}
-use Rattle.scopes.specs.Leaves.{There, Missing, Nearest, Readable, Tops}
+use Rattle.scopes.specs.Leaves.{There, Missing, place_in, Nearest, Readable, Tops}
 use Rattle.scopes.specs.Steps.{Whole, Becomes}
 use Rattle.scopes.specs.declared.Scopes.{Scopes}
 use Rattle.scopes.proofs.Finds.{Topped}
 use Rattle.scopes.proofs.Becoming.{does}
 use Rattle.scopes.proofs.Bindings.{marked-moved, each-bound}
 use Rattle.scopes.proofs.Defines.{with_bindings, sized-with, Rebound, rebound-sound, set-clear}
+
+-- ---- a place as a number, and as an option
+
+pub place-some : (r : ℕ) → r < BINDINGS → place_in r ≡ code.Some r
+place-some r l = rw (lt-ltb r BINDINGS l, place_in)
 
 -- ---- one scope, then its parent
 

@@ -1,5 +1,5 @@
 -- What the leaves answer: functions that borrow some of the arrays. Assumes nothing.
-use Rattle.std.specs.Prelude.{◌≡◌, ℕ, ◌%◌, ◌<◌, ◌≤◌, Bool, true, false, not, ◌&&◌, ◌||◌, ◌≢◌, List, [], ◌∷◌, ◌++◌, length, take, ◌==◌, slice_index, slice_index_or, slice_set, Result, IfOk, IfSome, MatchOption}
+use Rattle.std.specs.Prelude.{◌≡◌, ℕ, ◌%◌, ◌<◌, ◌≤◌, Bool, true, false, not, ◌&&◌, ◌||◌, ◌≢◌, List, [], ◌∷◌, ◌++◌, length, take, ◌==◌, nat_lt, slice_index, slice_index_or, slice_set, Result, IfOk, IfSome, MatchOption}
 use Rattle.std.specs.Prelude as code
 use Rattle.std.proofs.Math.Option.{Option, none, some}
 use Rattle.rules.specs.Sizes.{base, BINDINGS, SCOPES}
@@ -90,6 +90,10 @@ binding_at s j = binding (slice_index s.bindings j)
 -- for each scope, the list has the place of the binding of `name` there, or BINDINGS
 abbrev pub Placed : List ℕ → ℕ → ℕ → List ℕ → Type 0
 Placed bindings count name places = (i : ℕ) → i < SCOPES → Spot bindings count i name (slice_index places i)
+
+-- what such a list has for a scope, as an option of the code
+abbrev pub place_in : ℕ → code.Option ℕ
+place_in r = elim (nat_lt r BINDINGS) [ true ↦ code.Some r | false ↦ code.None ]
 
 -- the binding at j is of `name`, in the scope at index i
 abbrev pub binds : List ℕ → ℕ → ℕ → ℕ → Bool

@@ -5,7 +5,7 @@ ghost use Rattle.rules.specs.Sizes.{base, BINDINGS, SCOPES};
 ghost use Rattle.rules.specs.Scopes as rule;
 ghost use Rattle.scopes.specs.View.{view, binding, bound_to, target, told, told_only, replied};
 ghost use Rattle.scopes.specs.Steps.{Whole, Becomes};
-ghost use Rattle.scopes.specs.Leaves.{binds, Spots, Placed, NotesFrom, Nearest, Readable, Unbinds, ClearsFrom};
+ghost use Rattle.scopes.specs.Leaves.{binds, Spots, Placed, place_in, NotesFrom, Nearest, Readable, Unbinds, ClearsFrom};
 
 use crate::{Bound, HandleNumber, Scopes};
 use rules::refusal::Refusal;
@@ -47,6 +47,16 @@ fn bound_of(b: u64) -> Bound
 
 // No place among the bindings, in a table of places. They stay numbers of 16 bits, so that a look-up fills a short table and tests it fast.
 const NO_PLACE: u16 = BINDINGS as u16;
+
+// What such a table has for a scope.
+fn noted_place(j: u16) -> Option<usize>
+    ensures { result ≡ place_in j }
+{
+    if j < NO_PLACE {
+        return Some(usize::from(j));
+    }
+    None
+}
 
 // The place of the binding of `name` in scope i.
 fn find(bindings: &[u64; BINDINGS], count: usize, i: usize, name: u16) -> Option<usize>
@@ -93,20 +103,20 @@ fn note(places: &mut [u16; SCOPES], bindings: &[u64; BINDINGS], from: usize, to:
 }
 
 impl Scopes {
-    // The place of the nearest binding of `name`, where `places` has that in each scope: in scope i, else in its parent, and so on, over `left`
-    // scopes at most.
-    fn climb(&self, places: &[u16; SCOPES], i: usize, left: usize) -> Option<usize>
-        ensures { (name : ℕ) → Placed self.now.bindings self.now.count name places.now → Nearest self.now name i left result }
+    // Where `places` has the nearest binding of `name`: at scope i, else at its parent, and so on, over `left` scopes at most; NO_PLACE where
+    // none of them has it. It stays a number, which `lookup` makes the Option of: calls that hand on an Option aren't compiled to a loop.
+    fn climb(&self, places: &[u16; SCOPES], i: usize, left: usize) -> u16
+        ensures { (name : ℕ) → Placed self.now.bindings self.now.count name places.now → Nearest self.now name i left (place_in result) }
     {
         if left == 0 {
-            return None;
+            return NO_PLACE;
         }
         if SCOPES <= i || !self.live[i] {
-            return None;
+            return NO_PLACE;
         }
-        let j = usize::from(places[i]);
-        if j < BINDINGS {
-            return Some(j);
+        let j = places[i];
+        if j < NO_PLACE {
+            return j;
         }
         self.climb(places, usize::from(self.parent[i]), left - 1)
     }
@@ -132,7 +142,7 @@ impl Scopes {
             self.count - 8 * eights,
             name,
         );
-        self.climb(&places, self.top, SCOPES)
+        noted_place(self.climb(&places, self.top, SCOPES))
     }
 
     // The place of the binding that get and take mean. 3, 10, 11.

@@ -36,5 +36,5 @@ returns c =
     let count = c.args.self.now.count in
     let most = c.requires.sound.named.most in
     let z : l.e ≡ count / 8 = omega (arith, c.loop-e-test.false, l.auto.e-end) in
-    c.climb.ensures c.args.name
-    (noted-all c.args.self.now.bindings c.args.name count most c.requires.sized.bindings c.note-2.new.places (c.note-2.ensures.1 count (omega arith) most (rw z at l.invariant.1)))
+    rw c.noted_place.ensures (c.climb.ensures c.args.name
+    (noted-all c.args.self.now.bindings c.args.name count most c.requires.sized.bindings c.note-2.new.places (c.note-2.ensures.1 count (omega arith) most (rw z at l.invariant.1))))
