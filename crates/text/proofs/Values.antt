@@ -1,9 +1,10 @@
 -- The value of a digit by ranges. Assumes nothing.
-use mathlib.Core.Path.{◌≡◌, refl, sym}
-use mathlib.Core.Bool.{Bool, true, false, ◌&&◌, true≢false}
+use mathlib.Core.Path.{◌≡◌, refl}
+use mathlib.Core.Logic.{◌⊎◌, inl, inr}
+use mathlib.Core.Bool.{Bool, true, false}
 use Prim.Native.Nat.{ℕ, ◌+◌, ◌≤◌, ◌<◌, ◌-◌, ◌*◌, ◌/◌, ◌%◌}
 use native.Mathlib.Omega.{arith}
-use lib.Dec.{ltb, leb}
+use lib.Dec.{ltb}
 use borrow.Author.Tests.{lt-ltb, le-ltb, lt-leb, le-leb, ltb-true, ltb-false}
 use Rattle.std.specs.declared.option.Option.{Option}
 use Rattle.std.specs.declared.option.Option.TheVariants.{Some, None}
@@ -35,6 +36,11 @@ value-high x h = rw (le-leb 48 x (omega arith), lt-leb x 57 (omega arith), le-le
 
 pub some-digit : (x v : ℕ) → value x ≡ v → v < 16 → Some v ≡ digit_in x
 some-digit x v e h = rw (e, lt-ltb v 16 h)
+
+-- computed, once it is none of the other bytes
+pub digit-by-halves : (x : ℕ) → 48 ≤ x → x ≤ 102 → ((57 < x) × (97 ≤ x)) ⊎ (x ≤ 57) → Some (x % 16 + x / 64 * 9) ≡ digit_in x
+digit-by-halves x l h (inl (_, d)) = let e = value-letter x d h in some-digit x _ (omega (arith, e, d, h)) (omega (arith, d, h))
+digit-by-halves x l h (inr d) = let e = value-digit x l d in some-digit x _ (omega (arith, e, l, d)) (omega (arith, l, d))
 
 pub no_digit : (x : ℕ) → value x ≡ 16 → None ≡ digit_in x
 no_digit x e = rw e

@@ -3,15 +3,14 @@ ghost use Rattle.std.specs.Prelude.{◌≡◌, ◌<◌, IfSome};
 ghost use Rattle.rules.specs.Text.{digit};
 ghost use Rattle.text.specs.Lines.{digit_in, Packed, FourDigits, WordMakes};
 
-// The value of a byte, if it is a digit.
+// The value of a byte, if it is a digit. Only a byte that is none takes a branch: which digit comes next nobody can foretell.
 pub fn digit_value(c: u8) -> Option<u8>
     ensures { result ≡ digit_in c }
 {
-    match c {
-        b'0'..=b'9' => Some(c - b'0'),
-        b'a'..=b'f' => Some(c - b'a' + 10),
-        _ => None,
+    if c < b'0' || b'f' < c || b'9' < c && c < b'a' {
+        return None;
     }
+    Some(c % 16 + c / 64 * 9)
 }
 
 pub fn digit_of(n: u8) -> u8
