@@ -35,22 +35,31 @@ pub fn entry_at(table: &[u64], i: usize) -> Entry
 pub fn loads_of(x: Entry) -> usize
     ensures { result ≡ loads_of x }
 {
-    usize::from(matches!(x, Entry::Load(_)))
+    match x {
+        Entry::Load(_) => 1,
+        _ => 0,
+    }
 }
 
 // How many samples it takes.
 pub fn takes_of(x: Entry) -> usize
     ensures { result ≡ takes_of x }
 {
-    usize::from(matches!(x, Entry::Sample(_)))
+    match x {
+        Entry::Sample(_) => 1,
+        _ => 0,
+    }
 }
 
-// Whether its address is not below the size.
+// Whether its address is not below the size. An arm for each, so that in a loop over lines what an entry is gets asked once; one arm for the three
+// took a load half as many instructions more.
 pub fn over(x: Entry, size: usize) -> bool
     ensures { result ≡ over_of size x }
 {
     match x {
         Entry::Skip => false,
-        Entry::Store(a, _) | Entry::Sample(a) | Entry::Load(a) => size <= usize::from(a),
+        Entry::Store(a, _) => size <= usize::from(a),
+        Entry::Sample(a) => size <= usize::from(a),
+        Entry::Load(a) => size <= usize::from(a),
     }
 }

@@ -15,7 +15,8 @@ pub fn load(cells: &[u8], a: usize) -> u16
     requires { 2 * a + 1 < length cells.now }
     ensures { result ≡ cell_at cells.now a }
 {
-    u16::from_be_bytes([cells[2 * a], cells[2 * a + 1]])
+    // by * and +: `from_be_bytes` turns the bytes round, and then the digits that they are shown by aren't made side by side
+    u16::from(cells[2 * a]) * 256 + u16::from(cells[2 * a + 1])
 }
 
 pub fn store(cells: &mut [u8], a: usize, v: u16)
