@@ -2,7 +2,7 @@
 // Where `as` takes a number to another type, it fits, and the proof says so: `From` has no such step, and `try_from` would bring an error that can't be.
 #![tactic(auto)]
 
-ghost use Rattle.std.specs.Prelude.{◌≡◌, ◌≤◌, true, length};
+ghost use Rattle.std.specs.Prelude.{◌≡◌, ◌++◌, ◌≤◌, true, length, take, drop};
 ghost use Rattle.std.specs.Result.{is_err};
 ghost use Rattle.rules.specs.Sizes.{base, PAGE};
 ghost use Rattle.rules.specs.Entries.{translate_entry};
@@ -13,6 +13,17 @@ use text::refusal::RefusedAt;
 use whole::steps_on;
 
 pub mod whole; // all steps of a script, and the page
+
+// The first n bytes of the page go to the start of the list. One by one, since `copy_from_slice` is compiled to a call of `memmove`, which nothing else
+// in the archive for C needs from outside.
+fn copy(page: &[u8], list: &mut [u8], n: usize)
+    requires { (n ≤ length page.now) × (n ≤ length list.old) }
+    ensures { list.new ≡ take n page.now ++ drop n list.old }
+{
+    for i in 0..n {
+        list[i] = page[i];
+    }
+}
 
 // Translates the script on this page: its lines and their steps, and 17 last; or 17 where the page may be too short for the list. It answers
 // how many bytes the list takes.
@@ -25,7 +36,7 @@ fn translate_on(script: &[u8], page: &mut [u8], list: &mut [u8]) -> Result<usize
     if list.len() < n {
         return Err(RefusedAt::new(Refusal::MemoryTooShort, 0));
     }
-    list[..n].copy_from_slice(&page[..n]);
+    copy(page, list, n);
     Ok(n)
 }
 
