@@ -8,6 +8,7 @@ use Rattle.std.specs.Prelude as code
 use Rattle.std.specs.Prelude.{Result}
 use Rattle.rules.specs.Notation.{Answer}
 use Rattle.rules.specs.Needs as need
+use Rattle.rules.specs.Scopes as rule
 use Rattle.rules.specs.Refusals.{says}
 use Rattle.rules.specs.declared.refusal.Refusal.{Refusal}
 use Rattle.rules.proofs.Says.{says-one}
@@ -17,7 +18,7 @@ use Rattle.scopes.specs.Sound.{Sound, Typed}
 use Rattle.scopes.specs.declared.Bound.{Bound}
 use Rattle.scopes.specs.declared.ScopeId.{ScopeId}
 use Rattle.scopes.specs.declared.Scopes.{Scopes}
-use Rattle.scopes.proofs.Unique.{same-state}
+use Rattle.scopes.proofs.Unique.{same-state, id-one, bound-one}
 use Rattle.soundness.proofs.Agrees.{good-sound}
 use Rattle.needs.specs.Kinds.{address_of, run_of}
 use Rattle.needs.specs.Answers.{slot_of, output_of}
@@ -66,13 +67,22 @@ module _ {T A : Type 0} (f : T → A) where
         let e = admits-both f x ((r.0.state, r.1), r.0.answer) ((q.0.state, q.1), q.0.answer) (says-one f each r.0.answer q.0.answer) (proper tr h.1) (proper tq k.1) h.0 k.0 in
         λ i. (record { state = (e i).0.0; answer = (e i).1 }, (e i).0.1))
 
--- ---- what the calls of `scope` give is told so
+-- ---- the calls of `scope`: an id, nothing, or what a name is bound to
 
-pub id-one : (i j : ScopeId) → id_of i ≡ id_of j → i ≡ j
-id-one i j e = λ t. record { index = (e t).index; number = (e t).number }
+pub id-call-one : (s : Scopes) (x : Seen rule.Id) (r q : Outcome ScopeId) → Typed r.state → Typed q.state → Call id_of s x r → Call id_of s x q → r ≡ q
+id-call-one = call-one id_of id-one
 
-pub bound-one : (b d : Bound) → bound_to b ≡ bound_to d → b ≡ d
-bound-one b d e = λ t. record { address = record { 0 = (e t).0 }; handle = record { 0 = (e t).1 } }
+pub done-call-one : (s : Scopes) (x : Seen (Unit {0})) (r q : Outcome (Unit {0})) → Typed r.state → Typed q.state → Call (λ u. u) s x r → Call (λ u. u) s x q → r ≡ q
+done-call-one = call-one (λ u. u) (λ v w e. e)
+
+pub bound-call-one : (s : Scopes) (x : Seen (ℕ × ℕ)) (r q : Outcome Bound) → Typed r.state → Typed q.state → Call bound_to s x r → Call bound_to s x q → r ≡ q
+bound-call-one = call-one bound_to bound-one
+
+pub id-asked-one : (s : Scopes) (x : Answer rule.Id) (r q : Result ScopeId Refusal) → Asked id_of s x r → Asked id_of s x q → r ≡ q
+id-asked-one = asked-one id_of id-one
+
+pub bound-asked-one : (s : Scopes) (x : Answer (ℕ × ℕ)) (r q : Result Bound Refusal) → Asked bound_to s x r → Asked bound_to s x q → r ≡ q
+bound-asked-one = asked-one bound_to bound-one
 
 -- ---- "All leave state .. unchanged": where the rule's next state is the one that came in, so is the record
 

@@ -4,20 +4,27 @@ use mathlib.Core.Logic.{by_cases}
 use mathlib.Core.Option.{Option, none, some}
 use native.Mathlib.Decide.{ℕ_discrete, dec_lt}
 use lib.ListN.{length-map}
+use Rattle.std.specs.Prelude as code
 use Rattle.std.specs.Prelude.{Result}
+use Rattle.rules.specs.Notation.{is_some}
+use Rattle.rules.specs.Options.{option_of}
 use Rattle.rules.specs.Refusals.{says}
 use Rattle.rules.specs.declared.refusal.Refusal.{Refusal}
 use Rattle.rules.proofs.Says.{says-one}
+use Rattle.rules.proofs.Tells.{clash}
 use Rattle.rules.specs.Sizes.{LISTS, SCOPES, SLOTS, WORD}
 use Rattle.rules.specs.AddressSets.{member}
 use Rattle.rules.specs.Scopes as rule
 use Rattle.slots.proofs.Occupied.{halves-ext}
 use Rattle.links.proofs.Rings.{chains-alike}
 use Rattle.links.proofs.Same.{same-cells}
-use Rattle.scopes.specs.View.{list_of, view, index, binding, bindings_of, Seen, ADDRESS_PART, HANDLE_PART, NAME_PART, SCOPE_PART}
+use Rattle.scopes.specs.View.{list_of, view, index, id_of, address_of, bound_to, binding, bindings_of, Seen, ADDRESS_PART, HANDLE_PART, NAME_PART, SCOPE_PART}
 use Rattle.scopes.specs.Sound.{Sound, Sized, Typed}
 use Rattle.scopes.specs.Steps.{Drains}
+use Rattle.scopes.specs.declared.Bound.{Bound}
+use Rattle.scopes.specs.declared.ScopeId.{ScopeId}
 use Rattle.scopes.specs.declared.Scopes.{Scopes}
+use Rattle.slots.specs.declared.SlotAddress.{SlotAddress}
 use Rattle.scopes.proofs.Opens.{owns_none}
 use Rattle.scopes.proofs.Closes.{parent-fits}
 
@@ -182,6 +189,48 @@ pub admits-one : {T B : Type 0} (g : T → B) → ((v w : T) → g v ≡ g w →
 admits-one {T} {B} g one x t u r q tt' tu ht hu =
     let e : ◌≡◌ {A = Seen B} (record { next = view t; says = says g r }) (record { next = view u; says = says g q }) = ht.0 ∙ sym hu.0 in
     (same-state t u ht.1 hu.1 tt' tu (ap (λ (z : Seen B). z.next) e), says-one g one r q (ap (λ (z : Seen B). z.says) e))
+
+-- .. closed, for each kind of value that an operation gives
+abbrev pub AdmitsOne : {T B : Type 0} → (T → B) → Type 0
+AdmitsOne {T} {B} g =
+    (x : Seen B) (t u : Scopes) (r q : Result T Refusal) → Typed t → Typed u
+    → (record { next = view t; says = says g r } ≡ x) × Sound t → (record { next = view u; says = says g q } ≡ x) × Sound u → (t ≡ u) × (r ≡ q)
+
+pub id-one : (i j : ScopeId) → id_of i ≡ id_of j → i ≡ j
+id-one i j e = λ t. record { index = (e t).index; number = (e t).number }
+
+pub bound-one : (b d : Bound) → bound_to b ≡ bound_to d → b ≡ d
+bound-one b d e = λ t. record { address = record { 0 = (e t).0 }; handle = record { 0 = (e t).1 } }
+
+slot-one : (a b : SlotAddress) → address_of a ≡ address_of b → a ≡ b
+slot-one a b e = λ t. record { 0 = e t }
+
+-- an option's rule is told by the option
+slot-or : SlotAddress → Option ℕ → SlotAddress
+slot-or a none = a
+slot-or a (some n) = record { 0 = n }
+
+first-one : (a b : code.Option SlotAddress) → option_of address_of a ≡ option_of address_of b → a ≡ b
+unfolding slot-or
+first-one code.None code.None e = refl
+first-one code.None (code.Some b) e = clash refl (ap is_some (sym e))
+first-one (code.Some a) code.None e = clash refl (ap is_some e)
+first-one (code.Some a) (code.Some b) e = λ t. code.Some (slot-or a (e t))
+
+pub id-admits-one : AdmitsOne id_of
+id-admits-one = admits-one id_of id-one
+
+pub done-admits-one : AdmitsOne (λ (u : Unit {0}). u)
+done-admits-one = admits-one (λ u. u) (λ v w e. e)
+
+pub bound-admits-one : AdmitsOne bound_to
+bound-admits-one = admits-one bound_to bound-one
+
+pub slot-admits-one : AdmitsOne address_of
+slot-admits-one = admits-one address_of slot-one
+
+pub first-admits-one : AdmitsOne (option_of address_of)
+first-admits-one = admits-one (option_of address_of) first-one
 
 -- a question's promise is `says g r ≡ x`: `says-one` of the rules; fresh's is `(view r ≡ c) × Sound r`
 pub fresh-one : (c : rule.Scopes) (r q : Scopes) → Typed r → Typed q → (view r ≡ c) × Sound r → (view q ≡ c) × Sound q → r ≡ q
