@@ -13,9 +13,9 @@ fn digits_with(column: u64, value: u64, c: u8) -> Option<u64>
     ensures { result ≡ digits_with column value c }
 {
     match column {
-        0 => (c == b'3').then_some(0),
-        1 => (c == b'0').then_some(0),
-        2..=5 => digit_value(c).map(|d| value * 16 + u64::from(d)),
+        0 if c == b'3' => Some(0),
+        1 if c == b'0' => Some(0),
+        2..=5 => Some(value * 16 + digit_value(c)?),
         _ => None,
     }
 }

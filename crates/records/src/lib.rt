@@ -1,5 +1,6 @@
 // Stored answers, read where they lie: a row of records, each a head of 18 bytes (a mark, two lengths of eight digits, LF), a script and
 // what is printed for it.
+// Where `as` takes a number to another type, it fits, and the proof says so: `From` has no such step, and `try_from` would bring an error that can't be.
 #![tactic(auto)]
 
 ghost use Rattle.std.specs.Prelude.{◌≡◌, ◌+◌, ◌≤◌, length};
@@ -32,7 +33,7 @@ fn weight_of(c: u8) -> usize
     ensures { (result ≡ value c) × (result ≤ 16) }
 {
     match digit_value(c) {
-        Some(v) => usize::from(v),
+        Some(v) => v as usize,
         None => 16,
     }
 }

@@ -135,6 +135,10 @@ ends-here : (s : List ℕ) (e : ℕ) → e ≤ length s → (e < length s → ge
 ends-here s e h l = record { from = omega arith; to = h; none_before = λ k a b x. omega (arith, a, b); last = l }
 
 module _ (which : TextKind) (s : List ℕ) (p : ℕ) (l : p < length s) (d : Digits) (h : DigitsFrom s p d) where
+  -- the text's end
+  pub took-torn : d.end ≡ length s → Took (reading_of which) s p (record { frame = None; next = d.end })
+  took-torn q = took-open which s p d.end (ends_on s p d.end d.end h.from h.all (ends-here s d.end h.to (λ b. absurd (omega (arith, b, q))))) l q
+
   -- LF
   pub took-digits : (d.end ≡ length s → ⊥) → get_or s d.end 0 ≡ 10 → (x : Reading) → x ≡ reading_by which (d.end - p) d.number
       → Took (reading_of which) s p (record { frame = x; next = d.end + 1 })

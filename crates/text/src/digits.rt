@@ -4,13 +4,15 @@ ghost use Rattle.rules.specs.Text.{digit};
 ghost use Rattle.text.specs.Lines.{digit_in, Packed, FourDigits, WordMakes};
 
 // The value of a byte, if it is a digit. Only a byte that is none takes a branch: which digit comes next nobody can foretell.
-pub fn digit_value(c: u8) -> Option<u8>
+// It is computed in the 64 bits that it is wanted in; in a byte it takes more instructions.
+pub fn digit_value(c: u8) -> Option<u64>
     ensures { result ≡ digit_in c }
 {
     if c < b'0' || b'f' < c || b'9' < c && c < b'a' {
         return None;
     }
-    Some(c % 16 + c / 64 * 9)
+    let w = u64::from(c);
+    Some(w % 16 + w / 64 * 9)
 }
 
 pub fn digit_of(n: u8) -> u8

@@ -101,7 +101,8 @@ pub fn digits_one_by_one(s: &[u8], p: usize) -> Digits
     requires { p ≤ length s.now }
     ensures { DigitsFrom s.now p result }
 {
-    let stop = p + (s.len() - p).min(10);
+    // as p and the least of two numbers, the compiler would count the shift along in each turn
+    let stop = if s.len() - p < 10 { s.len() } else { p + 10 };
     let mut number: u64 = 0;
     for e in p..stop {
         let Some(v) = digit_value(s[e]) else {
@@ -110,7 +111,7 @@ pub fn digits_one_by_one(s: &[u8], p: usize) -> Digits
                 number: number << (40 - 4 * (e - p)),
             };
         };
-        number = number * 16 + u64::from(v);
+        number = number * 16 + v;
     }
     Digits {
         end: digits_end(s, stop),
@@ -209,14 +210,21 @@ fn next_line(s: &[u8], e: usize) -> usize
     if q == s.len() { q } else { q + 1 }
 }
 
-// The line at p. One that holds another byte than digits, or that no LF ends, is malformed.
-fn line_at(s: &[u8], p: usize, kind: TextKind) -> TakenLine
-    requires { p < length s.now }
+// The line at p, whose digits they are. One that holds another byte than digits, or that no LF ends, is malformed. The digits are asked for by the
+// callers, so that this is compiled into each of them and what a line is needs no memory.
+fn line_at(s: &[u8], p: usize, d: Digits, kind: TextKind) -> TakenLine
+    requires in_bounds { p < length s.now }
+    requires digits { DigitsFrom s.now p d }
     ensures { Took (reading_of kind) s.now p result }
 {
-    let d = digits_from(s, p);
     let e = d.end;
-    if e < s.len() && s[e] == b'\n' {
+    if e == s.len() {
+        return TakenLine {
+            frame: None,
+            next: e,
+        };
+    }
+    if s[e] == b'\n' {
         let frame = frame_by(d.number, e - p, kind);
         return TakenLine { frame, next: e + 1 };
     }
@@ -231,7 +239,7 @@ pub fn frame_at(s: &[u8], p: usize) -> TakenLine
     requires { p < length s.now }
     ensures { Took frame_reading s.now p result }
 {
-    line_at(s, p, TextKind::Script)
+    line_at(s, p, digits_from(s, p), TextKind::Script)
 }
 
 // The line of a list at p; the size line is one too, with opcode 90.
@@ -239,5 +247,5 @@ pub fn list_line_at(s: &[u8], p: usize) -> TakenLine
     requires { p < length s.now }
     ensures { Took line_reading s.now p result }
 {
-    line_at(s, p, TextKind::List)
+    line_at(s, p, digits_from(s, p), TextKind::List)
 }

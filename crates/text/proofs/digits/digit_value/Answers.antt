@@ -11,4 +11,4 @@ returns-then-c-lt48 c = elim c.then-c-lt48.branch [
 ]
 
 pub returns : goal.returns
-returns c = digit-by-halves _ c.if-c-lt48.false c.if-c-gt102.false c.if-c-lt97.either
+returns c = rw c.from-w.ensures (digit-by-halves _ c.if-c-lt48.false c.if-c-gt102.false c.if-c-lt97.either)

@@ -11,6 +11,7 @@ use borrow.Author.Tests.{ltb-true, ltb-false}
 use Rattle.rules.specs.Text.{value}
 use Rattle.text.proofs.Values.{digit-told, digit-none}
 use Rattle.text.proofs.Numbers.{shifted_start, shifted-below, shifted-out, shifted-small, shifted-on, number-rest}
+use Rattle.text.proofs.lines.digits_one_by_one.Goals.{then-s-p-lt10, else-s-p-lt10}
 use Rattle.text.proofs.lines.digits_one_by_one.Goals as goal
 
 -- the digits before e
@@ -40,7 +41,7 @@ pub overflow_mul-number : goal.overflow_mul-number
 overflow_mul-number c = omega (arith, shifted-small c.args.s.now c.args.p _ _ c.loop-e.invariant.1)
 
 pub overflow_add-number : goal.overflow_add-number
-overflow_add-number c = omega (arith, shifted-small c.args.s.now c.args.p _ _ c.loop-e.invariant.1)
+overflow_add-number c = omega (arith, digit-told _ _ c.in-Some.ensures, shifted-small c.args.s.now c.args.p _ _ c.loop-e.invariant.1)
 
 pub loop-e-preserved : goal.loop-e-preserved
 loop-e-preserved c =
@@ -55,8 +56,11 @@ pub returns : goal.returns
 returns c =
     let i = c.loop-e.invariant in
     let d = c.digits_end.ensures in
-    let stop : c.args.p + c.min.result ≡ c.loop-e.e = omega arith in
-    let full : c.loop-e.e < c.digits_end.result → c.loop-e.e ≡ c.args.p + 10 = λ h. omega (arith, h, d.to, stop, c.min.ensures) in
+    let from : c.args.p ≤ c.if-s-p-lt10.stop
+    = elim c.if-s-p-lt10.branch [ then-s-p-lt10 w ↦ omega (arith, w.stop-is) | else-s-p-lt10 w ↦ omega (arith, w.stop-is) ] in
+    let stop : c.if-s-p-lt10.stop ≡ c.loop-e.e = omega (arith, from) in
+    let full : c.loop-e.e < c.digits_end.result → c.loop-e.e ≡ c.args.p + 10
+    = λ h. elim c.if-s-p-lt10.branch [ then-s-p-lt10 w ↦ omega (arith, h, d.to, stop, w.stop-is) | else-s-p-lt10 w ↦ omega (arith, stop, w.stop-is) ] in
     let same = number-rest c.args.s.now c.args.p c.loop-e.e _ (omega arith) (omega (arith, d.from, stop)) full in
     rw stop
     (record {
