@@ -1,6 +1,7 @@
 -- 23 of a deferred need, and 25: by what is done over the scopes and the handles alone. Assumes nothing.
 use mathlib.Core.Path.{◌≡◌, refl, sym, ap, subst, ◌∙◌}
 use mathlib.Core.Bool.{true, false}
+use mathlib.Core.Logic.{inl, inr}
 use mathlib.Core.Option.{Option, none, some}
 use mathlib.Core.List.{List, [], ◌∷◌}
 use Prim.Native.Nat.{ℕ, ◌<◌}
@@ -10,6 +11,7 @@ use Rattle.std.specs.Prelude.{Result, Ok, Err}
 use Rattle.std.specs.Result.{is_err}
 use Rattle.rules.specs.Notation.{Answer, given, refused, ◌>>=◌, refuse◌unless◌, provided◌then◌else◌, ◌▹◌, put}
 use Rattle.rules.specs.declared.refusal.Refusal.{Refusal}
+use Rattle.rules.specs.declared.refusal.Refusal.TheVariants.{NeedUnknown}
 use Rattle.rules.specs.Sizes.{Room, base, NEEDS}
 use Rattle.rules.specs.Slots.{Placement}
 use Rattle.rules.specs.Scopes as rule
@@ -32,7 +34,7 @@ use Rattle.needs.specs.declared.Address.{Address as Address'}
 use Rattle.needs.specs.declared.Need.{Need as Need'}
 use Rattle.needs.specs.declared.Need.TheVariants as need
 use Rattle.handles.specs.Handles.{kind_in, handle_at, state_of}
-use Rattle.handles.specs.NeedTable.{need_in, remembered_at, state_with, with_need, KnowsNeed}
+use Rattle.handles.specs.NeedTable.{need_in, remembered_at, state_with, with_need, MadeNeed, KnowsNeed}
 use Rattle.handles.specs.declared.Handles.{Handles}
 use Rattle.handles.specs.declared.remembered.Needs.{Needs}
 use Rattle.handles.proofs.NeedTables.{own_is, again, need-set}
@@ -181,6 +183,13 @@ module _ (place : Placement) {p : Script} (stands : StandsWith p) (n : ℕ) wher
   unfolding step
   allocate-21 = need-21 stands n (alloc_need n) 0x23 (λ q. when_true 21 _ q)
 
+  -- 23 of a need that was never made, and of a freed one
+  pub allocate-unmade : (e : Refusal) → MadeNeed p.needs n (Err e) → (drained : List ℕ) → WorksWith place (alloc_need n) 0x23 p (Err e) p drained
+  allocate-unmade e k = allocate-21 e (inl k.0, k.1)
+
+  pub allocate-freed : MadeNeed p.needs n (Ok need.Freed) → (drained : List ℕ) → WorksWith place (alloc_need n) 0x23 p (Err NeedUnknown) p drained
+  allocate-freed k = allocate-21 NeedUnknown (inr (ap is_gone (sym k.1)), refl)
+
   pub free-21 : (e : Refusal) → KnowsNeed p.needs n (Err e) → (drained : List ℕ) → WorksWith place (drop_need n) 0x25 p (Err e) p drained
   unfolding step
   free-21 = need-21 stands n (drop_need n) 0x25 (λ q. when_true 21 _ q)
@@ -216,12 +225,12 @@ module _ (place : Placement) {p : Script} (stands : StandsWith p) (n : ℕ) wher
       let q : f ≡ put f n (record { need = at (record { slot = a.slot; kind = allocated_kind a.kind }); handle = get_or p.needs.remembers n 0 }) = put-ext f n _ f x (λ j _. refl) in
       λ u. given (some a.slot, record { scopes = view p.scopes; handles = handle_at (view p.scopes).slots.occupied p.handles; handed = p.handles.handed; needs = sym q u; needed = p.needs.needed })
 
-  pub again-works : (a : Address') → KnowsNeed p.needs n (Ok (need.Address a)) → (drained : List ℕ) → WorksWith place (alloc_need n) 0x23 p (Ok (Slot a.slot)) p drained
-  again-works a k drained = shown-with (need.Address a) k (some a.slot.0) (Slot a.slot) (λ _. refl) tt (again-same (address_of a) (sym k.1)) drained
+  pub again-works : (a : Address') → MadeNeed p.needs n (Ok (need.Address a)) → (drained : List ℕ) → WorksWith place (alloc_need n) 0x23 p (Ok (Slot a.slot)) p drained
+  again-works a k drained = shown-with (need.Address a) (k.0, k.1, refl) (some a.slot.0) (Slot a.slot) (λ _. refl) tt (again-same (address_of a) (sym k.1)) drained
 
-  pub ignored-works : KnowsNeed p.needs n (Ok need.Ignore) → (drained : List ℕ) → WorksWith place (alloc_need n) 0x23 p (Ok NoSlot) p drained
+  pub ignored-works : MadeNeed p.needs n (Ok need.Ignore) → (drained : List ℕ) → WorksWith place (alloc_need n) 0x23 p (Ok NoSlot) p drained
   unfolding allot_need
-  ignored-works k drained = shown-with need.Ignore k none NoSlot (λ _. refl) tt refl drained
+  ignored-works k drained = shown-with need.Ignore (k.0, k.1, refl) none NoSlot (λ _. refl) tt refl drained
 
   -- ---- 23 of a deferred need, and 25, from what is done over the scopes and the handles alone
 

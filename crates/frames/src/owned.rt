@@ -72,7 +72,7 @@ pub fn allocate(script: &mut Script, k: NeedNumber, place: Place) -> Result<Adds
     requires { StandsWith script.old }
     ensures { LeadsWithBy (placement_of place) (frame.alloc_need k.0) 0x23 script.old result script.new }
 {
-    let need = script.needs.known(k)?;
+    let need = script.needs.made(k)?;
     match need {
         Need::Defer(id) => first(script, k, id, place),
         Need::Address(a) => Ok(Adds::Slot(a.slot)),

@@ -53,7 +53,13 @@ state_with c handles t =
 abbrev pub fresh_needs : Needs
 fresh_needs = record { table = replicate NEEDS 0; remembers = replicate NEEDS 0; needed = 0 }
 
--- ---- of the need n: known as d, or never made, or freed
+-- ---- of the need n: it was made, and is d now; or it was never made
+
+abbrev pub MadeNeed : Needs → ℕ → Result Need' Refusal → Type 0
+MadeNeed t n (Ok d) = (n < t.needed) × (need_of d ≡ need_in (get_or t.table n 0))
+MadeNeed t n (Err e) = (t.needed ≤ n) × (e ≡ NeedUnknown)
+
+-- ---- it is known as d; or it was never made, or is freed
 
 abbrev pub KnowsNeed : Needs → ℕ → Result Need' Refusal → Type 0
 KnowsNeed t n (Ok d) = (n < t.needed) × (need_of d ≡ need_in (get_or t.table n 0)) × (is_gone (need_of d) ≡ false)

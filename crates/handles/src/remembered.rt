@@ -5,7 +5,7 @@ ghost use Rattle.rules.specs.Needs as rule;
 ghost use Rattle.rules.specs.Frames as frame;
 ghost use Rattle.scopes.specs.View.{id_of};
 ghost use Rattle.needs.specs.Kinds.{need_of};
-ghost use Rattle.handles.specs.NeedTable.{need_in, belongs_in, fresh_needs, KnowsNeed, AddsNeed, with_need};
+ghost use Rattle.handles.specs.NeedTable.{need_in, belongs_in, fresh_needs, MadeNeed, KnowsNeed, AddsNeed, with_need};
 
 use crate::{ASSIGNED, FREED, Handle, KIND_PART, SCOPE, code_in, id_in, slot_in};
 use needs::{Address, AddressKind, Need};
@@ -108,16 +108,24 @@ impl Needs {
         }
     }
 
-    // 21 of a need that was never made, and of a freed one.
-    pub fn known(&self, n: NeedNumber) -> Result<Need, Refusal>
+    // 21 of a need that was never made; of a freed one `Need::Freed`.
+    pub fn made(&self, n: NeedNumber) -> Result<Need, Refusal>
         requires { self.now.needed ≤ NEEDS }
-        ensures { KnowsNeed self.now n.0 result }
+        ensures { MadeNeed self.now n.0 result }
     {
         let i = usize::from(n.0);
         if self.needed <= i {
             return Err(Refusal::NeedUnknown);
         }
-        match need_in(self.table[i]) {
+        Ok(need_in(self.table[i]))
+    }
+
+    // 21 of a need that was never made, and of a freed one.
+    pub fn known(&self, n: NeedNumber) -> Result<Need, Refusal>
+        requires { self.now.needed ≤ NEEDS }
+        ensures { KnowsNeed self.now n.0 result }
+    {
+        match self.made(n)? {
             Need::Freed => Err(Refusal::NeedUnknown),
             d => Ok(d),
         }
