@@ -182,19 +182,17 @@ module _ (s t : Scopes) (h : Sound s) (k : Sound t) (ts : Typed s) (tt' : Typed 
 
 -- ---- any two results that a promise admits are equal
 
--- an operation's promise is `(what it did and said ≡ x) × Sound` of the state that it leaves: it is in `Becomes`. The code's own results are equal, where
--- `g` tells its values apart.
-pub admits-one : {T B : Type 0} (g : T → B) → ((v w : T) → g v ≡ g w → v ≡ w) → (x : Seen B) (t u : Scopes) (r q : Result T Refusal) → Typed t → Typed u
-    → (record { next = view t; says = says g r } ≡ x) × Sound t → (record { next = view u; says = says g q } ≡ x) × Sound u → (t ≡ u) × (r ≡ q)
-admits-one {T} {B} g one x t u r q tt' tu ht hu =
-    let e : ◌≡◌ {A = Seen B} (record { next = view t; says = says g r }) (record { next = view u; says = says g q }) = ht.0 ∙ sym hu.0 in
-    (same-state t u ht.1 hu.1 tt' tu (ap (λ (z : Seen B). z.next) e), says-one g one r q (ap (λ (z : Seen B). z.says) e))
-
--- .. closed, for each kind of value that an operation gives
+-- an operation's promise is `(what it did and said ≡ x) × Sound` of the state that it leaves: it is in `Becomes`
 abbrev pub AdmitsOne : {T B : Type 0} → (T → B) → Type 0
 AdmitsOne {T} {B} g =
     (x : Seen B) (t u : Scopes) (r q : Result T Refusal) → Typed t → Typed u
     → (record { next = view t; says = says g r } ≡ x) × Sound t → (record { next = view u; says = says g q } ≡ x) × Sound u → (t ≡ u) × (r ≡ q)
+
+-- the code's own results are equal, where `g` tells its values apart
+pub admits-one : {T B : Type 0} (g : T → B) → ((v w : T) → g v ≡ g w → v ≡ w) → AdmitsOne g
+admits-one {T} {B} g one x t u r q tt' tu ht hu =
+    let e : ◌≡◌ {A = Seen B} (record { next = view t; says = says g r }) (record { next = view u; says = says g q }) = ht.0 ∙ sym hu.0 in
+    (same-state t u ht.1 hu.1 tt' tu (ap (λ (z : Seen B). z.next) e), says-one g one r q (ap (λ (z : Seen B). z.says) e))
 
 pub id-one : (i j : ScopeId) → id_of i ≡ id_of j → i ≡ j
 id-one i j e = λ t. record { index = (e t).index; number = (e t).number }
@@ -217,6 +215,7 @@ first-one code.None (code.Some b) e = clash refl (ap is_some (sym e))
 first-one (code.Some a) code.None e = clash refl (ap is_some e)
 first-one (code.Some a) (code.Some b) e = λ t. code.Some (slot-or a (e t))
 
+-- .. closed, for each kind of value that an operation gives
 pub id-admits-one : AdmitsOne id_of
 id-admits-one = admits-one id_of id-one
 

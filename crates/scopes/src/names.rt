@@ -108,10 +108,8 @@ impl Scopes {
     fn climb(&self, places: &[u16; SCOPES], i: usize, left: usize) -> u16
         ensures { (name : ℕ) → Placed self.now.bindings self.now.count name places.now → Nearest self.now name i left (place_in result) }
     {
-        if left == 0 {
-            return NO_PLACE;
-        }
-        if SCOPES <= i || !self.live[i] {
+        // `left` last: asked first, each scope took a quarter more time on one of two processors
+        if SCOPES <= i || !self.live[i] || left == 0 {
             return NO_PLACE;
         }
         let j = places[i];

@@ -4,15 +4,13 @@ use Rattle.std.specs.Prelude as code
 use Rattle.scopes.specs.Leaves.{Nearest, place_in}
 use Rattle.scopes.proofs.Lookups.{place-some, climb-zero, climb-none, climb-dead, climb-here, climb-up}
 use Rattle.scopes.proofs.Scopes.+climb.Goals as goal
-use Rattle.scopes.proofs.Scopes.+climb.Goals.{then-i-ge-SCOPES-via-then-i-ge-SCOPES, then-i-ge-SCOPES-via-else-i-ge-SCOPES+then-not-self-i}
-
-pub returns-then-left-eq0 : goal.returns-then-left-eq0
-returns-then-left-eq0 t c name h = rw c.if-left-eq0.true (climb-zero c.args.self.now name c.args.i)
+use Rattle.scopes.proofs.Scopes.+climb.Goals.{then-i-ge-SCOPES-via-then-i-ge-SCOPES, then-i-ge-SCOPES-via-else-i-ge-SCOPES+then-not-self-i, then-i-ge-SCOPES-via-else-i-ge-SCOPES+else-not-self-i+then-left-eq0}
 
 pub returns-then-i-ge-SCOPES : goal.returns-then-i-ge-SCOPES
 returns-then-i-ge-SCOPES t c name h = elim c.then-i-ge-SCOPES.branch [
   | then-i-ge-SCOPES-via-then-i-ge-SCOPES w ↦ climb-none c.args.self.now name c.args.i _ w.if-i-ge-SCOPES.true
   | then-i-ge-SCOPES-via-else-i-ge-SCOPES+then-not-self-i w ↦ climb-dead c.args.self.now name c.args.i _ w.if-i-ge-SCOPES.false w.if-not-self-i.true
+  | then-i-ge-SCOPES-via-else-i-ge-SCOPES+else-not-self-i+then-left-eq0 w ↦ rw w.if-left-eq0.true (climb-zero c.args.self.now name c.args.i)
 ]
 
 pub returns-then-j-lt-NO_PLACE : goal.returns-then-j-lt-NO_PLACE
