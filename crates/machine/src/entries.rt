@@ -51,8 +51,7 @@ pub fn takes_of(x: Entry) -> usize
     }
 }
 
-// Whether its address is not below the size. An arm for each, so that in a loop over lines what an entry is gets asked once; one arm for the three
-// took a load half as many instructions more.
+// Whether its address is not below the size. An arm for each, so that in a loop over lines what an entry is gets asked once.
 pub fn over(x: Entry, size: usize) -> bool
     ensures { result ≡ over_of size x }
 {
